@@ -1,0 +1,372 @@
+-- Refusal 9 stays: the packets that show what they are stay, and later bytes show further ones only behind the old bytes.
+use Prim.Native.Nat.{ℕ, zero, suc, _+_, _-_, _/_, _≤_, _<_}
+use native.Mathlib.Omega.{arith}
+use native.Mathlib.Nat.{lt-of-not-le}
+use native.Mathlib.Decide.{decLe}
+use mathlib.Core.Path.{_≡_, refl, sym, ap, _∙_}
+use mathlib.Core.List.{List, [], _∷_, _++_, append-nil}
+use mathlib.Core.Bool.{Bool, true, false, true≢false, false≢true}
+use lib.ListN.{length, take, drop, length-append, length-take, length-drop, drop-of-length-le, List·getD-append}
+use lib.Seq.{length-take-le, getD-take, drop-append-le, take-append-add}
+use lib.Dec.{leb}
+use borrow.Author.Tests.{le-leb, lt-leb}
+use Rattle.rules.specs.declared.Opening.{Opening}
+use Rattle.rules.specs.Bytes.{pick, byte, word32, network16, only}
+use Rattle.rules.specs.Refusals.{none, fault}
+use Rattle.rules.specs.Frames.{seconds, microseconds, storedLength, frameTime, body, frameSize, frames, rest, behindHeader}
+use Rattle.rules.specs.Packets.{Packet, ipLength, udpLength, carries, packetsFrom, packetsIn, packetsOf, packets, shown, identifier, kind, isWanted, startMark, wantedOf}
+use Rattle.rules.specs.Units.{Arrival, arrivalsAfter, arrivals, beginnings}
+use Rattle.rules.specs.Capture.{wholeFrames, unfinished, allFrames, shownWanted, beginsAt, tooManyUnits, captureFault}
+use Rattle.rules.proofs.Laws.Lists.{only-append}
+use Rattle.rules.proofs.Laws.Histograms.{All, and}
+use Rattle.rules.proofs.Laws.Histograms
+use Rattle.rules.proofs.Laws.Faults.{no-fault, at-fault, late-fault, Grows, same, new, grows-kept, earlier-grows, long-grows, magic-grows, link-grows, frames-grow}
+use Rattle.rules.proofs.Laws.Frames.{size-least, size-append, frames-none, rest-none, frames-one, rest-one, frames-onward, rest-onward, by-frames}
+
+module _ {A : Type 0} {P : A → Type 0} where
+  only-all : (test : A → Bool) {xs : List A} → All P xs → All P (only test xs)
+  unfolding only
+  only-all test Histograms.none = Histograms.none
+  only-all test (and {x} {xs} h hs) = go (test x) (only-all test hs)
+    where
+      go : (b : Bool) → All P (only test xs) → All P (pick b (x ∷ only test xs) (only test xs))
+      go true r = and h r
+      go false r = r
+
+  all-append : {xs ys : List A} → All P xs → All P ys → All P (xs ++ ys)
+  all-append Histograms.none r = r
+  all-append (and h hs) r = and h (all-append hs r)
+
+-- its byte 3 stands at n or later; before n
+abbrev After : ℕ → Packet → Type 0
+After n p = n ≤ p .place + 3
+
+abbrev Early : ℕ → Packet → Type 0
+Early n p = p .place + 3 < n
+
+-- the same packet, of which more bytes may be there
+pub record Alike (n : ℕ) (p q : Packet) : Type 0 where
+  pub place : q .place ≡ p .place
+  pub early : p .place + 3 < n
+  pub bytes : (i : ℕ) → i < 4 → byte (q .bytes) i ≡ byte (p .bytes) i
+
+pub data Extends (n : ℕ) : List Packet → List Packet → Type 0 where
+  ends : {qs : List Packet} → All (After n) qs → Extends n [] qs
+  pair : {p q : Packet} {ps qs : List Packet} → Alike n p q → Extends n ps qs → Extends n (p ∷ ps) (q ∷ qs)
+
+extends-late : {n : ℕ} {ps qs rs : List Packet} → Extends n ps qs → All (After n) rs → Extends n ps (qs ++ rs)
+extends-late (ends h) r = ends (all-append h r)
+extends-late (pair a e) r = pair a (extends-late e r)
+
+extends-both : {n : ℕ} {ps qs rs : List Packet} → All (Early n) ps → Extends n qs rs → Extends n (ps ++ qs) (ps ++ rs)
+extends-both Histograms.none e = e
+extends-both (and h hs) e = pair (record { place = refl; early = h; bytes = λ i g. refl }) (extends-both hs e)
+
+-- ---- the packets behind each other
+
+from-late : (n m time place : ℕ) (s : List ℕ) → n ≤ place + 3 → All (After n) (packetsFrom m time place s)
+unfolding packetsFrom
+from-late n zero time place s h = Histograms.none
+from-late n (suc m) time place s h = and h (from-late n m time (place + 188) (drop 188 s) (omega arith))
+
+from-none : (m time place : ℕ) (s : List ℕ) → length s < 4 → shown (packetsFrom m time place s) ≡ []
+unfolding shown only packetsFrom
+from-none zero time place s h = refl
+from-none (suc m) time place s h =
+    rw (lt-leb 4 (length (take 188 s)) (simp length-take (omega arith)))
+    (from-none m time (place + 188) (drop 188 s) (simp length-drop (omega arith)))
+
+from-early : (n m time place : ℕ) (s : List ℕ) → place + length s ≤ n → All (Early n) (shown (packetsFrom m time place s))
+unfolding shown only packetsFrom
+from-early n zero time place s h = Histograms.none
+from-early n (suc m) time place s h = go (decLe 4 (length s)) (decLe 188 (length s)) (from-early n m time (place + 188) (drop 188 s))
+  where
+    go : Dec (4 ≤ length s) → Dec (188 ≤ length s) →
+        (place + 188 + length (drop 188 s) ≤ n → All (Early n) (shown (packetsFrom m time (place + 188) (drop 188 s)))) →
+        All (Early n) (shown (packetsFrom (suc m) time place s))
+    go (no g) d ih = rw (from-none (suc m) time place s (lt-of-not-le g)) Histograms.none
+    go (yes g) (yes k) ih =
+        let e : place + 3 < n = omega arith in
+        rw (le-leb 4 (length (take 188 s)) (simp length-take (omega arith))) (and e (ih (simp length-drop (omega arith))))
+    go (yes g) (no k) ih =
+        let e : place + 3 < n = omega arith in
+        rw (le-leb 4 (length (take 188 s)) (simp length-take (omega arith)), drop-of-length-le s {i = 188} (omega arith), from-none m time (place + 188) [] (omega arith))
+        (and e Histograms.none)
+
+from-grow : (n m time place : ℕ) (s t : List ℕ) → n ≡ place + length s →
+    Extends n (shown (packetsFrom m time place s)) (shown (packetsFrom m time place (s ++ t)))
+unfolding shown only packetsFrom
+from-grow n zero time place s t h = ends Histograms.none
+from-grow n (suc m) time place s t h = go (decLe 4 (length s)) (decLe 188 (length s)) (from-grow n m time (place + 188) (drop 188 s) t)
+  where
+    first : 4 ≤ length s → Alike n (record { time = time; place = place; bytes = take 188 s }) (record { time = time; place = place; bytes = take 188 (s ++ t) })
+    first g =
+        record {
+          place = refl;
+          early = omega arith;
+          bytes = λ i k. getD-take 188 (s ++ t) i 0 (omega arith) ∙ List·getD-append s t 0 i (omega arith) ∙ sym (getD-take 188 s i 0 (omega arith));
+        }
+
+    old : 4 ≤ length s → leb 4 (length (take 188 s)) ≡ true
+    old g = le-leb 4 (length (take 188 s)) (simp length-take (omega arith))
+
+    longer : 4 ≤ length s → leb 4 (length (take 188 (s ++ t))) ≡ true
+    longer g = le-leb 4 (length (take 188 (s ++ t))) (simp (length-take, length-append) (omega arith))
+
+    go : Dec (4 ≤ length s) → Dec (188 ≤ length s) →
+        (n ≡ place + 188 + length (drop 188 s) → Extends n (shown (packetsFrom m time (place + 188) (drop 188 s))) (shown (packetsFrom m time (place + 188) (drop 188 s ++ t)))) →
+        Extends n (shown (packetsFrom (suc m) time place s)) (shown (packetsFrom (suc m) time place (s ++ t)))
+    go (no g) d ih =
+        rw (from-none (suc m) time place s (lt-of-not-le g))
+        (ends (only-all (λ (p : Packet). leb 4 (length (p .bytes))) (from-late n (suc m) time place (s ++ t) (omega arith))))
+    go (yes g) (yes k) ih = rw (old g, longer g, drop-append-le 188 s t k) (pair (first g) (ih (simp length-drop (omega arith))))
+    go (yes g) (no k) ih =
+        rw (old g, longer g, drop-of-length-le s {i = 188} (omega arith), from-none m time (place + 188) [] (omega arith))
+        (pair (first g)
+        (ends (only-all (λ (p : Packet). leb 4 (length (p .bytes))) (from-late n m time (place + 188) (drop 188 (s ++ t)) (omega arith)))))
+
+-- ---- the packets of a frame
+
+abbrev isShown : Packet → Bool
+isShown p = leb 4 (length (p .bytes))
+
+of-late : (n place : ℕ) (f : List ℕ) → n ≤ place + 61 → All (After n) (shown (packetsOf place f))
+unfolding shown packetsOf packetsIn
+of-late n place f h = go (carries f)
+  where
+    go : (b : Bool) → All (After n) (shown (pick b (packetsIn place f) []))
+    go true = only-all isShown (from-late n ((udpLength f - 8) / 188) (frameTime f) (place + 58) (drop 42 (body f)) (omega arith))
+    go false = only-all isShown Histograms.none
+
+of-early : (n place : ℕ) (f : List ℕ) → place + length f ≤ n → All (Early n) (shown (packetsOf place f))
+unfolding shown packetsOf packetsIn only body
+of-early n place f h = go (carries f) (decLe 58 (length f))
+  where
+    go : (b : Bool) → Dec (58 ≤ length f) → All (Early n) (shown (pick b (packetsIn place f) []))
+    go false d = Histograms.none
+    go true (yes g) =
+        from-early n ((udpLength f - 8) / 188) (frameTime f) (place + 58) (drop 42 (drop 16 f)) (simp length-drop (omega arith))
+    go true (no g) =
+        rw (from-none ((udpLength f - 8) / 188) (frameTime f) (place + 58) (drop 42 (drop 16 f)) (simp length-drop (omega arith))) Histograms.none
+
+-- the fields of a frame that is there up to its first packet's byte 3 stay
+module _ (x t : List ℕ) (h : 62 ≤ length x) where
+  body-more : body (x ++ t) ≡ body x ++ t
+  unfolding body
+  body-more = drop-append-le 16 x t (omega arith)
+
+  in-body : (i : ℕ) → i < 46 → byte (body x ++ t) i ≡ byte (body x) i
+  unfolding body
+  in-body i g = List·getD-append (drop 16 x) t 0 i (simp length-drop (omega arith))
+
+  udp-more : udpLength (x ++ t) ≡ udpLength x
+  unfolding udpLength network16
+  udp-more = rw (body-more, in-body 38 (omega arith), in-body 39 (omega arith))
+
+  ip-more : ipLength (x ++ t) ≡ ipLength x
+  unfolding ipLength network16
+  ip-more = rw (body-more, in-body 16 (omega arith), in-body 17 (omega arith))
+
+  stored-more : storedLength (x ++ t) ≡ storedLength x
+  unfolding storedLength word32
+  stored-more =
+      rw (List·getD-append x t 0 8 (omega arith), List·getD-append x t 0 9 (omega arith), List·getD-append x t 0 10 (omega arith), List·getD-append x t 0 11 (omega arith))
+
+  time-more : frameTime (x ++ t) ≡ frameTime x
+  unfolding frameTime seconds microseconds word32
+  time-more =
+      rw (List·getD-append x t 0 0 (omega arith), List·getD-append x t 0 1 (omega arith), List·getD-append x t 0 2 (omega arith), List·getD-append x t 0 3 (omega arith), List·getD-append x t 0 4 (omega arith), List·getD-append x t 0 5 (omega arith), List·getD-append x t 0 6 (omega arith), List·getD-append x t 0 7 (omega arith))
+
+  carries-more : carries (x ++ t) ≡ carries x
+  unfolding carries network16
+  carries-more =
+      rw (stored-more, ip-more, udp-more, body-more, in-body 12 (omega arith), in-body 13 (omega arith), in-body 14 (omega arith), in-body 20 (omega arith), in-body 21 (omega arith), in-body 23 (omega arith))
+
+first-packet : (x t : List ℕ) → 62 ≤ length x → drop 42 (body (x ++ t)) ≡ drop 42 (body x) ++ t
+unfolding body
+first-packet x t h = rw (drop-append-le 16 x t (omega arith)) (drop-append-le 42 (drop 16 x) t (simp length-drop (omega arith)))
+
+in-grow : (n place : ℕ) (x t : List ℕ) → n ≡ place + length x → 62 ≤ length x → Extends n (shown (packetsIn place x)) (shown (packetsIn place (x ++ t)))
+unfolding packetsIn
+in-grow n place x t e h =
+    rw (udp-more x t h, time-more x t h, first-packet x t h)
+    (from-grow n ((udpLength x - 8) / 188) (frameTime x) (place + 58) (drop 42 (body x)) t (unfold body in simp length-drop (omega arith)))
+
+in-none : (place : ℕ) (x : List ℕ) → length x < 62 → shown (packetsIn place x) ≡ []
+unfolding packetsIn body
+in-none place x h = from-none ((udpLength x - 8) / 188) (frameTime x) (place + 58) (drop 42 (drop 16 x)) (simp length-drop (omega arith))
+
+of-none : (place : ℕ) (x : List ℕ) → length x < 62 → shown (packetsOf place x) ≡ []
+unfolding packetsOf shown only
+of-none place x h = go (carries x)
+  where
+    go : (b : Bool) → shown (pick b (packetsIn place x) []) ≡ []
+    go true = in-none place x h
+    go false = refl
+
+of-grow : (n place : ℕ) (x t : List ℕ) → n ≡ place + length x → Extends n (shown (packetsOf place x)) (shown (packetsOf place (x ++ t)))
+unfolding packetsOf shown only
+of-grow n place x t e = go (decLe 62 (length x))
+  where
+    there : 62 ≤ length x → (b : Bool) → Extends n (shown (pick b (packetsIn place x) [])) (shown (pick b (packetsIn place (x ++ t)) []))
+    there h true = in-grow n place x t e h
+    there h false = ends Histograms.none
+
+    go : Dec (62 ≤ length x) → Extends n (shown (packetsOf place x)) (shown (packetsOf place (x ++ t)))
+    go (yes h) = rw (carries-more x t h) (there h (carries x))
+    go (no h) = rw (of-none place x (lt-of-not-le h)) (ends (of-late n place (x ++ t) (omega arith)))
+
+-- ---- the packets of frames
+
+shown-append : (ps qs : List Packet) → shown (ps ++ qs) ≡ shown ps ++ shown qs
+unfolding shown
+shown-append ps qs = only-append isShown ps qs
+
+single : (place : ℕ) (x : List ℕ) → packets place (x ∷ []) ≡ packetsOf place x
+unfolding packets
+single place x = append-nil (packetsOf place x)
+
+split : (place : ℕ) (f : List ℕ) (fs : List (List ℕ)) → shown (packets place (f ∷ fs)) ≡ shown (packetsOf place f) ++ shown (packets (place + length f) fs)
+unfolding packets
+split place f fs = shown-append (packetsOf place f) (packets (place + length f) fs)
+
+packets-late : (n place : ℕ) (fs : List (List ℕ)) → n ≤ place → All (After n) (shown (packets place fs))
+packets-late n place [] h = unfold shown only packets in Histograms.none
+packets-late n place (f ∷ fs) h =
+    rw (split place f fs) (all-append (of-late n place f (omega arith)) (packets-late n (place + length f) fs (omega arith)))
+
+abbrev pieces : List ℕ → List (List ℕ)
+pieces x = frames x ++ rest x ∷ []
+
+-- a frame that is not whole is the front of the frame that it becomes
+cut-is : (x t : List ℕ) → length x < frameSize x → take (frameSize (x ++ t)) (x ++ t) ≡ x ++ take (frameSize (x ++ t) - length x) t
+cut-is x t h =
+    let e : frameSize (x ++ t) ≡ length x + (frameSize (x ++ t) - length x) = omega (arith, longer (decLe 16 (length x))) in
+    ap (λ (m : ℕ). take m (x ++ t)) e ∙ take-append-add x t (frameSize (x ++ t) - length x)
+  where
+    longer : Dec (16 ≤ length x) → length x ≤ frameSize (x ++ t)
+    longer (yes g) = let e = size-append x t g in omega arith
+    longer (no g) = let e = size-least (x ++ t) in omega arith
+
+module _ (n : ℕ) (t : List ℕ) where
+  cut-extends : (x : List ℕ) → length x < frameSize x → (place : ℕ) → n ≡ place + length x → Dec (frameSize (x ++ t) ≤ length (x ++ t)) →
+      Extends n (shown (packets place (pieces x))) (shown (packets place (pieces (x ++ t))))
+  cut-extends x c place e (yes g) =
+      let u = take (frameSize (x ++ t) - length x) t in
+      let fs = frames (drop (frameSize (x ++ t)) (x ++ t)) ++ rest (x ++ t) ∷ [] in
+      rw (frames-none x c, rest-none x c, frames-one (x ++ t) g, single place x, split place (take (frameSize (x ++ t)) (x ++ t)) fs, cut-is x t c)
+      (extends-late (of-grow n place x u e) (packets-late n (place + length (x ++ u)) fs (simp length-append (omega arith))))
+  cut-extends x c place e (no g) =
+      rw (frames-none x c, rest-none x c, frames-none (x ++ t) (lt-of-not-le g), rest-none (x ++ t) (lt-of-not-le g), single place x, single place (x ++ t))
+      (of-grow n place x t e)
+
+  pieces-extend : (x : List ℕ) (place : ℕ) → n ≡ place + length x → Extends n (shown (packets place (pieces x))) (shown (packets place (pieces (x ++ t))))
+  pieces-extend =
+      by-frames (λ (x : List ℕ). (place : ℕ) → n ≡ place + length x → Extends n (shown (packets place (pieces x))) (shown (packets place (pieces (x ++ t)))))
+      (λ x c place e. cut-extends x c place e (decLe (frameSize (x ++ t)) (length (x ++ t))))
+      (λ x c ih place e.
+      let f = take (frameSize x) x in
+      let y = drop (frameSize x) x in
+      rw (frames-one x c, rest-one x c, frames-onward x t c, rest-onward x t c, split place f (pieces y), split place f (pieces (y ++ t)))
+      (extends-both (of-early n place f (rw (length-take-le (frameSize x) x c) (omega arith)))
+      (ih (place + length f) (rw (length-take-le (frameSize x) x c, length-drop) (omega arith)))))
+
+-- ---- the packets of PID
+
+kind-alike : (o : Opening) {n : ℕ} {p q : Packet} → Alike n p q → kind o (q .bytes) ≡ kind o (p .bytes)
+unfolding kind identifier
+kind-alike o a = rw (a .bytes 0 (omega arith), a .bytes 1 (omega arith), a .bytes 2 (omega arith))
+
+wanted-extends : (o : Opening) {n : ℕ} {ps qs : List Packet} → Extends n ps qs → Extends n (wantedOf o ps) (wantedOf o qs)
+unfolding wantedOf only
+wanted-extends o (ends h) = ends (only-all (λ (p : Packet). isWanted (kind o (p .bytes))) h)
+wanted-extends o {n} (pair {p} {q} {ps} {qs} a e) = rw (kind-alike o a) (go (isWanted (kind o (p .bytes))) (wanted-extends o e))
+  where
+    go : (b : Bool) → Extends n (wantedOf o ps) (wantedOf o qs) →
+        Extends n (pick b (p ∷ wantedOf o ps) (wantedOf o ps)) (pick b (q ∷ wantedOf o qs) (wantedOf o qs))
+    go true r = pair a r
+    go false r = r
+
+-- ---- the units that begin
+
+abbrev Behind : ℕ → Arrival → Type 0
+Behind n a = n ≤ a .place + 3
+
+data Follows (n : ℕ) : List Arrival → List Arrival → Type 0 where
+  stops : {bs : List Arrival} → All (Behind n) bs → Follows n [] bs
+  next : {a b : Arrival} {xs bs : List Arrival} → b .place ≡ a .place → b .begins ≡ a .begins → a .place + 3 < n → Follows n xs bs → Follows n (a ∷ xs) (b ∷ bs)
+
+after-late : (n : ℕ) (q : Packet) {qs : List Packet} → All (After n) qs → All (Behind n) (arrivalsAfter q qs)
+unfolding arrivalsAfter
+after-late n q Histograms.none = Histograms.none
+after-late n q (and {x} h hs) = and h (after-late n x hs)
+
+start-alike : {n : ℕ} {p q : Packet} → Alike n p q → startMark (q .bytes) ≡ startMark (p .bytes)
+unfolding startMark
+start-alike a = rw (a .bytes 1 (omega arith))
+
+after-follows : {n : ℕ} (p q : Packet) {ps qs : List Packet} → Extends n ps qs → Follows n (arrivalsAfter p ps) (arrivalsAfter q qs)
+unfolding arrivalsAfter
+after-follows {n} p q (ends h) = stops (after-late n q h)
+after-follows p q (pair {p = p′} {q = q′} a e) = next (a .place) (start-alike a) (a .early) (after-follows p′ q′ e)
+
+arrivals-follow : {n : ℕ} {ps qs : List Packet} → Extends n ps qs → Follows n (arrivals ps) (arrivals qs)
+unfolding arrivals
+arrivals-follow (ends Histograms.none) = stops Histograms.none
+arrivals-follow {n} (ends (and {x} h hs)) = stops (and h (after-late n x hs))
+arrivals-follow (pair {p} {q} a e) = next (a .place) refl (a .early) (after-follows p q e)
+
+abbrev beginsUnit : Arrival → Bool
+beginsUnit a = a .begins
+
+begins-follow : {n : ℕ} {xs bs : List Arrival} → Follows n xs bs → Follows n (only beginsUnit xs) (only beginsUnit bs)
+unfolding only
+begins-follow (stops h) = stops (only-all beginsUnit h)
+begins-follow {n} (next {a} {b} {xs} {bs} p e l f) = go (a .begins) (b .begins) e (begins-follow f)
+  where
+    go : (t u : Bool) → u ≡ t → Follows n (only beginsUnit xs) (only beginsUnit bs) →
+        Follows n (pick t (a ∷ only beginsUnit xs) (only beginsUnit xs)) (pick u (b ∷ only beginsUnit bs) (only beginsUnit bs))
+    go true true z r = next p e l r
+    go true false z r = absurd (false≢true z)
+    go false true z r = absurd (true≢false z)
+    go false false z r = r
+
+all-drop : {n : ℕ} (k : ℕ) {bs : List Arrival} → All (Behind n) bs → All (Behind n) (drop k bs)
+all-drop zero h = h
+all-drop (suc k) Histograms.none = Histograms.none
+all-drop (suc k) (and h hs) = all-drop k hs
+
+drop-follow : {n : ℕ} (k : ℕ) {xs bs : List Arrival} → Follows n xs bs → Follows n (drop k xs) (drop k bs)
+drop-follow zero f = f
+drop-follow (suc k) (stops h) = stops (all-drop (suc k) h)
+drop-follow (suc k) (next p e l f) = drop-follow k f
+
+at-follow : {n : ℕ} {xs bs : List Arrival} → Follows n xs bs → Grows n (beginsAt xs) (beginsAt bs)
+at-follow (stops Histograms.none) = same no-fault
+at-follow (stops (and h hs)) = new (late-fault h)
+at-follow (next p e l f) = rw p (same (at-fault l))
+
+shown-extend : (s t : List ℕ) → Extends (length s) (shown (packets 24 (allFrames s))) (shown (packets 24 (allFrames (s ++ t))))
+unfolding allFrames wholeFrames unfinished behindHeader
+shown-extend s t = go (decLe 24 (length s))
+  where
+    go : Dec (24 ≤ length s) → Extends (length s) (shown (packets 24 (pieces (drop 24 s)))) (shown (packets 24 (pieces (drop 24 (s ++ t)))))
+    go (yes g) = rw (drop-append-le 24 s t g) (pieces-extend (length s) t (drop 24 s) 24 (simp length-drop (omega arith)))
+    go (no g) =
+        let c : length {A = ℕ} [] < frameSize [] = omega (arith, size-least []) in
+        rw (drop-of-length-le s {i = 24} (omega arith), frames-none [] c, rest-none [] c, single 24 [], of-none 24 [] (omega arith))
+        (ends (packets-late (length s) 24 (pieces (drop 24 (s ++ t))) (omega arith)))
+
+pub units-grow : (o : Opening) (s t : List ℕ) → Grows (length s) (tooManyUnits o s) (tooManyUnits o (s ++ t))
+unfolding tooManyUnits beginnings shownWanted
+units-grow o s t = at-follow (drop-follow 750 (begins-follow (arrivals-follow (wanted-extends o (shown-extend s t)))))
+
+-- ---- THE LAW: what the capture shows first, it shows first for good
+
+pub capture-grows : (o : Opening) (s t : List ℕ) → Grows (length s) (captureFault o s) (captureFault o (s ++ t))
+unfolding captureFault
+capture-grows o s t =
+    earlier-grows (long-grows s t) (earlier-grows (magic-grows s t) (earlier-grows (link-grows s t) (earlier-grows (frames-grow s t) (units-grow o s t))))
+
+pub capture-kept : (o : Opening) (s t : List ℕ) (k p : ℕ) → captureFault o s ≡ fault k p → captureFault o (s ++ t) ≡ fault k p
+capture-kept o s t k p h = grows-kept (capture-grows o s t) h
