@@ -78,7 +78,7 @@ block-small (suc n) m j (r ∷ rs) (and h hs) =
     rw (suc-mul n (255 * m)) (omega arith)
 
 -- 4^k = 2^k × 2^k
-four : (k : ℕ) → 4 ^ k ≡ 2 ^ k * 2 ^ k
+pub four : (k : ℕ) → 4 ^ k ≡ 2 ^ k * 2 ^ k
 four zero = refl
 four (suc k) = rw (pow-suc 4 k, pow-suc 2 k, four k, mul-mul-mul-comm (2 ^ k) 2 (2 ^ k) 2)
 

@@ -1,0 +1,2 @@
+-- The laws that the functions' proofs stand on, one file a chapter.
+pub mod Sizes

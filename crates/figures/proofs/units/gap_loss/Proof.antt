@@ -1,0 +1,27 @@
+-- `gap_loss` meets its contract: the rule's test comes out as the code's does.
+use native.Mathlib.Omega.{arith}
+use borrow.Author.Needs.{needs}
+use borrow.Author.Tests.{lt-ltb, le-ltb}
+use Rattle.rules.specs.Units.{gapLoss}
+use Rattle.figures.proofs.units.gap_loss.Statement.{statement}
+use Rattle.figures.proofs.units.gap_loss.Tie as tie
+
+add-g : tie.Need-add-g
+add-g c = search needs
+
+sub-g : tie.Need-sub-g
+sub-g c = search needs
+
+sub-result : tie.Need-sub-result
+sub-result c = search needs
+
+returns : tie.Need-returns
+unfolding gapLoss
+returns c = record { counted = simp (lt-ltb _ _ (c .if1 .taken)); few = omega arith }
+
+returns-2 : tie.Need-returns-2
+unfolding gapLoss
+returns-2 c = record { counted = simp (le-ltb _ _ (c .if1 .left)); few = omega arith }
+
+pub gap-loss-spec : {M : Type 1} → statement M
+gap-loss-spec = tie.close (tie.spec add-g sub-g sub-result returns returns-2)

@@ -1,0 +1,34 @@
+-- Words for a run of pictures that goes on.
+use Prim.Native.Nat.{ℕ, _+_, _*_, _/_, _%_}
+use mathlib.Core.List.{List, [], _∷_}
+use mathlib.Core.Bool.{Bool, true, false}
+use lib.ListN.{length, take, drop}
+use Rattle.rules.specs.Bytes.{pick}
+use Rattle.rules.specs.Changes.{change, same}
+
+-- the last of some pictures, `before` if there is none
+unfoldable pub lastFrom : List ℕ → List (List ℕ) → List ℕ
+lastFrom before [] = before
+lastFrom before (px ∷ pxs) = lastFrom px pxs
+
+-- the picture before the next one: without pixels if there is none
+unfoldable pub previous : List (List ℕ) → List ℕ
+previous pxs = lastFrom [] pxs
+
+-- q of the next picture, and whether it is repeated
+unfoldable pub nextChange : List (List ℕ) → List ℕ → ℕ
+nextChange [] px = 0
+nextChange (p ∷ pxs) px = change (previous (p ∷ pxs)) px
+
+unfoldable pub nextRepeat : List (List ℕ) → List ℕ → Bool
+nextRepeat [] px = false
+nextRepeat (p ∷ pxs) px = same (previous (p ∷ pxs)) px
+
+-- the number whose binary digits these are, the lowest first
+unfoldable pub ones : List Bool → ℕ
+ones [] = 0
+ones (b ∷ bs) = pick b 1 0 + 2 * ones bs
+
+-- word j of a map of bits: those from 64 × j on
+unfoldable pub mapWord : List Bool → ℕ → ℕ
+mapWord bs j = ones (take 64 (drop (64 * j) bs))

@@ -1,0 +1,51 @@
+-- Pixels more. No code.
+use Prim.Native.Nat.{ℕ, suc, _+_, _-_, _*_, _%_, _^_, _≤_, _<_}
+use native.Mathlib.Omega.{arith}
+use native.Mathlib.Nat.{add-zero}
+use native.Mathlib.Numerals.{add-one}
+use mathlib.Core.Path.{_≡_, refl, sym, ap, _∙_}
+use mathlib.Core.List.{List, [], _∷_, _++_, append-nil, append-assoc}
+use lib.ListN.{length, getD, take, drop, length-append, length-drop}
+use lib.Seq.{take-suc, length-take-le, getD-drop}
+use Rattle.rules.specs.Bytes.{tally}
+use Rattle.rules.proofs.Laws.Tally.{tally-append}
+use Rattle.rules.proofs.Laws.Moves.{rise, fall, square}
+use Rattle.moves.specs.declared.Moves.{Moves}
+use Rattle.moves.specs.Figures.{Figures, Moved, Compared, Started}
+
+pub started : Started (record { up = 0; down = 0; squares = 0 })
+unfolding tally
+started old = record { up = refl; down = refl; both = refl }
+
+-- one element more
+tally-one : (f : ℕ → ℕ → ℕ) (p : List ℕ) (v : ℕ) → tally f 0 (p ++ v ∷ []) ≡ tally f 0 p + f (length p) v
+unfolding tally
+tally-one f p v =
+    let here : 0 + length p ≡ length p = omega arith in
+    omega (arith, rw here at (tally-append f 0 p (v ∷ [])))
+
+-- one pixel more
+pub figures-more : {old p : List ℕ} {m r : Moves} (v : ℕ) → Figures old p m → Moved m (getD old (length p) 0) v r → Figures old (p ++ v ∷ []) r
+figures-more {old} {p} {m} {r} v f g =
+    record {
+      up = omega (arith, tally-one (rise old) p v, f .up, g .up);
+      down = omega (arith, tally-one (fall old) p v, f .down, g .down);
+      both = omega (arith, tally-one (square old) p v, f .both, g .both);
+    }
+
+pub compared-none : (kept : List ℕ) (at : ℕ) (made : List ℕ) (from : ℕ) (m : Moves) → Compared kept at made from 0 m m
+compared-none kept at made from m = record { more = λ old p e f. rw append-nil f }
+
+pub compared-more : {kept made : List ℕ} {at from c : ℕ} {m n r : Moves} → Compared kept at made from c m n → from + c < length made →
+    Moved n (getD kept (at + c) 0) (getD made (from + c) 0) r → Compared kept at made from (c + 1) m r
+compared-more {kept} {made} {at} {from} {c} {m} {n} {r} f h g =
+    record {
+      more =
+          λ old p e s.
+          let some : c < length (drop from made) = simp length-drop (omega arith) in
+          let q = p ++ take c (drop from made) in
+          let here : length q ≡ length p + c = omega (arith, length-append p (take c (drop from made)), length-take-le c (drop from made) (omega arith)) in
+          let same : getD old (length q) 0 ≡ getD kept (at + c) 0 = ap (λ (z : ℕ). getD old z 0) here ∙ e c (omega arith) in
+          rw (add-one c, take-suc (drop from made) c 0, getD-drop from made c 0, ← append-assoc p (take c (drop from made)) (getD made (from + c) 0 ∷ []))
+          (figures-more (getD made (from + c) 0) (f .more old p (λ j l. e j (omega arith)) s) (rw same g));
+    }

@@ -1,0 +1,125 @@
+-- How many frames and packets a capture can have: no more than its bytes allow.
+use Prim.Native.Nat.{ℕ, zero, suc, _+_, _*_, _≤_, _<_}
+use native.Mathlib.Omega.{arith}
+use native.Mathlib.Decide.{decLe}
+use mathlib.Core.Path.{_≡_, refl, sym, ap, _∙_}
+use mathlib.Core.List.{List, [], _∷_, _++_}
+use mathlib.Core.Bool.{Bool, true, false, not}
+use lib.ListN.{length, take, drop, length-append, length-take, length-drop}
+use lib.Dec.{leb}
+use borrow.Author.Tests.{le-leb, lt-leb}
+use Rattle.rules.specs.declared.Opening.{Opening}
+use Rattle.rules.specs.Bytes.{pick, count, only, joined}
+use Rattle.rules.specs.Frames.{frameTime, behindHeader, frames, rest}
+use Rattle.rules.specs.Packets.{Packet, carries, packetsFrom, packetsOf, packets, skipped, kind, isBad, isWanted, wantedOf, badOf}
+use Rattle.rules.specs.Capture.{wholeFrames, unfinished, allFrames, wholeWanted, frameCount, skippedCount, badCount}
+use Rattle.rules.proofs.Laws.Lists.{only-append, joined-append}
+use Rattle.rules.proofs.Laws.Histograms.{All, and}
+use Rattle.rules.proofs.Laws.Histograms
+use Rattle.rules.proofs.Laws.Frames.{size-least, frames-all}
+use Rattle.rules.proofs.Laws.Onward.{Whole, frames-whole, countOf, of-from, reaching}
+use Rattle.rules.proofs.Laws.Flow.{reached, bad-of, wanted-of}
+
+module _ {A : Type 0} (test : A → Bool) where
+  pub count-few : (xs : List A) → count test xs ≤ length xs
+  unfolding count
+  count-few [] = omega arith
+  count-few (x ∷ xs) = go (test x) (count-few xs)
+    where
+      go : (b : Bool) → count test xs ≤ length xs → pick b 1 0 + count test xs ≤ suc (length xs)
+      go true h = omega arith
+      go false h = omega arith
+
+  pub only-few : (xs : List A) → length (only test xs) ≤ length xs
+  unfolding only
+  only-few [] = omega arith
+  only-few (x ∷ xs) = go (test x) (only-few xs)
+    where
+      go : (b : Bool) → length (only test xs) ≤ length xs → length (pick b (x ∷ only test xs) (only test xs)) ≤ suc (length xs)
+      go true h = omega arith
+      go false h = omega arith
+
+-- ---- frames
+
+frames-few : {fs : List (List ℕ)} → All Whole fs → length fs ≤ length (joined fs)
+unfolding joined
+frames-few Histograms.none = omega arith
+frames-few (and {x} {xs} w ws) =
+    let h = frames-few ws in
+    let l = length-append x (joined xs) in
+    let k = size-least x in
+    omega arith
+
+-- the whole frames' bytes and the others are at most all
+all-bytes : (s : List ℕ) → length (joined (wholeFrames s)) + length (unfinished s) ≤ length s
+unfolding wholeFrames unfinished behindHeader
+all-bytes s =
+    let e = ap length (frames-all (drop 24 s)) in
+    let l = length-append (joined (frames (drop 24 s))) (rest (drop 24 s)) in
+    let d = length-drop 24 s in
+    omega arith
+
+pub frame-count-few : (s : List ℕ) → frameCount s ≤ length s
+unfolding frameCount
+frame-count-few s = let h = frames-few (frames-whole s) in let a = all-bytes s in omega arith
+
+pub skipped-few : (s : List ℕ) → skippedCount s ≤ frameCount s
+unfolding skippedCount frameCount skipped
+skipped-few s = count-few (λ (f : List ℕ). not (carries f)) (wholeFrames s)
+
+-- ---- packets
+
+from-few : (m τ q : ℕ) (y : List ℕ) → 188 * length (reaching 188 (packetsFrom m τ q y)) ≤ length y
+unfolding packetsFrom only
+from-few zero τ q y = omega arith
+from-few (suc m) τ q y = go (decLe 188 (length y)) (from-few m τ (q + 188) (drop 188 y))
+  where
+    more : List Packet
+    more = reaching 188 (packetsFrom m τ (q + 188) (drop 188 y))
+
+    go : Dec (188 ≤ length y) → 188 * length more ≤ length (drop 188 y) →
+        188 * length (pick (leb 188 (length (take 188 y))) (record { time = τ; place = q; bytes = take 188 y } ∷ more) more) ≤ length y
+    go (yes g) h =
+        rw (le-leb 188 (length (take 188 y)) (simp length-take (omega arith))) (let d = length-drop 188 y in omega arith)
+    go (no g) h =
+        rw (lt-leb 188 (length (take 188 y)) (simp length-take (omega arith))) (let d = length-drop 188 y in omega arith)
+
+of-few : (place : ℕ) (f : List ℕ) → 188 * length (reaching 188 (packetsOf place f)) ≤ length f
+of-few place f =
+    rw (of-from place f) (let h = from-few (countOf f) (frameTime f) (place + 58) (drop 58 f) in let d = length-drop 58 f in omega arith)
+
+packets-few : (place : ℕ) (fs : List (List ℕ)) → 188 * length (reaching 188 (packets place fs)) ≤ length (joined fs)
+unfolding packets joined
+packets-few place [] = unfold only in omega arith
+packets-few place (f ∷ fs) =
+    let e = only-append (λ (p : Packet). leb 188 (length (p .bytes))) (packetsOf place f) (packets (place + length f) fs) in
+    rw e
+    (let l = length-append (reaching 188 (packetsOf place f)) (reaching 188 (packets (place + length f) fs)) in
+    let a = of-few place f in
+    let b = packets-few (place + length f) fs in
+    let j = length-append f (joined fs) in
+    omega arith)
+
+reached-few : (s : List ℕ) → 188 * length (reached 188 s) ≤ length s
+unfolding allFrames
+reached-few s =
+    let h = packets-few 24 (wholeFrames s ++ unfinished s ∷ []) in
+    let j = ap length (joined-append (wholeFrames s) (unfinished s ∷ [])) in
+    let l = length-append (joined (wholeFrames s)) (joined (unfinished s ∷ [])) in
+    let a = all-bytes s in
+    let e : length (joined (unfinished s ∷ [])) ≡ length (unfinished s) = unfold joined in length-append (unfinished s) [] ∙ omega arith in
+    omega arith
+
+pub bad-few : (o : Opening) (s : List ℕ) → 188 * badCount o s ≤ length s
+bad-few o s =
+    rw (bad-of o s)
+    (let h : badOf o (reached 188 s) ≤ length (reached 188 s) = unfold badOf in count-few (λ (p : Packet). isBad (kind o (p .bytes))) (reached 188 s) in
+    let r = reached-few s in
+    omega arith)
+
+pub wanted-few : (o : Opening) (s : List ℕ) → 188 * length (wholeWanted o s) ≤ length s
+wanted-few o s =
+    rw (wanted-of o s)
+    (let h : length (wantedOf o (reached 188 s)) ≤ length (reached 188 s) = unfold wantedOf in only-few (λ (p : Packet). isWanted (kind o (p .bytes))) (reached 188 s) in
+    let r = reached-few s in
+    omega arith)

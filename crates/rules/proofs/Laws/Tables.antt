@@ -1,0 +1,34 @@
+-- What stands at a place of a table, and of tables' lines joined.
+use Prim.Native.Nat.{ℕ, zero, suc, _+_, _*_, _≤_, _<_}
+use native.Mathlib.Omega.{arith}
+use native.Mathlib.Nat.{add-zero, suc-mul, zero-mul, zero-add}
+use mathlib.Core.Path.{_≡_, refl, ap, _∙_}
+use mathlib.Core.List.{List, [], _∷_, _++_}
+use lib.ListN.{length, getD, List·getD-append}
+use lib.Seq.{getD-append-add}
+use Rattle.rules.specs.Bytes.{table, joined}
+
+module _ {ℓ} {A : Type ℓ} where
+  pub getD-table : (n from : ℕ) (f : ℕ → A) (i : ℕ) (d : A) → i < n → getD (table n from f) i d ≡ f (from + i)
+  unfolding table
+  getD-table zero from f i d h = absurd (omega arith)
+  getD-table (suc n) from f zero d h = rw (add-zero from)
+  getD-table (suc n) from f (suc i) d h =
+      let e : suc from + i ≡ from + suc i = omega arith in
+      getD-table n (suc from) f i d (omega arith) ∙ ap f e
+
+  -- n lines of m each, joined: column c of line r stands at r × m + c
+  pub getD-lines : (n from m : ℕ) (f : ℕ → List A) (r c : ℕ) (d : A) → ((i : ℕ) → length (f i) ≡ m) → r < n → c < m →
+      getD (joined (table n from f)) (r * m + c) d ≡ getD (f (from + r)) c d
+  unfolding table joined
+  getD-lines zero from m f r c d e h k = absurd (omega arith)
+  getD-lines (suc n) from m f zero c d e h k =
+      rw (zero-mul m, add-zero from, zero-add c) (List·getD-append (f from) (joined (table n (suc from) f)) d c (omega (arith, e from)))
+  getD-lines (suc n) from m f (suc r) c d e h k =
+      let size : length (f from) ≡ m = e from in
+      let here : suc r * m + c ≡ length (f from) + (r * m + c) = omega (arith, suc-mul r m) in
+      let next : suc from + r ≡ from + suc r = omega arith in
+      ap (λ (i : ℕ). getD (f from ++ joined (table n (suc from) f)) i d) here
+      ∙ getD-append-add (f from) (joined (table n (suc from) f)) (r * m + c) d
+      ∙ getD-lines n (suc from) m f r c d e (omega arith) k
+      ∙ ap (λ (i : ℕ). getD (f i) c d) next

@@ -1,0 +1,43 @@
+-- The histograms of a reduced picture, by counting. The picture is the list of its pixels, w in each of h rows. Five pictures' bins, 144 each, lie in one ring.
+use Prim.Native.Nat.{ℕ, _+_, _*_, _%_, _^_, _≤_, _<_}
+use mathlib.Core.Path.{_≡_}
+use mathlib.Core.List.{List, [], _∷_, _++_}
+use lib.ListN.{length, getD}
+use Rattle.rules.specs.Histograms.{tileAt}
+use Rattle.rules.proofs.Laws.Tiles.{binTally}
+use Rattle.blocks.specs.Sums.{run}
+
+-- The 144 counts from `base` on stand for the first pixels p of a picture: bin b of tile t is count 16 t + b, modulo 2 ^ 32
+pub record Counts (w h base : ℕ) (p counts : List ℕ) : Type 0 where
+  pub size : length counts ≡ 720
+  pub each : (t b : ℕ) → t < 9 → b < 16 → getD counts (base + (16 * t + b)) 0 % 2 ^ 32 ≡ binTally w h t b p % 2 ^ 32
+
+-- nothing but the 144 counts from `base` on changed
+pub record Kept (base : ℕ) (before after : List ℕ) : Type 0 where
+  pub size : length after ≡ length before
+  pub low : (i : ℕ) → i < base → getD after i 0 ≡ getD before i 0
+  pub high : (i : ℕ) → base + 144 ≤ i → getD after i 0 ≡ getD before i 0
+
+-- the 144 counts from `base` on stand for no pixel
+pub record Cleared (base : ℕ) (before after : List ℕ) : Type 0 where
+  pub kept : Kept base before after
+  pub none : length before ≡ 720 → (w h : ℕ) → Counts w h base [] after
+
+-- one pixel more, in tile t
+pub record Counted (base t v : ℕ) (before after : List ℕ) : Type 0 where
+  pub kept : Kept base before after
+  pub more : (w h : ℕ) (p : List ℕ) → t ≡ tileAt w h (length p) → Counts w h base p before → Counts w h base (p ++ v ∷ []) after
+
+-- a row of pixels more, or the first c of them
+pub record CountedRow (w h r base c : ℕ) (pixels before after : List ℕ) : Type 0 where
+  pub kept : Kept base before after
+  pub more : (p : List ℕ) → length p ≡ r * w → Counts w h base p before → Counts w h base (p ++ run pixels (r * w) c) after
+
+-- what `count_row` asks
+pub record Row (w h r base : ℕ) (pixels : List ℕ) : Type 0 where
+  pub wide : 3 ≤ w
+  pub few : w ≤ 240
+  pub inside : r < h
+  pub low : h ≤ 64
+  pub slot : base + 144 ≤ 720
+  pub there : r * w + w ≤ length pixels

@@ -1,0 +1,2 @@
+-- The laws of words, whatever their width.
+pub mod Laws

@@ -1,0 +1,2 @@
+-- What a write leaves.
+pub mod Written
