@@ -1,3 +1,3 @@
-pub mod Spans
+pub mod Held
 pub mod Starts
 pub mod Loops

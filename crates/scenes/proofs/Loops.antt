@@ -11,7 +11,8 @@ use Rattle.rules.specs.Scenes.{span, isTrue, longestFrom, startsScene, isStart,
 use Rattle.scenes.specs.Words.{Column, Bits, Holds, bitAt}
 use Rattle.scenes.specs.Next.{startsAfter, firstOr, nextStart, scenesFrom}
 use Rattle.scenes.specs.Contract.{NextPost, RowPost, CountPost, TotalPost, PeakPost, RepeatedPost, LongestPost}
-use Rattle.scenes.proofs.Spans.{total-end, total-step, total-more, peak-end, peak-step, repeated-end, repeated-step, longest-end, longest-true, longest-false, longest-least, longest-most, peak-most, total-most, figure-is, bit-true, bit-false}
+use Rattle.rules.proofs.Laws.Spans.{total-end, total-step, total-more, peak-end, peak-step, repeated-end, repeated-step, longest-end, longest-true, longest-false, longest-least, longest-most, peak-most, total-most}
+use Rattle.scenes.proofs.Held.{figure-is, bit-true, bit-false}
 use Rattle.scenes.proofs.Starts.{Sought, sought-first, sought-more, sought-found, sought-none, scenes-none, scenes-next, scenes-first}
 
 module _ (w : List ℕ) (i j : ℕ) where

@@ -1,7 +1,7 @@
 -- Scenes: the starts rise from 0 and lie apart, the scenes join without gap and total the pictures, and a sample has at most 250 of them.
 use Prim.Native.Nat.{ℕ, zero, suc, _+_, _-_, _*_, _/_, _≤_, _<_}
 use native.Mathlib.Omega.{arith}
-use native.Mathlib.Nat.{mul-le-mul, mul-suc, add-zero, add-suc, suc-add, zero-add}
+use native.Mathlib.Nat.{mul-le-mul, mul-suc, zero-add}
 use native.Mathlib.Decide.{decLe, decLt}
 use mathlib.Core.Path.{_≡_, refl, ap, _∙_}
 use mathlib.Core.List.{List, [], _∷_, map}
@@ -11,7 +11,7 @@ use lib.Dec.{leb, ltb}
 use borrow.Author.Tests.{ltb-true, leb-true, le-leb, lt-leb, le-ltb}
 use Rattle.rules.specs.declared.Opening.{Opening}
 use Rattle.rules.specs.declared.SceneRow.{SceneRow}
-use Rattle.rules.specs.Bytes.{pick, smaller, table, parts}
+use Rattle.rules.specs.Bytes.{pick, smaller, parts}
 use Rattle.rules.specs.Refusals.{Fault, none, fault}
 use Rattle.rules.specs.Opening.{openingFault}
 use Rattle.rules.specs.Pictures.{pictureSize, ifOpened, pictureCount, pictures, pixels}
@@ -21,7 +21,9 @@ use Rattle.rules.specs.Scenes.{startsScene, isStart, startsFrom, starts,
 use Rattle.rules.specs.Changes.{repeats, changes}
 use Rattle.rules.specs.Seal.{reduced, scenesIn, scenes}
 use Rattle.rules.proofs.Laws.Lists.{length-table}
-use Rattle.rules.proofs.Laws.Opened.{first-of, second-of, opened, time-most}
+use Rattle.rules.proofs.Laws.Tables.{getD-table}
+use Rattle.rules.proofs.Laws.Onward.{both}
+use Rattle.rules.proofs.Laws.Sizes.{good}
 
 -- ---- starts
 
@@ -33,11 +35,11 @@ pub data Apart (m end : ℕ) : ℕ → List ℕ → Type 0 where
 -- what a start shows: long enough, and a cut
 pub start-long : (d : ℕ) (ss : List ℕ) (b i : ℕ) → isStart d ss b i ≡ true → 600000 ≤ (i - b) * d
 unfolding isStart startsScene
-start-long d ss b i e = leb-true 600000 ((i - b) * d) (first-of (leb 600000 ((i - b) * d)) _ (first-of _ _ e))
+start-long d ss b i e = leb-true 600000 ((i - b) * d) (both (leb 600000 ((i - b) * d)) _ (both _ _ e .0) .0)
 
 pub start-cut : (d : ℕ) (ss : List ℕ) (b i : ℕ) → isStart d ss b i ≡ true → 1000 < getD ss i 0
 unfolding isStart startsScene
-start-cut d ss b i e = ltb-true 1000 (getD ss i 0) (second-of (leb 600000 ((i - b) * d)) _ (first-of _ _ e))
+start-cut d ss b i e = ltb-true 1000 (getD ss i 0) (both (leb 600000 ((i - b) * d)) _ (both _ _ e .0) .1)
 
 module _ (d : ℕ) (ss : List ℕ) (m end : ℕ) (long : (n : ℕ) → 600000 ≤ n * d → m ≤ n) (cut : (i : ℕ) → 1000 < getD ss i 0 → i < end) where
   pub starts-apart : (n b i : ℕ) → b ≤ i → Apart m end b (startsFrom d ss n b i)
@@ -115,15 +117,9 @@ scenes-join d (s ∷ ss) rs qs h =
 
 -- ---- the last start has two pictures behind it, so that a sample has at most 250 scenes
 
-table-at : {A : Type 0} (n from i : ℕ) (f : ℕ → A) (e : A) → i < n → getD (table n from f) i e ≡ f (from + i)
-unfolding table
-table-at zero from i f e h = absurd (omega arith)
-table-at (suc n) from zero f e h = rw (add-zero from)
-table-at (suc n) from (suc i) f e h = table-at n (suc from) i f e (omega arith) ∙ rw (add-suc from i, suc-add from i)
-
 pub score-at : (hs : List (List (List ℕ))) (i : ℕ) → i < length hs → getD (cutScores hs) i 0 ≡ cutScore hs i
 unfolding cutScores
-score-at hs i h = table-at (length hs) 0 i (cutScore hs) 0 h ∙ rw (zero-add i)
+score-at hs i h = getD-table (length hs) 0 (cutScore hs) i 0 h ∙ rw (zero-add i)
 
 pub scores-length : (hs : List (List (List ℕ))) → length (cutScores hs) ≡ length hs
 unfolding cutScores
@@ -204,4 +200,4 @@ sample-few o luma h =
     let pxs = reduced o luma in
     let e = length-map pxs (histograms o) ∙ reduced-length o luma in
     let k = pictures-most o luma in
-    scenes-few (o .time) (map (histograms o) pxs) (repeats pxs) (changes pxs) (time-most (o .time) (opened o h .time)) (omega arith)
+    scenes-few (o .time) (map (histograms o) pxs) (repeats pxs) (changes pxs) (good o h .time-high) (omega arith)

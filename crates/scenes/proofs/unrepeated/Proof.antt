@@ -5,7 +5,7 @@ use mathlib.Core.Path.{_≡_, ap, _∙_}
 use borrow.Author.Needs.{needs}
 use Rattle.rules.specs.Bytes.{count}
 use Rattle.rules.specs.Scenes.{isTrue}
-use Rattle.scenes.proofs.Spans.{both, span-all}
+use Rattle.rules.proofs.Laws.Spans.{both, span-all}
 use Rattle.scenes.proofs.unrepeated.Statement.{statement}
 use Rattle.scenes.proofs.unrepeated.Tie as tie
 

@@ -1,19 +1,17 @@
 -- The figures of pictures i to before j, taken picture by picture.
-use Prim.Native.Nat.{ℕ, zero, suc, _+_, _-_, _*_, _%_, _^_, _≤_, _<_, max}
+use Prim.Native.Nat.{ℕ, zero, suc, _+_, _-_, _*_, _≤_, _<_, max}
 use native.Mathlib.Omega.{arith}
 use native.Mathlib.Nat.{sub-self, sub-zero, mul-suc}
 use native.Mathlib.Numerals.{add-one}
-use native.Mathlib.Decide.{decLe}
-use mathlib.Core.Path.{_≡_, refl, ap, _∙_}
-use mathlib.Core.List.{List, [], _∷_, _++_}
+use mathlib.Core.Path.{_≡_, refl}
+use mathlib.Core.List.{List, [], _∷_}
 use mathlib.Core.Bool.{Bool, true, false, not}
 use lib.ListN.{length, getD, take, drop, length-drop}
 use lib.Seq.{drop-cons, take-suc, take-all, getD-drop}
-use borrow.Author.Tests.{le-leb, lt-leb}
-use Rattle.rules.specs.Bytes.{pick, total, greatestOf, larger, count}
+use Rattle.rules.specs.Bytes.{pick, total, greatestOf, count}
 use Rattle.rules.specs.Scenes.{span, isTrue, longestFrom}
 use Rattle.rules.proofs.Laws.Lists.{total-append}
-use Rattle.scenes.specs.Words.{Column, Bits, bitAt}
+use Rattle.rules.proofs.Laws.UnitsMore.{larger-max}
 
 module _ {A : Type 0} where
   span-none : (j : ℕ) (xs : List A) → span j j xs ≡ []
@@ -23,13 +21,6 @@ module _ {A : Type 0} where
   span-cons k j xs e h g =
       let n : j - k ≡ suc (j - (k + 1)) = omega arith in
       rw (n, drop-cons xs k e (omega arith), add-one k)
-
-pub larger-max : (a b : ℕ) → larger a b ≡ max a b
-larger-max a b = go (decLe a b)
-  where
-    go : Dec (a ≤ b) → larger a b ≡ max a b
-    go (yes h) = rw (le-leb a b h) (omega arith)
-    go (no h) = rw (lt-leb a b (omega arith)) (omega arith)
 
 -- ---- sums
 
@@ -124,25 +115,3 @@ both (false ∷ rs) = let h = both rs in omega arith
 -- a whole list is the span from 0
 pub span-all : (xs : List Bool) (n : ℕ) → length xs ≡ n → span 0 n xs ≡ xs
 span-all xs n e = rw (sub-zero n) (take-all n xs (omega arith))
-
--- ---- what the words hold
-
-pub figure-is : {w : List ℕ} {base n most : ℕ} {xs : List ℕ} → Column w base n most xs → most < 2 ^ 32 → (k : ℕ) → k < n → getD w (base + k) 0 % 2 ^ 32 ≡ getD xs k 0
-figure-is {w} {base} {n} {most} {xs} c h k g =
-    let a = c .word k g in
-    let b = c .bound k g in
-    omega arith
-
-pub bit-true : {w : List ℕ} {n : ℕ} {rs : List Bool} → Bits w n rs → (k : ℕ) → k < n → bitAt w k ≡ 1 → getD rs k false ≡ true
-bit-true {w} {n} {rs} c k g e = go (getD rs k false) (c .bit k g)
-  where
-    go : (t : Bool) → bitAt w k ≡ pick t 1 0 → t ≡ true
-    go true f = refl
-    go false f = absurd (omega arith)
-
-pub bit-false : {w : List ℕ} {n : ℕ} {rs : List Bool} → Bits w n rs → (k : ℕ) → k < n → (bitAt w k ≡ 1 → ⊥) → getD rs k false ≡ false
-bit-false {w} {n} {rs} c k g e = go (getD rs k false) (c .bit k g)
-  where
-    go : (t : Bool) → bitAt w k ≡ pick t 1 0 → t ≡ false
-    go true f = absurd (e f)
-    go false f = refl
