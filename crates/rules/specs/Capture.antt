@@ -23,7 +23,7 @@ unfinished capture = rest (behindHeader capture)
 unfoldable pub allFrames : List ℕ → List (List ℕ)
 allFrames capture = wholeFrames capture ++ unfinished capture ∷ []
 
--- the packets of PID: those that are whole, and those that show what they are
+-- the packets of PID: those that are whole, which units are made of, and those that show what they are, by which refusal 9 stands already
 unfoldable pub wholeWanted : Opening → List ℕ → List Packet
 wholeWanted o capture = wantedOf o (whole (packets 24 (allFrames capture)))
 
@@ -35,12 +35,15 @@ shownWanted o capture = wantedOf o (shown (packets 24 (allFrames capture)))
 unfoldable pub units : Opening → List ℕ → List UnitRow
 units o capture = unitsOf (wholeWanted o capture)
 
+-- word 44 of the record
 unfoldable pub frameCount : List ℕ → ℕ
 frameCount capture = length (wholeFrames capture)
 
+-- word 48
 unfoldable pub skippedCount : List ℕ → ℕ
 skippedCount capture = skipped (wholeFrames capture)
 
+-- word 52
 unfoldable pub badCount : Opening → List ℕ → ℕ
 badCount o capture = badOf o (whole (packets 24 (allFrames capture)))
 
@@ -69,7 +72,7 @@ wrongMagic capture =
 unfoldable pub wrongLink : List ℕ → Fault
 wrongLink capture = showing (length capture) 6 23 (not (eqb (word32 capture 20) 1))
 
--- 7, 8: microseconds above 999,999, L above 65,535; of a frame at the offset `place`, of which size - place bytes are there
+-- 7, 8: microseconds above 999,999, L above 65,535; of the frame f that begins at the offset `place` of a capture of `size` bytes
 unfoldable pub wrongHeader : ℕ → ℕ → List ℕ → Fault
 wrongHeader size place f =
     earlier (showing size 7 (place + 7) (ltb 999999 (microseconds f))) (showing size 8 (place + 11) (ltb 65535 (storedLength f)))

@@ -30,7 +30,7 @@ unfoldable pub levelUpTo : ℕ → ℕ → ℕ
 levelUpTo zero h = 0
 levelUpTo (suc n) h = pick (leb 30 (h / 2 ^ suc n)) (suc n) (levelUpTo n h)
 
--- level k: the greatest with H / 2^k at least 30. As H is at most 1088, it is at most 5
+-- level k: the greatest with H / 2^k at least 30. As an opening that is not refused has H at most 1088, it is at most 5
 unfoldable pub level : Opening → ℕ
 level o = levelUpTo 5 (o .height)
 
@@ -41,12 +41,14 @@ side o = 2 ^ level o
 unfoldable pub area : Opening → ℕ
 area o = 4 ^ level o
 
--- the reduced size: w, h, and the pixels w × h
+-- w: the reduced width, in pixels
 unfoldable pub columns : Opening → ℕ
 columns o = o .width / side o
 
+-- h: the reduced height, in lines of pixels
 unfoldable pub lines : Opening → ℕ
 lines o = o .height / side o
 
+-- w × h
 unfoldable pub pixelCount : Opening → ℕ
 pixelCount o = columns o * lines o

@@ -29,7 +29,7 @@ isIpv4 f = eqb (byte (body f) 12) 0x08 && eqb (byte (body f) 13) 0x00
 abbrev pub isPlain : List ℕ → Bool
 isPlain f = eqb (byte (body f) 14) 0x45
 
--- no fragment: the low 14 bits of bytes 20, 21 are zero
+-- no fragment: the low 14 bits of bytes 20, 21 are zero (2^14 is 16384)
 abbrev pub isUnfragmented : List ℕ → Bool
 isUnfragmented f = eqb (network16 (body f) 20 % 16384) 0
 
@@ -41,7 +41,7 @@ isUdp f = eqb (byte (body f) 23) 17
 abbrev pub lengthsAgree : List ℕ → Bool
 lengthsAgree f = eqb (ipLength f) (udpLength f + 20)
 
--- L at least 14 + T
+-- the capture kept the whole IP packet: L at least 14 + T
 abbrev pub isStoredWhole : List ℕ → Bool
 isStoredWhole f = leb (14 + ipLength f) (storedLength f)
 
@@ -89,11 +89,11 @@ unfoldable pub packets : ℕ → List (List ℕ) → List Packet
 packets place [] = []
 packets place (f ∷ fs) = packetsOf place f ++ packets (place + length f) fs
 
--- the packets whose byte 3 is there, which show what they are
+-- the packets whose byte 3 is there, which show what they are: refusal 9 goes by these
 unfoldable pub shown : List Packet → List Packet
 shown ps = only (λ p. leb 4 (length (p .bytes))) ps
 
--- the packets of which all 188 bytes are there
+-- the packets of which all 188 bytes are there: units and counts go by these
 unfoldable pub whole : List Packet → List Packet
 whole ps = only (λ p. leb 188 (length (p .bytes))) ps
 
@@ -103,9 +103,11 @@ pub data Kind : Type 0 where
   other : Kind
   wanted : Kind
 
+-- identifier: the low 5 bits of byte 1 times 256, plus byte 2
 unfoldable pub identifier : List ℕ → ℕ
 identifier b = byte b 1 % 32 * 256 + byte b 2
 
+-- a packet of the opening: bad unless it starts with 0x47 (document 01: bad cell); wanted if its identifier is PID
 unfoldable pub kind : Opening → List ℕ → Kind
 kind o b = pick (eqb (byte b 0) 0x47) (pick (eqb (identifier b) (o .pid)) wanted other) bad
 
@@ -119,7 +121,7 @@ isWanted bad = false
 isWanted other = false
 isWanted wanted = true
 
--- start mark: 0x40 in byte 1
+-- start mark: 0x40 in byte 1, so that its low 7 bits are 64 or more
 unfoldable pub startMark : List ℕ → Bool
 startMark b = leb 64 (byte b 1 % 128)
 

@@ -1,9 +1,14 @@
--- Refusals: a number of document 01's table with its place, and the answers that are made of them. Each number stands at the definition that gives it.
+-- Refusals: a number of document 01's table with its place, and the answers that are made of them. Each number stands at the definition that gives it:
+--   opening  1, 2, 3  Opening.openingFault
+--   capture  4 Capture.tooLong, 5 Capture.wrongMagic, 6 Capture.wrongLink, 7 and 8 Capture.wrongHeader, 9 Capture.tooManyUnits (beginsAt)
+--   luma     10 Pictures.lumaFault
+--   seal     11 Seal.captureOpen, 12 Seal.noPacket, 13 Seal.lumaOpen, 14 Seal.noPicture, 15 Seal.noRoom
+--   reading  16, 17, 18 Reading.readingFault, 19 Reading.rowFault
 use Prim.Native.Nat.{ℕ}
 use Rattle.rules.specs.declared.Answer.{Answer}
 use Rattle.rules.specs.declared.Answer.the-variants.{Done, Refused}
 
--- a refusal's number and place, or none
+-- a refusal's number and its place (0 where document 01 names none), or none
 pub data Fault : Type 0 where
   none : Fault
   fault : ℕ → ℕ → Fault
@@ -18,3 +23,8 @@ fault k p orElse f = fault k p
 abbrev pub answer : Fault → ℕ → Answer
 answer none n = Done n
 answer (fault k p) n = Refused k p
+
+-- document 01's number and place of an answer's case: none where it is not refused
+abbrev pub refusalOf : Answer → Fault
+refusalOf (Done n) = none
+refusalOf (Refused k p) = fault k p

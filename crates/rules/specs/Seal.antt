@@ -42,7 +42,7 @@ unrepeated o luma = count not (repeats (reduced o luma))
 
 -- the index, from the counts over all units and pictures
 unfoldable pub indexFrom : List UnitRow → ℕ → ℕ → Index
-indexFrom us fresh n = indexOf fresh n (total (map (λ u. u .packets) us)) (total (map (λ u. u .lost) us))
+indexFrom us unrepeated n = indexOf unrepeated n (total (map (λ u. u .packets) us)) (total (map (λ u. u .lost) us))
 
 unfoldable pub index : Opening → List ℕ → List ℕ → Index
 index o capture luma = indexFrom (units o capture) (unrepeated o luma) (pictureCount o luma)

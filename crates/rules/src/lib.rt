@@ -14,24 +14,24 @@ pub enum Answer {
     Refused { number: u64, place: u64 },
 }
 
-// A row of the units.
+// A row of the units, 32 bytes of the record; word 28 is 0.
 pub struct UnitRow {
-    pub least: u64,
-    pub greatest: u64,
-    pub size: u32,
-    pub packets: u32,
-    pub lost: u32,
+    pub least: u64, // 0: least time
+    pub greatest: u64, // 8: greatest time
+    pub size: u32, // 16: 184 for each packet
+    pub packets: u32, // 20: cells
+    pub lost: u32, // 24
 }
 
-// A row of the scenes.
+// A row of the scenes, 32 bytes of the record; word 28 is 0.
 pub struct SceneRow {
-    pub first: u32,
-    pub pictures: u32,
-    pub repeated: u32,
-    pub longest: u32,
-    pub score: u32,
-    pub peak: u32,
-    pub change: u32,
+    pub first: u32, // 0: first picture
+    pub pictures: u32, // 4
+    pub repeated: u32, // 8
+    pub longest: u32, // 12: longest run of repeated ones
+    pub score: u32, // 16: sum of s
+    pub peak: u32, // 20: greatest s
+    pub change: u32, // 24: sum of q
 }
 
 // The index travels with its two parts.
@@ -41,19 +41,19 @@ pub struct Index {
     pub value: f64,
 }
 
-// The figures of a record's header, of which the rows' offsets and the record's length follow.
+// The figures of a record's header. Edition 1, the record's length (4) and the rows' offsets (12, 20) follow from these.
 pub struct Header {
-    pub units: u32,
-    pub scenes: u32,
-    pub width: u32,
-    pub height: u32,
-    pub time: u32,
-    pub pid: u32,
-    pub pictures: u32,
-    pub frames: u32,
-    pub skipped: u32,
-    pub bad: u32,
-    pub index: u64,
+    pub units: u32, // 8
+    pub scenes: u32, // 16
+    pub width: u32, // 24: W
+    pub height: u32, // 28: H
+    pub time: u32, // 32: d
+    pub pid: u32, // 36: PID
+    pub pictures: u32, // 40: N
+    pub frames: u32, // 44: capture records
+    pub skipped: u32, // 48: records passed over
+    pub bad: u32, // 52: bad cells
+    pub index: u64, // 56: the index's f64 bits
 }
 
 // What reading a record answers: its header's figures, a row, or a refusal.

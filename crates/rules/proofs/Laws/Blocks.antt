@@ -56,10 +56,10 @@ settled W n r c p t hn hw h =
 -- ---- the rule's block sum, by rows and columns, is that tally
 
 -- place x of row y
-row-of : (W y x : ℕ) → x < W → (y * W + x) / W ≡ y
+pub row-of : (W y x : ℕ) → x < W → (y * W + x) / W ≡ y
 row-of W y x h = div-eq-of-lt-le W (omega arith) (omega (arith, add-mul y 1 W))
 
-column-of : (W y x : ℕ) → x < W → (y * W + x) % W ≡ x
+pub column-of : (W y x : ℕ) → x < W → (y * W + x) % W ≡ x
 column-of W y x h = mul-add-mod-self-right y W x ∙ mod-eq-of-lt h
 
 -- what row y gives to a block: those of its bytes that lie in the block's columns, if it is one of the block's rows
@@ -78,7 +78,7 @@ row-gives W n r c y row some h =
     go false = tally-none (λ x b. 0) 0 row (λ j b k. refl)
 
 -- a tally by rows of W bytes, m of them, and what is left behind them
-by-rows : (F : ℕ → ℕ → ℕ) (G : ℕ → List ℕ → ℕ) (W : ℕ) → ((y : ℕ) (row : List ℕ) → length row ≤ W → tally F (y * W) row ≡ G y row) → (m y : ℕ) (p : List ℕ) →
+pub by-rows : (F : ℕ → ℕ → ℕ) (G : ℕ → List ℕ → ℕ) (W : ℕ) → ((y : ℕ) (row : List ℕ) → length row ≤ W → tally F (y * W) row ≡ G y row) → (m y : ℕ) (p : List ℕ) →
     tally F (y * W) p ≡ tally G y (parts m W p) + tally F ((y + m) * W) (drop (m * W) p)
 unfolding tally parts
 by-rows F G W e zero y p = rw (zero-mul W, add-zero y) (omega arith)

@@ -57,7 +57,7 @@ total-small zero s h = omega arith
 total-small (suc n) [] none = omega arith
 total-small (suc n) (b ∷ s) (and h hs) = let k = total-small n s hs in omega arith
 
-all-parts : (n m : ℕ) (s : List ℕ) → Bytes s → All Bytes (parts n m s)
+pub all-parts : (n m : ℕ) (s : List ℕ) → Bytes s → All Bytes (parts n m s)
 unfolding parts
 all-parts zero m s h = none
 all-parts (suc n) m s h = and (bytes-take m s h) (all-parts n m (drop m s) (bytes-drop m s h))

@@ -3,7 +3,7 @@ use Prim.Native.Nat.{ℕ, zero, suc, _+_, _*_, _≤_, _<_}
 use native.Mathlib.Omega.{arith}
 use native.Mathlib.Nat.{add-zero, suc-mul, zero-mul, zero-add}
 use mathlib.Core.Path.{_≡_, refl, ap, _∙_}
-use mathlib.Core.List.{List, [], _∷_, _++_}
+use mathlib.Core.List.{List, [], _∷_, _++_, map}
 use lib.ListN.{length, getD, List·getD-append}
 use lib.Seq.{getD-append-add}
 use Rattle.rules.specs.Bytes.{table, joined}
@@ -32,3 +32,9 @@ module _ {ℓ} {A : Type ℓ} where
       ∙ getD-append-add (f from) (joined (table n (suc from) f)) (r * m + c) d
       ∙ getD-lines n (suc from) m f r c d e (omega arith) k
       ∙ ap (λ (i : ℕ). getD (f i) c d) next
+
+-- what stands at a place of a mapped list
+pub getD-mapped {ℓ ℓ′} : {A : Type ℓ} {B : Type ℓ′} (f : A → B) (xs : List A) (j : ℕ) (d : A) (e : B) → j < length xs → getD (map f xs) j e ≡ f (getD xs j d)
+getD-mapped f [] j d e h = absurd (omega arith)
+getD-mapped f (x ∷ xs) zero d e h = refl
+getD-mapped f (x ∷ xs) (suc j) d e h = getD-mapped f xs j d e (omega arith)

@@ -1,11 +1,11 @@
 -- The laws of `tally`, whatever is added up: sums of blocks, counts of bins, sums of differences are tallies with another f.
 use Prim.Native.Nat.{ℕ, zero, suc, _+_, _*_, _/_, _≤_, _<_}
 use native.Mathlib.Omega.{arith}
-use native.Mathlib.Nat.{add-zero, add-mul, div-lt-iff-lt-mul, le-div-iff-mul-le, div-eq-of-lt-le}
+use native.Mathlib.Nat.{add-zero, mul-suc, suc-mul, zero-mul, add-mul, div-lt-iff-lt-mul, le-div-iff-mul-le, div-eq-of-lt-le}
 use native.Mathlib.Numerals.{add-one}
-use mathlib.Core.Path.{_≡_, refl, ap, _∙_}
+use mathlib.Core.Path.{_≡_, refl, sym, ap, _∙_}
 use mathlib.Core.List.{List, [], _∷_, _++_, map}
-use lib.ListN.{length, getD, take, drop, length-take}
+use lib.ListN.{length, getD, take, drop, length-take, length-drop}
 use lib.Dec.{eqb}
 use lib.Seq.{take-suc, length-take-le}
 use borrow.Author.Tests.{eq-eqb, ne-eqb}
@@ -86,6 +86,39 @@ module _ {ℓ} {A : Type ℓ} where
   unfolding tally total
   tally-map g q [] = refl
   tally-map g q (a ∷ t) = omega (arith, tally-map g (suc q) t)
+
+  -- where each gives at most k
+  pub tally-most : (f : ℕ → A → ℕ) (k q : ℕ) (t : List A) → ((i : ℕ) (a : A) → f i a ≤ k) → tally f q t ≤ k * length t
+  unfolding tally
+  tally-most f k q [] h = omega arith
+  tally-most f k q (a ∷ t) h = omega (arith, h q a, tally-most f k (suc q) t h, mul-suc k (length t))
+
+  tally-const : (k q : ℕ) (t : List A) → tally (λ i a. k) q t ≡ length t * k
+  unfolding tally
+  tally-const k q [] = sym (zero-mul k)
+  tally-const k q (a ∷ t) = omega (arith, tally-const k (suc q) t, suc-mul (length t) k)
+
+  -- where the m places from `from` on give k each, and no other gives anything
+  pub tally-span : (f : ℕ → A → ℕ) (from m k : ℕ) (t : List A) → from + m ≤ length t → ((i : ℕ) (a : A) → i < from → f i a ≡ 0) →
+      ((i : ℕ) (a : A) → from ≤ i → i < from + m → f i a ≡ k) → ((i : ℕ) (a : A) → from + m ≤ i → f i a ≡ 0) → tally f 0 t ≡ m * k
+  tally-span f from m k t long before inside after =
+      let u = drop from t in
+      let first : tally f 0 (take from t) ≡ 0 = tally-none f 0 (take from t) (λ j a h. before (0 + j) a (omega (arith, length-take from t))) in
+      let size : length (take m u) ≡ m = length-take-le m u (simp length-drop (omega arith)) in
+      let own : tally f (0 + from) (take m u) ≡ m * k =
+      tally-shift f (λ i a. k) (0 + from) 0 (take m u) (λ j a h. inside (0 + from + j) a (omega arith) (omega arith))
+      ∙ tally-const k 0 (take m u)
+      ∙ ap (λ (n : ℕ). n * k) size in
+      let last : tally f (0 + from + m) (drop m u) ≡ 0 = tally-none f (0 + from + m) (drop m u) (λ j a h. after (0 + from + m + j) a (omega arith)) in
+      omega (arith, tally-split f from 0 t, tally-split f m (0 + from) u)
+
+  -- where the places alone count, lists of one length give the same
+  pub tally-places : {B : Type ℓ} (g : ℕ → ℕ) (q : ℕ) (s : List A) (t : List B) → length s ≡ length t → tally (λ i a. g i) q s ≡ tally (λ i b. g i) q t
+  unfolding tally
+  tally-places g q [] [] e = refl
+  tally-places g q [] (b ∷ t) e = absurd (omega arith)
+  tally-places g q (a ∷ s) [] e = absurd (omega arith)
+  tally-places g q (a ∷ s) (b ∷ t) e = omega (arith, tally-places g (suc q) s t (omega arith))
 
   -- the sum of two tallies
   pub tally-add : (f g : ℕ → A → ℕ) (q : ℕ) (t : List A) → tally (λ i a. f i a + g i a) q t ≡ tally f q t + tally g q t
