@@ -24,7 +24,7 @@ use Rattle.rules.proofs.Laws.Faults.{no-fault, at-fault, late-fault, Gr
 use Rattle.rules.proofs.Laws.Frames.{size-least, size-append, frames-none, rest-none, frames-one, rest-one, frames-onward, rest-onward, by-frames}
 
 module _ {A : Type 0} {P : A → Type 0} where
-  only-all : (test : A → Bool) {xs : List A} → All P xs → All P (only test xs)
+  pub only-all : (test : A → Bool) {xs : List A} → All P xs → All P (only test xs)
   unfolding only
   only-all test Histograms.none = Histograms.none
   only-all test (and {x} {xs} h hs) = go (test x) (only-all test hs)
@@ -33,7 +33,7 @@ module _ {A : Type 0} {P : A → Type 0} where
       go true r = and h r
       go false r = r
 
-  all-append : {xs ys : List A} → All P xs → All P ys → All P (xs ++ ys)
+  pub all-append : {xs ys : List A} → All P xs → All P ys → All P (xs ++ ys)
   all-append Histograms.none r = r
   all-append (and h hs) r = and h (all-append hs r)
 

@@ -1,0 +1,105 @@
+-- The record of a sample that can be sealed is always allowed, and reading it refuses nothing.
+use Prim.Native.Nat.{ℕ, _+_, _*_, _≤_, _<_}
+use native.Mathlib.Omega.{arith}
+use mathlib.Core.Path.{_≡_, refl, sym, ap, _∙_}
+use mathlib.Core.List.{List, [], _∷_}
+use mathlib.Core.Bool.{Bool, true, false, _&&_}
+use lib.ListN.{length}
+use lib.Dec.{leb, ltb, eqb}
+use borrow.Author.Tests.{le-leb, le-ltb, eq-eqb}
+use Rattle.rules.specs.declared.Opening.{Opening}
+use Rattle.rules.specs.declared.UnitRow.{UnitRow}
+use Rattle.rules.specs.declared.SceneRow.{SceneRow}
+use Rattle.rules.specs.Bytes.{pick, within, word32}
+use Rattle.rules.specs.Refusals.{Fault, none, fault}
+use Rattle.rules.specs.Opening.{goodSize, goodTime, goodPid, openingFault}
+use Rattle.rules.specs.Capture.{units, frameCount, skippedCount}
+use Rattle.rules.specs.Pictures.{pictureCount}
+use Rattle.rules.specs.Record.{recordLength, recordBytes}
+use Rattle.rules.specs.Reading.{allowed, readingFault}
+use Rattle.rules.specs.Seal.{scenes, header, sealed, sealedLength, sealFault}
+use Rattle.rules.proofs.Laws.Pictures.{Bytes}
+use Rattle.rules.proofs.Laws.Record.{Each, length-record}
+use Rattle.rules.proofs.Laws.Allowed.{goodHeader, goodUnit, goodUnits, goodScenes, goodFigures, allowed-figures, record-allowed}
+use Rattle.rules.proofs.Laws.Bounds.{skipped-few}
+use Rattle.rules.proofs.Laws.Scenes.{Joins, scenes-length, pictures-most, sample-joins, sample-few}
+use Rattle.rules.proofs.Laws.Ranges.{Sealable, sealable, UnitRange, units-most, unit-ranges, figures-fit}
+
+-- ---- the conditions on figures
+
+opened : (o : Opening) → openingFault o ≡ none → (goodSize (o .width) (o .height) ≡ true) × (goodTime (o .time) ≡ true) × (goodPid (o .pid) ≡ true)
+unfolding openingFault
+opened o = go (goodSize (o .width) (o .height)) (goodTime (o .time)) (goodPid (o .pid))
+  where
+    never : {k p : ℕ} → fault k p ≡ none → ⊥
+    never e = let z : _≡_ {A = ℕ} 0 1 = cc in omega arith
+
+    go : (a b c : Bool) → pick a (pick b (pick c none (fault 3 0)) (fault 2 0)) (fault 1 0) ≡ none → (a ≡ true) × (b ≡ true) × (c ≡ true)
+    go true true true h = (refl, refl, refl)
+    go true true false h = absurd (never h)
+    go true false c h = absurd (never h)
+    go false b c h = absurd (never h)
+
+inside : (low high x : ℕ) → low ≤ x → x ≤ high → within low high x ≡ true
+inside low high x h k = rw (le-leb low x h, le-leb x high k)
+
+all-units : (n : ℕ) (us : List UnitRow) → Each (UnitRange n) us → goodUnits us ≡ true
+unfolding goodUnits goodUnit
+all-units n [] h = refl
+all-units n (u ∷ us) h =
+    let r = h .0 in
+    rw (le-leb (u .least) (u .greatest) (r .ordered), le-leb 1 (u .packets) (r .some), eq-eqb (u .size) (184 * u .packets) (r .size), all-units n us (h .1))
+
+all-scenes : (n from : ℕ) (ss : List SceneRow) → Joins n from ss → goodScenes n from ss ≡ true
+unfolding goodScenes
+all-scenes n from [] h = eq-eqb from n h
+all-scenes n from (s ∷ ss) h =
+    rw (eq-eqb (s .first) from (h .0), le-leb 1 (s .pictures) (h .1), all-scenes n (from + s .pictures) ss (h .2))
+
+-- scenes that join have at least one among them, if there is a picture
+some-scene : (n : ℕ) (ss : List SceneRow) → 1 ≤ n → Joins n 0 ss → 1 ≤ length ss
+some-scene n [] h e = absurd (omega arith)
+some-scene n (s ∷ ss) h j = omega arith
+
+module _ (o : Opening) (capture luma : List ℕ) (h : Sealable o capture luma) (bc : Bytes capture) (bl : Bytes luma) where
+  joins : Joins (pictureCount o luma) 0 (scenes o luma)
+  joins = sample-joins o luma (h .picture)
+
+  good-header : goodHeader (header o capture luma) ≡ true
+  unfolding goodHeader header
+  good-header =
+      let g = opened o (h .opened) in
+      rw (inside 1 750 (length (units o capture)) (h .unit) (units-most o capture luma h), inside 1 250 (length (scenes o luma)) (some-scene (pictureCount o luma) (scenes o luma) (h .picture) joins) (sample-few o luma (h .opened)), inside 1 750 (pictureCount o luma) (h .picture) (pictures-most o luma), g .0, g .1, g .2)
+      (le-leb (skippedCount capture) (frameCount capture) (skipped-few capture))
+
+  good-figures : goodFigures (header o capture luma) (units o capture) (scenes o luma) ≡ true
+  unfolding goodFigures
+  good-figures =
+      rw (good-header, all-units (length capture) (units o capture) (unit-ranges o capture luma h bc))
+      (unfold header in all-scenes (pictureCount o luma) 0 (scenes o luma) joins)
+
+  allowed-sealed : allowed (sealed o capture luma) ≡ true
+  unfolding sealed
+  allowed-sealed =
+      allowed-figures (header o capture luma) (units o capture) (scenes o luma) (figures-fit o capture luma h bc bl)
+      ∙ good-figures
+
+-- ---- THE LAW: what a seal writes, the reader allows
+
+pub sealed-allowed : (o : Opening) (capture luma : List ℕ) (n : ℕ) → sealFault o capture luma n ≡ none → Bytes capture → Bytes luma →
+    allowed (sealed o capture luma) ≡ true
+sealed-allowed o capture luma n e bc bl = allowed-sealed o capture luma (sealable o capture luma n e) bc bl
+
+pub sealed-length : (o : Opening) (capture luma : List ℕ) → length (sealed o capture luma) ≡ sealedLength o capture luma
+unfolding sealed sealedLength
+sealed-length o capture luma = length-record (header o capture luma) (units o capture) (scenes o luma)
+
+pub sealed-read : (o : Opening) (capture luma : List ℕ) (n : ℕ) → sealFault o capture luma n ≡ none → Bytes capture → Bytes luma →
+    readingFault (sealed o capture luma) ≡ none
+unfolding readingFault
+sealed-read o capture luma n e bc bl =
+    let r = sealed o capture luma in
+    let a = sealed-allowed o capture luma n e bc bl in
+    let w = record-allowed r a .header .edition in
+    let l : 64 ≤ length r = rw (sealed-length o capture luma) (unfold sealedLength recordLength in omega arith) in
+    rw (le-ltb (length r) 64 l, w, a)
