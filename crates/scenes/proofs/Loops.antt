@@ -1,15 +1,15 @@
 -- What each loop has come to at picture k, one picture more, and the end.
-use Prim.Native.Nat.{ℕ, zero, suc, _+_, _-_, _*_, _%_, _^_, _≤_, _<_, max}
+use Prim.Native.Nat.{ℕ, _+_, _-_, _%_, _^_, _≤_, _<_, max}
 use native.Mathlib.Omega.{arith}
-use mathlib.Core.Path.{_≡_, refl, sym, ap, _∙_}
-use mathlib.Core.List.{List, [], _∷_}
+use mathlib.Core.Path.{_≡_, sym, ap, _∙_}
+use mathlib.Core.List.{List}
 use mathlib.Core.Bool.{Bool, true, false}
 use lib.ListN.{length, getD}
 use Rattle.rules.specs.declared.SceneRow.{SceneRow}
-use Rattle.rules.specs.Bytes.{pick, total, greatestOf, count}
+use Rattle.rules.specs.Bytes.{total, greatestOf, count}
 use Rattle.rules.specs.Scenes.{span, isTrue, longestFrom, startsScene, isStart, sceneOf, scenesOf}
 use Rattle.scenes.specs.Words.{Column, Bits, Holds, bitAt}
-use Rattle.scenes.specs.Next.{startsAfter, firstOr, nextStart, scenesFrom}
+use Rattle.scenes.specs.Next.{nextStart, scenesFrom}
 use Rattle.scenes.specs.Contract.{NextPost, RowPost, CountPost, TotalPost, PeakPost, RepeatedPost, LongestPost}
 use Rattle.rules.proofs.Laws.Spans.{total-end, total-step, total-more, peak-end, peak-step, repeated-end, repeated-step, longest-end, longest-true, longest-false, longest-least, longest-most, peak-most, total-most}
 use Rattle.scenes.proofs.Held.{figure-is, bit-true, bit-false}

@@ -1,8 +1,7 @@
 // Scene starts and scene rows from the luma words: cut scores from word 100 on, changes from word 850 on, the map of repeats from word 64 on.
 // Every call is safe and ends on any contents of the words; a cut score or change is taken below 2^32.
 ghost use mathlib.Core.Path.{_≡_};
-ghost use mathlib.Core.Bool.{Bool};
-ghost use Prim.Native.Nat.{ℕ, _+_, _*_, _%_, _^_, _<_, _≤_};
+ghost use Prim.Native.Nat.{_*_, _%_, _^_, _<_, _≤_};
 ghost use lib.ListN.{getD};
 ghost use Rattle.rules.specs.Scenes.{startsScene};
 ghost use Rattle.scenes.specs.Words.{bitAt};
@@ -55,10 +54,11 @@ pub fn next_start(luma: &[u64; 1600], n: usize, d: u64, b: usize) -> usize
     let mut i = b + 1;
     while i < n {
         let s = figure(luma, 100 + i);
-        if starts_scene(time, (i - b) as u64, s, sum) {
+        let between = sum;
+        sum += s;
+        if starts_scene(time, (i - b) as u64, s, between) {
             return i;
         }
-        sum += s;
         i += 1;
     }
     n

@@ -131,7 +131,7 @@ pub record Fine (r : List ℕ) : Type 0 where
   pub time : 8 ≤ length r → microseconds r ≤ 999999
   pub size : 12 ≤ length r → storedLength r ≤ 65535
 
-shows : (n k place : ℕ) (w : Bool) → place < n → showing n k place w ≡ none → w ≡ false
+pub shows : (n k place : ℕ) (w : Bool) → place < n → showing n k place w ≡ none → w ≡ false
 unfolding showing
 shows n k place w h = go w (lt-ltb place n h)
   where

@@ -1,12 +1,12 @@
 -- The figures of a sample that can be sealed: how large each can be. Each fits its word of the record.
-use Prim.Native.Nat.{ℕ, zero, suc, _+_, _-_, _*_, _%_, _^_, _≤_, _<_, min, max}
+use Prim.Native.Nat.{ℕ, zero, suc, _+_, _-_, _*_, _^_, _≤_, _<_}
 use native.Mathlib.Omega.{arith}
 use native.Mathlib.Nat.{mul-suc}
 use native.Mathlib.Decide.{decLe}
-use mathlib.Core.Path.{_≡_, refl, sym, ap, _∙_}
+use mathlib.Core.Path.{_≡_, refl, sym, _∙_}
 use mathlib.Core.List.{List, [], _∷_, _++_, map, append-nil}
 use mathlib.Core.Bool.{Bool, true, false, _||_, false≢true}
-use lib.ListN.{length, getD, take, drop, length-take}
+use lib.ListN.{length, getD, take, drop, length-append, length-take}
 use lib.Dec.{ltb}
 use lib.Ieee.{binary64}
 use lib.Ieee.Bits.{toBits-lt}
@@ -15,13 +15,13 @@ use borrow.Author.Tests.{ltb-false}
 use Rattle.rules.specs.declared.Opening.{Opening}
 use Rattle.rules.specs.declared.UnitRow.{UnitRow}
 use Rattle.rules.specs.declared.SceneRow.{SceneRow}
-use Rattle.rules.specs.Bytes.{pick, byte, word32, total, greatestOf, leastOf, count}
+use Rattle.rules.specs.Bytes.{pick, byte, total, greatestOf, leastOf, joined}
 use Rattle.rules.specs.Refusals.{Fault, none, fault, _orElse_}
 use Rattle.rules.specs.Opening.{openingFault, columns, lines, pixelCount}
-use Rattle.rules.specs.Frames.{seconds, microseconds, frameTime, frameSize, frames, behindHeader}
+use Rattle.rules.specs.Frames.{seconds, microseconds, storedLength, frameTime, frameSize, frames, behindHeader}
 use Rattle.rules.specs.Packets.{Packet, packetsFrom, packetsOf, packets, kind, isWanted, wantedOf}
-use Rattle.rules.specs.Units.{Arrival, arrivalsAfter, arrivals, before, groups, leastTime, unitOf, unitsOf, beginnings}
-use Rattle.rules.specs.Capture.{wholeFrames, unfinished, wholeWanted, units, captureFault, captureInside}
+use Rattle.rules.specs.Units.{Arrival, arrivalsAfter, arrivals, before, groups, leastTime, unitOf, unitsOf}
+use Rattle.rules.specs.Capture.{wholeFrames, unfinished, allFrames, wholeWanted, units, showing, wrongHeader, wrongFrame, captureFault, captureInside}
 use Rattle.rules.specs.Pictures.{pictureCount, lumaFault}
 use Rattle.rules.specs.Scenes.{span, isTrue, starts, sceneOf, scenesAt, scenesOf}
 use Rattle.rules.specs.Histograms.{histograms}
@@ -34,11 +34,11 @@ use Rattle.rules.proofs.Laws.Histograms.{All, and}
 use Rattle.rules.proofs.Laws.Histograms
 use Rattle.rules.proofs.Laws.Pictures.{Bytes, bytes-take, bytes-drop}
 use Rattle.rules.proofs.Laws.Words.{word32-fits}
-use Rattle.rules.proofs.Laws.Frames.{by-frames, frames-none, frames-one}
+use Rattle.rules.proofs.Laws.Frames.{size-least, by-frames, frames-none, frames-one}
 use Rattle.rules.proofs.Laws.Begins.{only-all, all-append}
-use Rattle.rules.proofs.Laws.Onward.{base, of-none, of-from, layout}
+use Rattle.rules.proofs.Laws.Onward.{base, base-sum, Whole, frames-whole, of-none, of-from, layout}
 use Rattle.rules.proofs.Laws.Flow.{reached, wanted-of, nine-of, few-begin}
-use Rattle.rules.proofs.Laws.Clear.{clear-of, long-of}
+use Rattle.rules.proofs.Laws.Clear.{none-both, clear-of, long-of, shows}
 use Rattle.rules.proofs.Laws.Bounds.{count-few, frame-count-few, skipped-few, bad-few, wanted-few}
 use Rattle.rules.proofs.Laws.Sizes.{good, sizes}
 use Rattle.rules.proofs.Laws.Differences.{reduced-at, scores-most}
@@ -102,18 +102,23 @@ sealable o capture luma n e =
 
 -- ---- units are 750 at most: between frames every packet that shows what it is is whole
 
-neither : (a b : Bool) → a || b ≡ false → b ≡ false
+neither : (a b : Bool) → a || b ≡ false → (a ≡ false) × (b ≡ false)
 neither true b e = absurd (false≢true (sym e))
-neither false b e = e
+neither false b e = (refl, e)
 
 empty : {A : Type 0} (xs : List A) → length xs ≡ 0 → xs ≡ []
 empty [] e = refl
 empty (x ∷ xs) e = absurd (omega arith)
 
+-- neither inside the header nor inside a frame
+header-there : (capture : List ℕ) → captureInside capture ≡ false → 24 ≤ length capture
+unfolding captureInside
+header-there capture e = ltb-false (length capture) 24 (neither (ltb (length capture) 24) (ltb 0 (length (unfinished capture))) e .0)
+
 pub between : (capture : List ℕ) → captureInside capture ≡ false → unfinished capture ≡ []
 unfolding captureInside
 between capture e =
-    let h = ltb-false 0 (length (unfinished capture)) (neither (ltb (length capture) 24) _ e) in
+    let h = ltb-false 0 (length (unfinished capture)) (neither (ltb (length capture) 24) (ltb 0 (length (unfinished capture))) e .1) in
     empty (unfinished capture) (omega arith)
 
 all-reached : (d : ℕ) → 0 < d → d ≤ 188 → (s : List ℕ) → unfinished s ≡ [] → reached d s ≡ packets 24 (wholeFrames s)
@@ -132,28 +137,42 @@ units-most o capture luma h =
     let f = few-begin o (packets 24 (wholeFrames capture)) (rw (all-reached 4 (omega arith) (omega arith) capture e) at n) in
     rw (units-beginnings (wholeWanted o capture), wanted-between o capture e) f
 
--- ---- times: seconds below 2^32 and microseconds below 2^32 are below 2^64 microseconds
+-- ---- times: seconds below 2^32 and microseconds up to 999,999
 
-abbrev lastTime : ℕ
-lastTime = 4294967295 * 1000000 + 4294967295
+abbrev pub lastTime : ℕ
+lastTime = 4294967295 * 1000000 + 999999
 
 byte-small : (s : List ℕ) → Bytes s → (i : ℕ) → byte s i < 256
 byte-small [] h i = omega arith
 byte-small (b ∷ s) (and h hs) zero = h
 byte-small (b ∷ s) (and h hs) (suc i) = byte-small s hs i
 
-frame-time : (f : List ℕ) → Bytes f → frameTime f ≤ lastTime
-unfolding frameTime seconds microseconds
-frame-time f h =
-    let a = word32-fits f 0 (byte-small f h) in
-    let b = word32-fits f 4 (byte-small f h) in
-    omega arith
+frame-time : (f : List ℕ) → Bytes f → microseconds f ≤ 999999 → frameTime f ≤ lastTime
+unfolding frameTime seconds
+frame-time f h g = let a = word32-fits f 0 (byte-small f h) in omega arith
 
 frames-bytes : (s : List ℕ) → Bytes s → All Bytes (frames s)
 frames-bytes =
     by-frames (λ (x : List ℕ). Bytes x → All Bytes (frames x))
     (λ x h b. rw (frames-none x h) Histograms.none)
     (λ x h ih b. rw (frames-one x h) (and (bytes-take (frameSize x) x b) (ih (bytes-drop (frameSize x) x b))))
+
+-- a whole frame with no refusal 7
+header-micro : (n place : ℕ) (f : List ℕ) → place + 16 ≤ n → wrongHeader n place f ≡ none → microseconds f ≤ 999999
+unfolding wrongHeader
+header-micro n place f h e =
+    let b = none-both (showing n 7 (place + 7) (ltb 999999 (microseconds f))) (showing n 8 (place + 11) (ltb 65535 (storedLength f))) e in
+    ltb-false 999999 (microseconds f) (shows n 7 (place + 7) (ltb 999999 (microseconds f)) (omega arith) (b .0))
+
+frames-timed : (n place : ℕ) (fs gs : List (List ℕ)) → All Whole fs → All Bytes fs → place + length (joined fs) ≤ n →
+    wrongFrame n place (fs ++ gs) ≡ none → All (λ (f : List ℕ). frameTime f ≤ lastTime) fs
+unfolding wrongFrame joined
+frames-timed n place [] gs w b h e = Histograms.none
+frames-timed n place (f ∷ fs) gs (and w ws) (and b bs) h e =
+    let x = none-both (wrongHeader n place f) (wrongFrame n (place + length f) (fs ++ gs)) e in
+    let l = length-append f (joined fs) in
+    let k = size-least f in
+    and (frame-time f b (header-micro n place f (omega arith) (x .0))) (frames-timed n (place + length f) fs gs ws bs (omega arith) (x .1))
 
 abbrev Timed : Packet → Type 0
 Timed p = p .time ≤ lastTime
@@ -163,18 +182,23 @@ unfolding packetsFrom
 from-timed zero time place s h = Histograms.none
 from-timed (suc n) time place s h = and h (from-timed n time (place + 188) (drop 188 s) h)
 
-packets-timed : (place : ℕ) (fs : List (List ℕ)) → All Bytes fs → All Timed (packets place fs)
+packets-timed : (place : ℕ) (fs : List (List ℕ)) → All (λ (f : List ℕ). frameTime f ≤ lastTime) fs → All Timed (packets place fs)
 unfolding packets
 packets-timed place [] h = Histograms.none
 packets-timed place (f ∷ fs) (and h hs) =
-    let here : All Timed (packetsOf place f) = rw (of-from place f) (from-timed _ (frameTime f) (place + 58) (drop 58 f) (frame-time f h)) in
+    let here : All Timed (packetsOf place f) = rw (of-from place f) (from-timed _ (frameTime f) (place + 58) (drop 58 f) h) in
     all-append here (packets-timed (place + length f) fs hs)
 
-wanted-timed : (o : Opening) (s : List ℕ) → Bytes s → unfinished s ≡ [] → All Timed (wholeWanted o s)
-unfolding wantedOf wholeFrames behindHeader
-wanted-timed o s h e =
-    rw (wanted-between o s e)
-    (only-all (λ (p : Packet). isWanted (kind o (p .bytes))) (packets-timed 24 (frames (drop 24 s)) (frames-bytes (drop 24 s) (bytes-drop 24 s h))))
+wanted-timed : (o : Opening) (s : List ℕ) → Bytes s → captureFault o s ≡ none → captureInside s ≡ false → All Timed (wholeWanted o s)
+unfolding wantedOf
+wanted-timed o s h c i =
+    let fs = wholeFrames s in
+    let whole-bytes : All Bytes fs = unfold wholeFrames behindHeader in frames-bytes (drop 24 s) (bytes-drop 24 s h) in
+    let room : 24 + length (joined fs) ≤ length s = unfold base in omega (arith, base-sum s (header-there s i)) in
+    let fine : wrongFrame (length s) 24 (fs ++ unfinished s ∷ []) ≡ none = unfold allFrames in clear-of o s c .frames in
+    rw (wanted-between o s (between s i))
+    (only-all (λ (p : Packet). isWanted (kind o (p .bytes)))
+    (packets-timed 24 fs (frames-timed (length s) 24 fs (unfinished s ∷ []) (frames-whole s) whole-bytes room fine)))
 
 -- ---- a unit has a packet, its least time is at most its greatest, and both are times of packets
 
@@ -232,7 +256,7 @@ greatest-most (a ∷ xs) (and h hs) =
 
 pub record UnitRange (n : ℕ) (u : UnitRow) : Type 0 where
   pub ordered : u .least ≤ u .greatest
-  pub time : u .greatest ≤ 4294967295 * 1000000 + 4294967295
+  pub time : u .greatest ≤ 4294967295 * 1000000 + 999999
   pub some : 1 ≤ u .packets
   pub size : u .size ≡ 184 * u .packets
   pub packets : 188 * u .packets ≤ n
@@ -257,7 +281,7 @@ unit-ranges o capture luma h b =
     let few = wanted-few o capture in
     let p : allPackets (map unitOf (groups (arrivals ps))) ≡ length ps = packets-total ps in
     let l : allLost (map unitOf (groups (arrivals ps))) ≤ 14 * length ps = lost-small ps in
-    units-each (length capture) (groups (arrivals ps)) (all-groups (arrivals ps) (all-arrived ps (wanted-timed o capture b (between capture (h .inside))))) (omega arith) (omega arith)
+    units-each (length capture) (groups (arrivals ps)) (all-groups (arrivals ps) (all-arrived ps (wanted-timed o capture b (h .clear) (h .inside)))) (omega arith) (omega arith)
 
 pub unit-fits : {n : ℕ} {u : UnitRow} → n ≤ 268435456 → UnitRange n u → UnitFits u
 unit-fits {n} {u} h r = record { least = omega arith; greatest = omega arith; size = omega arith; packets = omega arith; lost = omega arith }

@@ -1,28 +1,31 @@
 -- The record of a sample that can be sealed is always allowed, and reading it refuses nothing.
 use Prim.Native.Nat.{ℕ, _+_, _*_, _≤_, _<_}
 use native.Mathlib.Omega.{arith}
-use mathlib.Core.Path.{_≡_, refl, sym, ap, _∙_}
+use mathlib.Core.Path.{_≡_, refl, ap, _∙_}
 use mathlib.Core.List.{List, [], _∷_}
-use mathlib.Core.Bool.{Bool, true, false, _&&_}
-use lib.ListN.{length}
-use lib.Dec.{leb, ltb, eqb}
-use borrow.Author.Tests.{le-leb, le-ltb, eq-eqb}
+use mathlib.Core.Bool.{Bool, true, false}
+use lib.ListN.{length, getD}
+use borrow.Author.Tests.{le-leb, lt-ltb, le-ltb, eq-eqb}
 use Rattle.rules.specs.declared.Opening.{Opening}
+use Rattle.rules.specs.declared.Header.{Header}
 use Rattle.rules.specs.declared.UnitRow.{UnitRow}
 use Rattle.rules.specs.declared.SceneRow.{SceneRow}
+use Rattle.rules.specs.declared.HeaderAnswer.the-variants as of-header
+use Rattle.rules.specs.declared.UnitAnswer.the-variants as of-unit
+use Rattle.rules.specs.declared.SceneAnswer.the-variants as of-scene
 use Rattle.rules.specs.Bytes.{pick, within, word32}
-use Rattle.rules.specs.Refusals.{Fault, none, fault}
+use Rattle.rules.specs.Refusals.{none, fault}
 use Rattle.rules.specs.Opening.{goodSize, goodTime, goodPid, openingFault}
 use Rattle.rules.specs.Capture.{units, frameCount, skippedCount}
 use Rattle.rules.specs.Pictures.{pictureCount}
-use Rattle.rules.specs.Record.{recordLength, recordBytes}
-use Rattle.rules.specs.Reading.{allowed, readingFault}
+use Rattle.rules.specs.Record.{recordLength}
+use Rattle.rules.specs.Reading.{headerOf, unitAt, sceneAt, allowed, readingFault, rowFault, unitFault, sceneFault, headerAnswer, unitAnswer, sceneAnswer}
 use Rattle.rules.specs.Seal.{scenes, header, sealed, sealedLength, sealFault}
 use Rattle.rules.proofs.Laws.Pictures.{Bytes}
-use Rattle.rules.proofs.Laws.Record.{Each, length-record}
+use Rattle.rules.proofs.Laws.Record.{Each, Figures, length-record, header-read, unit-read, scene-read}
 use Rattle.rules.proofs.Laws.Allowed.{goodHeader, goodUnit, goodUnits, goodScenes, goodFigures, allowed-figures, record-allowed}
 use Rattle.rules.proofs.Laws.Bounds.{skipped-few}
-use Rattle.rules.proofs.Laws.Scenes.{Joins, scenes-length, pictures-most, sample-joins, sample-few}
+use Rattle.rules.proofs.Laws.Scenes.{Joins, pictures-most, sample-joins, sample-few}
 use Rattle.rules.proofs.Laws.Ranges.{Sealable, sealable, UnitRange, units-most, unit-ranges, figures-fit}
 
 -- ---- the conditions on figures
@@ -103,3 +106,33 @@ sealed-read o capture luma n e bc bl =
     let w = record-allowed r a .header .edition in
     let l : 64 ≤ length r = rw (sealed-length o capture luma) (unfold sealedLength recordLength in omega arith) in
     rw (le-ltb (length r) 64 l, w, a)
+
+-- ---- and reads back as the figures that were sealed
+
+module _ (o : Opening) (capture luma : List ℕ) (n : ℕ) (e : sealFault o capture luma n ≡ none) (bc : Bytes capture) (bl : Bytes luma) where
+  sealed-figures : Figures (header o capture luma) (units o capture) (scenes o luma)
+  sealed-figures = figures-fit o capture luma (sealable o capture luma n e) bc bl
+
+  header-sealed : headerOf (sealed o capture luma) ≡ header o capture luma
+  unfolding sealed
+  header-sealed = header-read (header o capture luma) (units o capture) (scenes o luma) sealed-figures
+
+  pub sealed-header : headerAnswer (sealed o capture luma) ≡ of-header.Given (header o capture luma)
+  unfolding headerAnswer
+  sealed-header = rw (sealed-read o capture luma n e bc bl, header-sealed)
+
+  pub sealed-unit : (j : ℕ) (z : UnitRow) → j < length (units o capture) → unitAnswer (sealed o capture luma) j ≡ of-unit.Given (getD (units o capture) j z)
+  unfolding unitAnswer unitFault rowFault
+  sealed-unit j z h =
+      let u : word32 (sealed o capture luma) 8 ≡ length (units o capture) = unfold headerOf header in ap (λ (x : Header). x .units) header-sealed in
+      let r : unitAt (sealed o capture luma) j ≡ getD (units o capture) j z =
+      unfold sealed in unit-read (header o capture luma) (units o capture) (scenes o luma) sealed-figures j z h in
+      rw (sealed-read o capture luma n e bc bl, u, lt-ltb j (length (units o capture)) h, r)
+
+  pub sealed-scene : (j : ℕ) (z : SceneRow) → j < length (scenes o luma) → sceneAnswer (sealed o capture luma) j ≡ of-scene.Given (getD (scenes o luma) j z)
+  unfolding sceneAnswer sceneFault rowFault
+  sealed-scene j z h =
+      let u : word32 (sealed o capture luma) 16 ≡ length (scenes o luma) = unfold headerOf header in ap (λ (x : Header). x .scenes) header-sealed in
+      let r : sceneAt (sealed o capture luma) j ≡ getD (scenes o luma) j z =
+      unfold sealed in scene-read (header o capture luma) (units o capture) (scenes o luma) sealed-figures j z h in
+      rw (sealed-read o capture luma n e bc bl, u, lt-ltb j (length (scenes o luma)) h, r)

@@ -1,8 +1,6 @@
 -- `scenes::count` meets its contract. The loop's invariant: the scenes counted and those from the start b on are all. The measure is the pictures that are left. Assumes nothing.
-use Prim.Native.Nat.{ℕ, _+_, _-_, _*_, _^_, _≤_, _<_, max}
+use Prim.Native.Nat.{_-_, _≤_}
 use native.Mathlib.Omega.{arith}
-use mathlib.Core.Path.{_≡_, sym, _∙_}
-use mathlib.Core.Logic.{⊎-elim}
 use borrow.Author.Needs.{needs}
 use Rattle.scenes.proofs.Loops.{Tallied, tallied-first, tallied-more, tallied-all}
 use Rattle.scenes.proofs.count.Statement.{statement}

@@ -1,11 +1,9 @@
 -- `scenes::longest` meets its contract. The loop's invariant: the longest run so far, and the longest from here on, with the run that ends here, have the longest of all.
 -- The measure is what is left. Assumes nothing.
-use Prim.Native.Nat.{ℕ, _+_, _-_, _*_, _^_, _≤_, _<_, max}
+use Prim.Native.Nat.{_+_, _-_, _≤_, max}
 use native.Mathlib.Omega.{arith}
 use mathlib.Core.Path.{_≡_, sym, _∙_}
 use mathlib.Core.Logic.{⊎-elim}
-use borrow.Author.Needs.{needs}
-use Rattle.scenes.specs.Words.{bitAt}
 use Rattle.scenes.proofs.Loops.{Longest, longest-on, longest-off, longest-all}
 use Rattle.scenes.proofs.longest.Statement.{statement}
 use Rattle.scenes.proofs.longest.Tie as tie

@@ -1,8 +1,7 @@
 -- `scenes::next_start` meets its contract. The loop's invariant: no start before picture i, and the sum of the scores since b. The measure is what is left. Assumes nothing.
-use Prim.Native.Nat.{ℕ, _+_, _-_, _*_, _^_, _≤_, _<_, max}
+use Prim.Native.Nat.{_-_, _*_, _≤_, _<_}
 use native.Mathlib.Omega.{arith}
-use mathlib.Core.Path.{_≡_, refl, sym, _∙_}
-use mathlib.Core.Logic.{⊎-elim}
+use mathlib.Core.Path.{refl, sym, _∙_}
 use Rattle.scenes.proofs.Loops.{Seeks, seeks-first, seeks-more, seeks-found, seeks-none}
 use Rattle.scenes.proofs.next_start.Statement.{statement}
 use Rattle.scenes.proofs.next_start.Tie as tie
@@ -31,6 +30,9 @@ add-figure c = omega arith
 figure-requires : tie.Need-figure-requires Inv-loop μ-loop
 figure-requires c κs = omega arith
 
+add-sum : tie.Need-add-sum Inv-loop μ-loop
+add-sum c = omega arith
+
 sub-starts-scene : tie.Need-sub-starts-scene Inv-loop μ-loop
 sub-starts-scene c = omega arith
 
@@ -42,9 +44,6 @@ returns-3 c =
     let a = c .before .before .before .before .before .before .before .args in
     let l = c .before .before .before .before .loop in
     seeks-found (a .luma .now) (a .n) (a .d) (a .b) (l .sum) (l .i) (l .inv .3) (l .inv .0) (c .before .before .figure .result) _ (c .before .before .figure .ensures) refl (c .before .before .before .loop-test .taken) (sym (c .if3 .taken) ∙ c .before .starts-scene .ensures)
-
-add-sum : tie.Need-add-sum Inv-loop μ-loop
-add-sum c = omega arith
 
 add-i-2 : tie.Need-add-i-2 Inv-loop μ-loop
 add-i-2 c = omega arith
@@ -76,10 +75,10 @@ next-start-spec =
     loop-holds
     add-figure
     figure-requires
+    add-sum
     sub-starts-scene
     starts-scene-requires
     returns-3
-    add-sum
     add-i-2
     loop-less
     loop-again

@@ -1,8 +1,6 @@
 -- `scenes::repeated` meets its contract. The loop's invariant: those found and those still to come are all. The measure is what is left. Assumes nothing.
-use Prim.Native.Nat.{ℕ, _+_, _-_, _*_, _^_, _≤_, _<_, max}
+use Prim.Native.Nat.{_-_, _≤_}
 use native.Mathlib.Omega.{arith}
-use mathlib.Core.Path.{_≡_}
-use mathlib.Core.Logic.{⊎-elim}
 use Rattle.scenes.proofs.Loops.{Counted, counted-more, counted-all, bit-small}
 use Rattle.scenes.proofs.repeated.Statement.{statement}
 use Rattle.scenes.proofs.repeated.Tie as tie

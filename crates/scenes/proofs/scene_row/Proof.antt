@@ -1,6 +1,5 @@
 -- `scenes::scene_row` meets its contract. Assumes nothing.
 use native.Mathlib.Omega.{arith}
-use mathlib.Core.Path.{_≡_, refl, sym, ap, _∙_}
 use Rattle.scenes.proofs.Loops.{row-is}
 use borrow.Author.Needs.{needs}
 use Rattle.scenes.proofs.scene_row.Statement.{statement}

@@ -1,8 +1,6 @@
 -- `scenes::total` meets its contract. The loop's invariant: the sum and the figures still to come are all figures. The measure is what is left. Assumes nothing.
-use Prim.Native.Nat.{ℕ, _+_, _-_, _*_, _^_, _≤_, _<_, max}
+use Prim.Native.Nat.{_-_, _*_, _≤_}
 use native.Mathlib.Omega.{arith}
-use mathlib.Core.Path.{_≡_}
-use mathlib.Core.Logic.{⊎-elim}
 use Rattle.scenes.proofs.Loops.{Summed, summed-more, summed-all}
 use Rattle.scenes.proofs.total.Statement.{statement}
 use Rattle.scenes.proofs.total.Tie as tie
