@@ -1,23 +1,22 @@
 -- The end of a block row. No code.
 use Prim.Native.Nat.{ℕ, zero, suc, _+_, _-_, _*_, _/_, _%_, _^_, _≤_, _<_, min}
 use native.Mathlib.Omega.{arith}
-use native.Mathlib.Nat.{add-zero, add-mul, mul-add, mul-comm, mul-le-mul, mul-le-mul-right, suc-mul, add-suc, mul-pos, mod-eq-of-lt, div-div-eq-div-mul, le-div-iff-mul-le, div-lt-iff-lt-mul, div-mul-le-self, lt-div-mul-add, le-trans}
+use native.Mathlib.Nat.{add-zero, add-mul, mul-le-mul, mul-le-mul-right, suc-mul, add-suc, mul-pos, mod-eq-of-lt, div-lt-iff-lt-mul, div-mul-le-self, lt-div-mul-add}
 use mathlib.Core.Path.{_≡_, refl, sym, ap, _∙_}
 use mathlib.Core.Bool.{Bool, true, false}
-use mathlib.Core.List.{List, [], _∷_, _++_, append-nil, append-assoc}
-use lib.ListN.{length, getD, take, drop, set, length-append, length-drop, length-set, take-append-drop, List·getD-eq-default}
+use mathlib.Core.List.{List, [], _∷_, _++_}
+use lib.ListN.{length, getD, take, drop, set, length-drop, length-set, take-append-drop}
 use lib.Dec.{eqb}
-use lib.Seq.{take-add, length-take-le, getD-take, getD-drop, getD-set-same, getD-set-other}
+use lib.Seq.{length-take-le, getD-set-same, getD-set-other}
 use borrow.Author.Count.{below-more}
-use borrow.Author.Tests.{eq-eqb, ne-eqb, eqb-true, eqb-false}
+use borrow.Author.Tests.{eqb-true}
 use Rattle.rules.specs.Bytes.{pick, tally}
 use Rattle.rules.proofs.Laws.Histograms.{none, and}
 use Rattle.rules.proofs.Laws.Pictures.{Bytes, bytes-take, bytes-drop}
 use Rattle.rules.proofs.Laws.Tally.{tally-append}
 use Rattle.rules.proofs.Laws.Blocks.{inBlock, blockTally, earlier, settled}
 use Rattle.blocks.specs.Sums.{inColumn}
-use Rattle.blocks.specs.Rows.{SumsOf}
-use Rattle.blocks.specs.Pixels.{RowsOf, Finished, RowDone}
+use Rattle.blocks.specs.Pixels.{Finished, RowDone}
 use Rattle.blocks.proofs.Rows.{bridge}
 
 -- a run of a row gives a block column at most 255 a column of it that is not passed

@@ -1,12 +1,12 @@
 -- From the runs of a row to the block sums of a picture. No code.
-use Prim.Native.Nat.{ℕ, zero, suc, _+_, _-_, _*_, _/_, _%_, _^_, _≤_, _<_}
+use Prim.Native.Nat.{ℕ, _+_, _-_, _*_, _/_, _%_, _≤_, _<_}
 use native.Mathlib.Omega.{arith}
-use native.Mathlib.Nat.{add-zero, add-mul, mul-comm, mod-eq-of-lt, mul-add-mod-self-right, div-div-eq-div-mul, le-div-iff-mul-le, div-lt-iff-lt-mul}
-use mathlib.Core.Path.{_≡_, refl, sym, ap, _∙_}
-use mathlib.Core.List.{List, [], _∷_, _++_, append-nil, append-assoc}
-use lib.ListN.{length, getD, take, drop, length-append}
+use native.Mathlib.Nat.{add-mul, mod-eq-of-lt, mul-add-mod-self-right}
+use mathlib.Core.Path.{_≡_, refl, ap, _∙_}
+use mathlib.Core.List.{List, _++_, append-nil, append-assoc}
+use lib.ListN.{length, take, length-append}
 use lib.Seq.{take-add, length-take-le}
-use borrow.Author.Tests.{eq-eqb, ne-eqb}
+use borrow.Author.Tests.{eq-eqb}
 use Rattle.blocks.specs.declared.Spot.{Spot}
 use Rattle.rules.specs.Bytes.{tally}
 use Rattle.rules.proofs.Laws.Tally.{tally-append, tally-shift}

@@ -1,11 +1,11 @@
 -- Runs of a row: what a part of a run that lies in one block column adds. No code.
-use Prim.Native.Nat.{ℕ, zero, suc, _+_, _-_, _*_, _/_, _%_, _^_, _≤_, _<_}
+use Prim.Native.Nat.{ℕ, _+_, _-_, _*_, _/_, _%_, _^_, _≤_, _<_}
 use native.Mathlib.Omega.{arith}
 use native.Mathlib.Nat.{add-zero, add-mul, zero-mul, div-eq-of-lt-le, le-div-iff-mul-le, mul-le-mul-right, div-mul-le-self}
-use mathlib.Core.Path.{_≡_, refl, sym, ap, _∙_}
+use mathlib.Core.Path.{_≡_, refl, sym, _∙_}
 use mathlib.Core.Bool.{Bool, true, false}
-use mathlib.Core.List.{List, [], _∷_, _++_}
-use lib.ListN.{length, getD, take, drop, set, length-drop, length-set}
+use mathlib.Core.List.{List, [], _++_}
+use lib.ListN.{length, getD, drop, set, length-drop, length-set}
 use lib.Dec.{eqb}
 use lib.Seq.{take-add, drop-drop, length-take-le, getD-set-same, getD-set-other}
 use borrow.Author.Tests.{eq-eqb, ne-eqb, eqb-true, eqb-false}

@@ -1,2 +1,4 @@
 -- The laws that the functions' proofs stand on, one file a chapter.
+pub mod Products
+pub mod Roots
 pub mod Sizes

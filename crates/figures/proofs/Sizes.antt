@@ -1,11 +1,11 @@
 -- Opening: the level and the sizes that follow from it, of any height and width, and their bounds where the opening is not refused.
-use Prim.Native.Nat.{ℕ, zero, suc, _+_, _*_, _/_, _%_, _^_, _≤_, _<_}
+use Prim.Native.Nat.{ℕ, zero, suc, _*_, _/_, _%_, _^_, _≤_, _<_}
 use native.Mathlib.Omega.{arith}
-use native.Mathlib.Nat.{pow-zero, pow-suc, div-one, mul-le-mul, le-trans, le-refl, lt-of-not-le, mul-mul-mul-comm, one-mul, div-lt-iff-lt-mul, le-div-iff-mul-le}
+use native.Mathlib.Nat.{pow-suc, div-one, mul-le-mul, le-refl, lt-of-not-le, mul-mul-mul-comm, one-mul, div-lt-iff-lt-mul, le-div-iff-mul-le}
 use native.Mathlib.Decide.{decLe}
-use mathlib.Core.Path.{_≡_, refl, sym, ap, _∙_}
+use mathlib.Core.Path.{_≡_, refl, _∙_}
 use mathlib.Core.Bool.{Bool, true, false, _&&_}
-use lib.Pow.{pow-pos, pow-mono, shl-exact}
+use lib.Pow.{pow-pos, shl-exact}
 use borrow.Author.Tests.{le-leb, lt-leb, leb-true}
 use Rattle.rules.specs.Bytes.{pick}
 use Rattle.rules.specs.declared.Opening.{Opening}

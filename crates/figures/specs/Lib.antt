@@ -1,3 +1,4 @@
 -- What the functions promise, where that is more than one equation.
 pub mod Units
+pub mod Changes
 pub mod Opening

@@ -1,8 +1,16 @@
 // The figures of document 01, each from plain numbers: what the engines, the seal and the reader are made of.
+mod changes;
+mod numbers;
 pub mod opening;
+mod scenes;
 mod units;
 
+pub use changes::change;
+pub use numbers::apart;
+pub use numbers::smaller;
+pub use numbers::wide;
 pub use opening::Sizes;
 pub use opening::opening_fault;
 pub use opening::sizes_of;
+pub use scenes::starts_scene;
 pub use units::gap_loss;

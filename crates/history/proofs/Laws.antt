@@ -1,13 +1,13 @@
 -- A picture more.
 use Prim.Native.Nat.{ℕ, zero, suc, _+_, _-_, _*_, _/_, _%_, _^_, _≤_, _<_}
 use native.Mathlib.Omega.{arith}
-use native.Mathlib.Nat.{suc-mul, add-zero, pow-suc, zero-div, div-one, lt-of-not-le, mul-left-comm, mul-comm, div-eq-of-lt-le, div-div-eq-div-mul, add-mul}
+use native.Mathlib.Nat.{suc-mul, zero-mul, pow-le-pow-right, add-zero, pow-suc, zero-div, div-one, lt-of-not-le, mul-left-comm, mul-comm, div-eq-of-lt-le, div-div-eq-div-mul, add-mul}
 use native.Mathlib.Decide.{decLe, ℕ-discrete}
 use mathlib.Core.Path.{_≡_, refl, sym, ap, _∙_}
 use mathlib.Core.List.{List, [], _∷_, _++_, map, append-nil, append-assoc}
 use mathlib.Core.Bool.{Bool, true, false, not, _&&_}
 use lib.ListN.{length, getD, take, drop, length-append, length-drop, length-take, length-map, List·getD-append, List·getD-eq-default}
-use lib.Seq.{getD-take, getD-drop, take-all, take-append-le, drop-append-le, getD-append-seam, drop-nil, take-nil, length-take-le}
+use lib.Seq.{drop-drop, getD-take, getD-drop, take-all, take-append-le, drop-append-le, getD-append-seam, drop-nil, take-nil, length-take-le}
 use lib.Dec.{leb, ltb}
 use borrow.Author.Tests.{le-leb, lt-leb, lt-ltb, le-ltb}
 use Rattle.rules.specs.declared.Opening.{Opening}
@@ -19,7 +19,7 @@ use Rattle.rules.specs.Cuts.{at, leastOfSix, cutScore}
 use Rattle.rules.specs.Changes.{same, change, repeats, repeatsAfter, changes, changesAfter}
 use Rattle.rules.specs.Seal.{reduced}
 use Rattle.rules.proofs.Laws.Lists.{count-append}
-use Rattle.history.specs.Past.{lastFrom, previous, nextChange, nextRepeat, ones, mapWord}
+use Rattle.history.specs.Past.{lastFrom, previous, nextChange, nextRepeat, nextScore, ones, mapWord}
 
 -- ---- lists of one more
 
@@ -60,6 +60,14 @@ unfolding parts
 length-parts zero m s = refl
 length-parts (suc n) m s = ap suc (length-parts n m (drop m s))
 
+pub part-at : (n m j : ℕ) (s : List ℕ) → j < n → getD (parts n m s) j [] ≡ take m (drop (j * m) s)
+unfolding parts
+part-at zero m j s h = absurd (omega arith)
+part-at (suc n) m zero s h = rw (zero-mul m)
+part-at (suc n) m (suc j) s h =
+    let e : m + j * m ≡ suc j * m = omega (arith, suc-mul j m) in
+    part-at n m j (drop m s) (omega arith) ∙ ap (λ (x : List ℕ). take m x) (drop-drop (j * m) m s ∙ ap (λ (k : ℕ). drop k s) e)
+
 -- ---- the whole pictures of a string of whole pictures and a rest
 
 pub count-whole : (o : Opening) (n : ℕ) (whole cur : List ℕ) → openingFault o ≡ none → length whole ≡ n * pictureSize o → length cur < pictureSize o → n ≤ 750 →
@@ -84,9 +92,10 @@ pub reduced-whole : (o : Opening) (n : ℕ) (whole cur : List ℕ) → openingFa
 unfolding reduced pictures
 reduced-whole o n whole cur f e k h = rw (count-whole o n whole cur f e k h, parts-append n (pictureSize o) whole cur e)
 
-map-append : (f : List ℕ → List ℕ) (xs ys : List (List ℕ)) → map f (xs ++ ys) ≡ map f xs ++ map f ys
-map-append f [] ys = refl
-map-append f (x ∷ xs) ys = ap (λ (z : List (List ℕ)). f x ∷ z) (map-append f xs ys)
+module _ {A B : Type 0} where
+  pub map-append : (f : A → B) (xs ys : List A) → map f (xs ++ ys) ≡ map f xs ++ map f ys
+  map-append f [] ys = refl
+  map-append f (x ∷ xs) ys = ap (λ (z : List B). f x ∷ z) (map-append f xs ys)
 
 pub reduced-more : (o : Opening) (n : ℕ) (whole cur : List ℕ) → length whole ≡ n * pictureSize o → length cur ≡ pictureSize o →
     map (pixels o) (parts (n + 1) (pictureSize o) (whole ++ cur)) ≡ map (pixels o) (parts n (pictureSize o) whole) ++ pixels o cur ∷ []
@@ -122,10 +131,10 @@ score-other hs x i h = go (decLe 2 i) (decLe (i + 3) (length hs))
         rw (le-leb 2 i g, le-ltb (i + 2) (length (hs ++ x ∷ [])) (omega (arith, more)), le-ltb (i + 2) (length hs) (omega arith))
 
 -- the one that a picture more settles
-pub score-next : (hs : List (List (List ℕ))) (x : List (List ℕ)) (i : ℕ) → 2 ≤ i → i + 2 ≡ length hs →
+score-six : (hs : List (List (List ℕ))) (x : List (List ℕ)) (i : ℕ) → 2 ≤ i → i + 2 ≡ length hs →
     cutScore (hs ++ x ∷ []) i ≡ leastOfSix (at hs (i - 2)) (at hs (i - 1)) (at hs i) (at hs (i + 1)) x
 unfolding cutScore
-score-next hs x i g e =
+score-six hs x i g e =
     let more : length (hs ++ x ∷ []) ≡ length hs + 1 = length-append hs (x ∷ []) in
     rw (
       le-leb 2 i g,
@@ -138,6 +147,36 @@ score-next hs x i g e =
       getD-last hs x [],
     )
 
+next-six : (hs : List (List (List ℕ))) (x : List (List ℕ)) (i : ℕ) → 2 ≤ i → i + 2 ≡ length hs →
+    nextScore hs x ≡ leastOfSix (at hs (i - 2)) (at hs (i - 1)) (at hs i) (at hs (i + 1)) x
+unfolding nextScore
+next-six hs x i g e =
+    let a : length hs - 4 ≡ i - 2 = omega arith in
+    let b : length hs - 3 ≡ i - 1 = omega arith in
+    let c : length hs - 2 ≡ i = omega arith in
+    let d : length hs - 1 ≡ i + 1 = omega arith in
+    rw (le-leb 4 (length hs) (omega arith), a, b, c, d)
+
+score-none : (hs : List (List (List ℕ))) (i : ℕ) → i < 2 → cutScore hs i ≡ 0
+unfolding cutScore
+score-none hs i h = rw (lt-leb 2 i h)
+
+pub next-some : (hs : List (List (List ℕ))) (x : List (List ℕ)) → 4 ≤ length hs →
+    nextScore hs x ≡ leastOfSix (at hs (length hs - 4)) (at hs (length hs - 3)) (at hs (length hs - 2)) (at hs (length hs - 1)) x
+unfolding nextScore
+next-some hs x h = rw (le-leb 4 (length hs) h)
+
+pub next-none : (hs : List (List (List ℕ))) (x : List (List ℕ)) → length hs < 4 → nextScore hs x ≡ 0
+unfolding nextScore
+next-none hs x h = rw (lt-leb 4 (length hs) h)
+
+pub score-next : (hs : List (List (List ℕ))) (x : List (List ℕ)) (i : ℕ) → i + 2 ≡ length hs → cutScore (hs ++ x ∷ []) i ≡ nextScore hs x
+score-next hs x i e = go (decLe 2 i)
+  where
+    go : Dec (2 ≤ i) → cutScore (hs ++ x ∷ []) i ≡ nextScore hs x
+    go (no g) = score-none (hs ++ x ∷ []) i (lt-of-not-le g) ∙ sym (next-none hs x (omega (arith, lt-of-not-le g)))
+    go (yes g) = score-six hs x i g e ∙ sym (next-six hs x i g e)
+
 -- ---- repeats and changes
 
 after-last : (b : List ℕ) (pxs : List (List ℕ)) (px : List ℕ) → lastFrom b (pxs ++ px ∷ []) ≡ px
@@ -148,6 +187,16 @@ after-last b (p ∷ pxs) px = after-last p pxs px
 pub previous-more : (pxs : List (List ℕ)) (px : List ℕ) → previous (pxs ++ px ∷ []) ≡ px
 unfolding previous
 previous-more pxs px = after-last [] pxs px
+
+at-last : (b : List ℕ) (pxs : List (List ℕ)) → lastFrom b pxs ≡ getD (b ∷ pxs) (length pxs) []
+unfolding lastFrom
+at-last b [] = refl
+at-last b (p ∷ pxs) = at-last p pxs
+
+pub previous-at : (pxs : List (List ℕ)) → 0 < length pxs → previous pxs ≡ getD pxs (length pxs - 1) []
+unfolding previous lastFrom
+previous-at [] h = absurd (omega arith)
+previous-at (p ∷ pxs) h = let e : suc (length pxs) - 1 ≡ length pxs = omega arith in rw e (at-last p pxs)
 
 repeats-after : (b : List ℕ) (pxs : List (List ℕ)) (px : List ℕ) → repeatsAfter b (pxs ++ px ∷ []) ≡ repeatsAfter b pxs ++ same (lastFrom b pxs) px ∷ []
 unfolding repeatsAfter lastFrom
@@ -271,3 +320,21 @@ count-most test (b ∷ bs) = go (test b) (count-most test bs)
     go : (c : Bool) → count test bs ≤ length bs → pick c 1 0 + count test bs ≤ suc (length bs)
     go true h = omega arith
     go false h = omega arith
+
+-- a word is one
+ones-small : (bs : List Bool) → ones bs < 2 ^ length bs
+unfolding ones
+ones-small [] = omega arith
+ones-small (b ∷ bs) = go b (ones-small bs)
+  where
+    go : (c : Bool) → ones bs < 2 ^ length bs → pick c 1 0 + 2 * ones bs < 2 ^ suc (length bs)
+    go true h = rw (pow-suc 2 (length bs)) (omega arith)
+    go false h = rw (pow-suc 2 (length bs)) (omega arith)
+
+pub word-small : (bs : List Bool) (j : ℕ) → mapWord bs j < 2 ^ 64
+unfolding mapWord
+word-small bs j =
+    let xs = take 64 (drop (64 * j) bs) in
+    let few : length xs ≤ 64 = simp length-take (omega arith) in
+    let two : 0 < 2 = omega arith in
+    omega (arith, ones-small xs, pow-le-pow-right two few)

@@ -1,7 +1,6 @@
 // What moves from one reduced picture to the next: the sums of the pixels' differences, up and down, and of their squares.
 ghost use mathlib.Core.Path.{_≡_};
-ghost use mathlib.Core.List.{[]};
-ghost use Prim.Native.Nat.{ℕ, _-_, _≤_};
+ghost use Prim.Native.Nat.{_-_, _≤_};
 ghost use Rattle.moves.specs.Figures.{Started, Moved, Paired, Compared};
 
 pub struct Moves {

@@ -1,22 +1,22 @@
 -- Counting: nothing but a picture's own bins changes, and they stand for a pixel more. No code.
-use Prim.Native.Nat.{ℕ, zero, suc, _+_, _-_, _*_, _/_, _%_, _^_, _≤_, _<_}
+use Prim.Native.Nat.{ℕ, _+_, _-_, _*_, _%_, _^_, _≤_, _<_}
 use native.Mathlib.Omega.{arith}
 use native.Mathlib.Numerals.{add-one}
-use native.Mathlib.Nat.{add-zero, add-mul, mod-eq-of-lt, mul-add-mod-self-right, div-lt-iff-lt-mul, mod-lt}
 use mathlib.Core.Path.{_≡_, refl, sym, ap, _∙_}
 use mathlib.Core.Bool.{Bool, true, false}
 use mathlib.Core.List.{List, [], _∷_, _++_, append-nil, append-assoc}
-use lib.ListN.{length, getD, take, drop, set, length-append, length-drop, length-set}
+use lib.ListN.{length, getD, drop, set, length-append, length-drop, length-set}
 use lib.Dec.{eqb}
 use lib.Seq.{take-suc, getD-drop, getD-set-same, getD-set-other}
 use borrow.Author.Count.{below-more}
 use mathlib.Core.Logic.{_⊎_, inl, inr}
-use borrow.Author.Tests.{eq-eqb, ne-eqb, eqb-true, eqb-false}
+use borrow.Author.Tests.{eqb-true, eqb-false}
 use Rattle.rules.specs.Bytes.{tally}
 use Rattle.rules.specs.Histograms.{third, tileAt, bin}
 use Rattle.rules.proofs.Laws.Tiles.{hits, binTally, bin-more}
+use Rattle.rules.proofs.Laws.Thirds.{tile-of}
 use Rattle.blocks.specs.Sums.{run}
-use Rattle.blocks.proofs.Runs.{column, run-length}
+use Rattle.blocks.proofs.Runs.{run-length}
 use Rattle.tiles.specs.Bins.{Counts, Kept, Cleared, Counted, CountedRow}
 
 pub kept-none : (base : ℕ) (a : List ℕ) → Kept base a a
@@ -71,14 +71,6 @@ counted base v t k x {a} hs ht hk e =
             getD-set-other a (base + (16 * t + k)) (base + (16 * u + b)) x 0
             (λ m. let same : t ≡ u = omega arith in eqb-false (tileAt w h (length p)) u y (sym place ∙ same)) in
             omega (arith, bin-more w h u b v p, s .each u b hu hb)
-
--- the tile of column c of row r
-pub tile-of : (w h r c : ℕ) → c < w → tileAt w h (r * w + c) ≡ 3 * third h r + third w c
-unfolding tileAt
-tile-of w h r c k =
-    let row : (r * w + c) / w ≡ r = column w r (r * w + c) (omega arith) (omega arith) in
-    let col : (r * w + c) % w ≡ c = mul-add-mod-self-right r w c ∙ mod-eq-of-lt k in
-    rw (row, col) refl
 
 pub row-none : (w h r base : ℕ) (pixels a : List ℕ) → CountedRow w h r base 0 pixels a a
 row-none w h r base pixels a = record { kept = kept-none base a; more = λ p e s. rw append-nil s }

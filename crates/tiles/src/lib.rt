@@ -1,6 +1,6 @@
 // The histograms of a reduced picture: 16 bins for each of nine tiles. Five pictures' counts, 144 each, lie in one array, as a ring.
 ghost use mathlib.Core.Path.{_≡_};
-ghost use Prim.Native.Nat.{ℕ, _+_, _*_, _≤_, _<_};
+ghost use Prim.Native.Nat.{_+_, _*_, _≤_, _<_};
 ghost use Rattle.rules.specs.Histograms.{third, bin};
 ghost use Rattle.tiles.specs.Bins.{Cleared, Counted, CountedRow, Row};
 

@@ -6,7 +6,7 @@ use native.Mathlib.Nat.{mul-comm, mul-zero, one-le-pow, eq-zero-or-pos, mod-lt, 
 use mathlib.Core.Path.{_≡_, refl, sym, ap, _∙_}
 use mathlib.Core.Logic.{_⊎_, inl, inr}
 use mathlib.Core.Bool.{Bool, true, false}
-use mathlib.Core.List.{List, [], _∷_, _++_, map}
+use mathlib.Core.List.{List, _++_, map}
 use lib.ListN.{length, getD, take, drop, length-take}
 use lib.Seq.{drop-drop, take-all, length-take-le, getD-take, ext-getD}
 use lib.Dec.{eqb}

@@ -1,5 +1,5 @@
 -- Differences and cut scores are at most 1,000,000.
-use Prim.Native.Nat.{ℕ, zero, suc, _+_, _-_, _*_, _/_, _≤_, _<_}
+use Prim.Native.Nat.{ℕ, zero, suc, _+_, _-_, _*_, _≤_, _<_}
 use native.Mathlib.Omega.{arith}
 use native.Mathlib.Nat.{div-le-of-le-mul, lt-of-not-le}
 use native.Mathlib.Decide.{decLe}
@@ -10,7 +10,7 @@ use mathlib.Core.List.{List, [], _∷_, map}
 use lib.ListN.{length, getD, length-map, List·getD-eq-default}
 use lib.Dec.{leb, ltb}
 use Rattle.rules.specs.declared.Opening.{Opening}
-use Rattle.rules.specs.Bytes.{pick, total, apart, smaller, parts, table}
+use Rattle.rules.specs.Bytes.{pick, total, smaller, parts}
 use Rattle.rules.specs.Opening.{columns, lines}
 use Rattle.rules.specs.Pictures.{pictureSize, pictureCount, pictures, pixels}
 use Rattle.rules.specs.Histograms.{inTile, histogram, histograms}

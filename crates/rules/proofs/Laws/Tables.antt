@@ -1,5 +1,5 @@
 -- What stands at a place of a table, and of tables' lines joined.
-use Prim.Native.Nat.{ℕ, zero, suc, _+_, _*_, _≤_, _<_}
+use Prim.Native.Nat.{ℕ, zero, suc, _+_, _*_, _<_}
 use native.Mathlib.Omega.{arith}
 use native.Mathlib.Nat.{add-zero, suc-mul, zero-mul, zero-add}
 use mathlib.Core.Path.{_≡_, refl, ap, _∙_}
@@ -16,6 +16,12 @@ module _ {ℓ} {A : Type ℓ} where
   getD-table (suc n) from f (suc i) d h =
       let e : suc from + i ≡ from + suc i = omega arith in
       getD-table n (suc from) f i d (omega arith) ∙ ap f e
+
+  -- tables of equal entries are equal
+  pub same-table : (n from : ℕ) (f g : ℕ → A) → ((i : ℕ) → i < from + n → f i ≡ g i) → table n from f ≡ table n from g
+  unfolding table
+  same-table zero from f g e = refl
+  same-table (suc n) from f g e = cc (e from (omega arith), same-table n (suc from) f g (λ i h. e i (omega arith)))
 
   -- n lines of m each, joined: column c of line r stands at r × m + c
   pub getD-lines : (n from m : ℕ) (f : ℕ → List A) (r c : ℕ) (d : A) → ((i : ℕ) → length (f i) ≡ m) → r < n → c < m →

@@ -12,7 +12,7 @@ use Rattle.rules.specs.declared.Opening.{Opening}
 use Rattle.rules.specs.Bytes.{pick, total, count, tally, table}
 use Rattle.rules.specs.Opening.{columns, lines}
 use Rattle.rules.specs.Histograms.{tileAt, bin, inTileFrom, inTile, inBin, histogram, histograms}
-use Rattle.rules.proofs.Laws.Tables.{getD-table}
+use Rattle.rules.proofs.Laws.Tables.{getD-table, same-table}
 use Rattle.rules.proofs.Laws.Tally.{tally-append, tally-most, tally-places}
 use Rattle.rules.proofs.Laws.Histograms.{All, bin-small, tile-small, bins-total, in-tile}
 
@@ -117,6 +117,13 @@ histograms-at o px t b ht hb =
     ∙ ap (λ (u : ℕ). inBin (inTile o u px) (0 + b)) (zero-add t)
     ∙ ap (λ (c : ℕ). inBin (inTile o t px) c) (zero-add b)
     ∙ in-bin (columns o) (lines o) t b 0 px
+
+-- all of them
+pub histograms-are : (o : Opening) (px : List ℕ) → histograms o px ≡ table 9 0 (λ t. table 16 0 (λ b. binTally (columns o) (lines o) t b px))
+unfolding histograms histogram inBin inTile
+histograms-are o px =
+    same-table 9 0 (λ t. histogram (inTile o t px)) (λ t. table 16 0 (λ b. binTally (columns o) (lines o) t b px))
+    (λ t ht. same-table 16 0 (inBin (inTile o t px)) (λ b. binTally (columns o) (lines o) t b px) (λ b hb. in-bin (columns o) (lines o) t b 0 px))
 
 -- ---- a tile's pixels
 

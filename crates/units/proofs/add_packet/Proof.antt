@@ -1,3 +1,4 @@
+-- `add_packet` meets its contract: the first packet and those with a start mark begin a unit, any other joins the last.
 use borrow.Author.Needs.{needs}
 use Rattle.units.proofs.add_packet.Statement.{statement}
 use Rattle.units.proofs.add_packet.Tie as tie

@@ -1,3 +1,4 @@
+-- `begin` meets its contract: a row more, where there is room.
 use mathlib.Core.Path.{refl}
 use native.Mathlib.Omega.{arith}
 use Rattle.units.proofs.Rows.{set-kept}

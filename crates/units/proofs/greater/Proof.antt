@@ -1,3 +1,4 @@
+-- `greater` meets its contract: the rule's test comes out as the code's does.
 use borrow.Author.Tests.{le-leb, lt-leb}
 use Rattle.units.proofs.greater.Statement.{statement}
 use Rattle.units.proofs.greater.Tie as tie

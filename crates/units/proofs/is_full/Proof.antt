@@ -1,3 +1,4 @@
+-- `is_full` meets its contract: one packet more is at most one unit more.
 use Rattle.units.proofs.Steps.{room, full}
 use Rattle.units.proofs.is_full.Statement.{statement}
 use Rattle.units.proofs.is_full.Tie as tie

@@ -1,3 +1,4 @@
+-- `join` meets its contract: the last row changed.
 use mathlib.Core.Path.{refl}
 use native.Mathlib.Omega.{arith}
 use Rattle.units.proofs.Rows.{set-kept}

@@ -1,3 +1,4 @@
+-- `joined` meets its contract, by what its parts gave.
 use borrow.Author.Needs.{needs}
 use Rattle.units.proofs.joined.Statement.{statement}
 use Rattle.units.proofs.joined.Tie as tie

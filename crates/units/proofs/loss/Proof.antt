@@ -1,3 +1,4 @@
+-- `loss` meets its contract: the rule's test comes out as the code's does.
 use borrow.Author.Tests.{eq-eqb, ne-eqb}
 use borrow.Author.Needs.{needs}
 use Rattle.units.proofs.loss.Statement.{statement}

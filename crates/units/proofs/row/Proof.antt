@@ -1,3 +1,4 @@
+-- `row` meets its contract: of so few packets every figure fits 32 bits.
 use native.Mathlib.Omega.{arith}
 use Rattle.units.proofs.Steps.{row-is}
 use borrow.Author.Needs.{needs}

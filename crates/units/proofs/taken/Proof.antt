@@ -1,3 +1,4 @@
+-- `taken` meets its contract, by what its parts gave.
 use borrow.Author.Needs.{needs}
 use Rattle.units.proofs.taken.Statement.{statement}
 use Rattle.units.proofs.taken.Tie as tie

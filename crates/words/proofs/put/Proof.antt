@@ -1,11 +1,10 @@
 -- `put` meets its contract. The loop's invariant: what is left to store, stored, gives what storing all bytes gives.
-use Prim.Native.Nat.{ℕ, suc, _+_, _-_, _/_, _%_, _≤_}
+use Prim.Native.Nat.{_+_, _-_, _≤_}
 use native.Mathlib.Nat.{add-zero, sub-zero}
 use native.Mathlib.Omega.{arith}
-use mathlib.Core.Path.{_≡_, refl, sym, ap, subst, _∙_}
-use mathlib.Core.List.{List}
-use lib.ListN.{length, set, length-set}
-use lib.Seq.{sets, length-sets}
+use mathlib.Core.Path.{_≡_, refl, _∙_}
+use lib.ListN.{length, length-set}
+use lib.Seq.{sets}
 use Rattle.rules.specs.Bytes.{bytesOf}
 use Rattle.words.proofs.Laws.{length-bytesOf, byte-stored, written-sets}
 use Rattle.words.proofs.put.Statement.{statement}

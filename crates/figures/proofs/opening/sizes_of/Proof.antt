@@ -1,13 +1,13 @@
 -- `sizes_of` meets its contract: the level is 5 at most, so the shift loses nothing.
-use Prim.Native.Nat.{ℕ, _*_, _%_, _^_, _≤_, _<_}
+use Prim.Native.Nat.{ℕ, _*_, _%_, _^_, _≤_}
 use native.Mathlib.Omega.{arith}
 use native.Mathlib.Nat.{mul-le-mul}
-use mathlib.Core.Path.{_≡_, sym, ap, _∙_}
+use mathlib.Core.Path.{_≡_, ap, _∙_}
 use lib.Pow.{pow-pos, pow-mono}
 use mir.Facts.{fits-le, fits-lit}
 use borrow.Author.Needs.{needs}
-use Rattle.rules.specs.Opening.{level, side, area, columns, lines}
-use Rattle.rules.specs.Pictures.{pictureSize}
+use Rattle.rules.specs.Opening.{level, side}
+use Rattle.figures.proofs.Products.{product}
 use Rattle.figures.proofs.Sizes.{level-most, shifted, sizes-are}
 use Rattle.figures.proofs.opening.sizes_of.Statement.{statement}
 use Rattle.figures.proofs.opening.sizes_of.Tie as tie
@@ -43,11 +43,7 @@ div-t8 : tie.Need-div-t8
 div-t8 c = simp (shift c) (pow-pos (c .level .result))
 
 mul-t9 : tie.Need-mul-t9
-mul-t9 c =
-    let o = c .before .before .before .args .o in
-    let w : o .width ≤ 4294967295 = omega arith in
-    let h : o .height ≤ 4294967295 = omega arith in
-    fits-le (mul-le-mul w h) (fits-lit tt)
+mul-t9 c = product (omega arith) (omega arith)
 
 returns : tie.Need-returns
 unfolding level side

@@ -1,0 +1,2 @@
+-- What the counts of histograms hold.
+pub mod Counts

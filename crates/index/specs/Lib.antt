@@ -1,0 +1,2 @@
+-- The counts that a seal takes the index of.
+pub mod Counts

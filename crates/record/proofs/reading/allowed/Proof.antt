@@ -1,0 +1,71 @@
+use mathlib.Core.Path.{refl}
+use borrow.Author.Needs.{needs}
+use native.Mathlib.Omega.{arith}
+use borrow.Author.Tests.{not-true, not-false}
+use Rattle.record.proofs.Answers.{no-header, long, no-units, all-rows}
+use Rattle.record.proofs.reading.allowed.Statement.{statement}
+use Rattle.record.proofs.reading.allowed.Tie as tie
+use Rattle.record.proofs.reading.allowed.Reads as reads
+use Rattle.record.proofs.reading.allowed.Lts as lts
+use Rattle.record.proofs.reading.allowed_header.Reads as allowed-header-reads
+use Rattle.record.proofs.reading.allowed_scenes.Reads as allowed-scenes-reads
+use Rattle.record.proofs.reading.allowed_units.Reads as allowed-units-reads
+use Rattle.record.proofs.reading.word.Reads as word-reads
+use Rattle.words.proofs.word32.Reads as word32-reads
+
+allowed-header-requires : tie.Need-allowed-header-requires
+allowed-header-requires c κs = search needs
+
+returns : tie.Need-returns
+returns c = no-header (c .before .before .before .args .bytes .now) _ (c .before .allowed-header .ensures) (not-true _ (c .if1 .taken))
+
+word32-requires : tie.Need-word32-requires
+word32-requires c κs = search needs
+
+cast-units : tie.Need-cast-units
+cast-units c = search needs
+
+word32-requires-2 : tie.Need-word32-requires-2
+word32-requires-2 c κs = search needs
+
+cast-scenes : tie.Need-cast-scenes
+cast-scenes c = search needs
+
+allowed-units-requires : tie.Need-allowed-units-requires
+allowed-units-requires c κs = omega (arith, long (c .before .before .before .before .before .args .bytes .now) _ (c .before .before .before .allowed-header .ensures) (not-false _ (c .before .before .if1 .left)), c .before .word32 .ensures)
+
+returns-2 : tie.Need-returns-2
+returns-2 c = no-units (c .before .before .before .before .before .before .before .args .bytes .now) _ (c .before .before .before .before .before .allowed-header .ensures) (not-false _ (c .before .before .before .before .if1 .left)) _ _ _ (c .before .before .before .word32 .ensures) (c .before .before .word322 .ensures) refl _ (c .before .allowed-units .ensures) (not-true _ (c .if2 .taken))
+
+mul-allowed-scenes : tie.Need-mul-allowed-scenes
+mul-allowed-scenes c = search needs
+
+add-allowed-scenes : tie.Need-add-allowed-scenes
+add-allowed-scenes c = search needs
+
+word-requires : tie.Need-word-requires
+word-requires c κs = search needs
+
+allowed-scenes-requires : tie.Need-allowed-scenes-requires
+allowed-scenes-requires c κs = omega (arith, long (c .before .before .before .before .before .before .before .before .args .bytes .now) _ (c .before .before .before .before .before .before .allowed-header .ensures) (not-false _ (c .before .before .before .before .before .if1 .left)), c .before .before .before .before .word32 .ensures, c .before .before .before .word322 .ensures)
+
+returns-3 : tie.Need-returns-3
+returns-3 c = all-rows (c .before .before .before .before .before .before .before .before .before .args .bytes .now) _ (c .before .before .before .before .before .before .before .allowed-header .ensures) (not-false _ (c .before .before .before .before .before .before .if1 .left)) _ _ _ (c .before .before .before .before .before .word32 .ensures) (c .before .before .before .before .word322 .ensures) (c .before .word .ensures .0) _ _ (c .before .before .before .allowed-units .ensures) (not-false _ (c .before .before .if2 .left)) (c .allowed-scenes .ensures)
+
+pub allowed-spec : {M : Type 1} → statement M
+allowed-spec =
+    tie.close
+    (tie.spec
+    allowed-header-requires
+    returns
+    word32-requires
+    cast-units
+    word32-requires-2
+    cast-scenes
+    allowed-units-requires
+    returns-2
+    mul-allowed-scenes
+    add-allowed-scenes
+    word-requires
+    allowed-scenes-requires
+    returns-3)

@@ -1,0 +1,106 @@
+use borrow.Author.Needs.{needs}
+use Rattle.rules.specs.Record.{recordLength, sceneOffset}
+use Rattle.rules.specs.Reading.{allowedHeader}
+use Rattle.record.proofs.reading.allowed_header.Statement.{statement}
+use Rattle.record.proofs.reading.allowed_header.Tie as tie
+use Rattle.record.proofs.reading.allowed_header.Reads as reads
+use Rattle.record.proofs.reading.allowed_header.Lts as lts
+use Rattle.record.proofs.opening.good_pid.Reads as good-pid-reads
+use Rattle.record.proofs.opening.good_size.Reads as good-size-reads
+use Rattle.record.proofs.opening.good_time.Reads as good-time-reads
+use Rattle.record.proofs.reading.word.Reads as word-reads
+use Rattle.words.proofs.word32.Reads as word32-reads
+
+word-requires : tie.Need-word-requires
+word-requires c κs = search needs
+
+word-requires-2 : tie.Need-word-requires-2
+word-requires-2 c κs = search needs
+
+word-requires-3 : tie.Need-word-requires-3
+word-requires-3 c κs = search needs
+
+word-requires-4 : tie.Need-word-requires-4
+word-requires-4 c κs = search needs
+
+word-requires-5 : tie.Need-word-requires-5
+word-requires-5 c κs = search needs
+
+add-whole : tie.Need-add-whole
+add-whole c = search needs
+
+mul-whole : tie.Need-mul-whole
+mul-whole c = search needs
+
+add-whole-2 : tie.Need-add-whole-2
+add-whole-2 c = search needs
+
+word-requires-6 : tie.Need-word-requires-6
+word-requires-6 c κs = search needs
+
+word-requires-7 : tie.Need-word-requires-7
+word-requires-7 c κs = search needs
+
+mul-whole-2 : tie.Need-mul-whole-2
+mul-whole-2 c = search needs
+
+add-whole-3 : tie.Need-add-whole-3
+add-whole-3 c = search needs
+
+word32-requires : tie.Need-word32-requires
+word32-requires c κs = search needs
+
+word32-requires-2 : tie.Need-word32-requires-2
+word32-requires-2 c κs = search needs
+
+good-size-requires : tie.Need-good-size-requires
+good-size-requires c κs = search needs
+
+word32-requires-3 : tie.Need-word32-requires-3
+word32-requires-3 c κs = search needs
+
+good-time-requires : tie.Need-good-time-requires
+good-time-requires c κs = search needs
+
+word32-requires-4 : tie.Need-word32-requires-4
+word32-requires-4 c κs = search needs
+
+good-pid-requires : tie.Need-good-pid-requires
+good-pid-requires c κs = search needs
+
+word-requires-8 : tie.Need-word-requires-8
+word-requires-8 c κs = search needs
+
+word-requires-9 : tie.Need-word-requires-9
+word-requires-9 c κs = search needs
+
+returns : tie.Need-returns
+unfolding allowedHeader recordLength sceneOffset
+returns c = simp (c .before .before .before .before .before .before .before .before .before .before .before .before .before .before .before .word .ensures .0, c .before .before .before .before .before .before .before .before .before .before .before .before .before .before .word2 .ensures .0, c .before .before .before .before .before .before .before .before .before .before .before .before .before .word3 .ensures .0, c .before .before .before .before .before .before .before .before .before .before .before .before .word4 .ensures .0, c .before .before .before .before .before .before .before .before .before .before .before .word5 .ensures .0, c .before .before .before .before .before .before .before .before .before .before .word6 .ensures .0, c .before .before .before .before .before .before .before .before .before .word7 .ensures .0, c .before .before .before .before .before .before .before .before .word32 .ensures, c .before .before .before .before .before .before .before .word322 .ensures, c .before .before .before .before .before .before .good-size .ensures, c .before .before .before .before .before .word323 .ensures, c .before .before .before .before .good-time .ensures, c .before .before .before .word324 .ensures, c .before .before .good-pid .ensures, c .before .word8 .ensures .0, c .word9 .ensures .0)
+
+pub allowed-header-spec : {M : Type 1} → statement M
+allowed-header-spec =
+    tie.close
+    (tie.spec
+    word-requires
+    word-requires-2
+    word-requires-3
+    word-requires-4
+    word-requires-5
+    add-whole
+    mul-whole
+    add-whole-2
+    word-requires-6
+    word-requires-7
+    mul-whole-2
+    add-whole-3
+    word32-requires
+    word32-requires-2
+    good-size-requires
+    word32-requires-3
+    good-time-requires
+    word32-requires-4
+    good-pid-requires
+    word-requires-8
+    word-requires-9
+    returns)

@@ -1,0 +1,45 @@
+use borrow.Author.Needs.{needs}
+use Rattle.rules.proofs.Laws.Record.{sceneIn}
+use Rattle.record.proofs.reading.scene_in.Statement.{statement}
+use Rattle.record.proofs.reading.scene_in.Tie as tie
+use Rattle.record.proofs.reading.scene_in.Reads as reads
+use Rattle.record.proofs.reading.scene_in.Lts as lts
+use Rattle.words.proofs.word32.Reads as word32-reads
+
+word32-requires : tie.Need-word32-requires
+word32-requires c κs = search needs
+
+word32-requires-2 : tie.Need-word32-requires-2
+word32-requires-2 c κs = search needs
+
+word32-requires-3 : tie.Need-word32-requires-3
+word32-requires-3 c κs = search needs
+
+word32-requires-4 : tie.Need-word32-requires-4
+word32-requires-4 c κs = search needs
+
+word32-requires-5 : tie.Need-word32-requires-5
+word32-requires-5 c κs = search needs
+
+word32-requires-6 : tie.Need-word32-requires-6
+word32-requires-6 c κs = search needs
+
+word32-requires-7 : tie.Need-word32-requires-7
+word32-requires-7 c κs = search needs
+
+returns : tie.Need-returns
+unfolding sceneIn
+returns c = simp (c .before .before .before .before .before .before .word32 .ensures, c .before .before .before .before .before .word322 .ensures, c .before .before .before .before .word323 .ensures, c .before .before .before .word324 .ensures, c .before .before .word325 .ensures, c .before .word326 .ensures, c .word327 .ensures)
+
+pub scene-in-spec : {M : Type 1} → statement M
+scene-in-spec =
+    tie.close
+    (tie.spec
+    word32-requires
+    word32-requires-2
+    word32-requires-3
+    word32-requires-4
+    word32-requires-5
+    word32-requires-6
+    word32-requires-7
+    returns)

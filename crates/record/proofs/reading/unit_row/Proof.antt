@@ -1,0 +1,52 @@
+use borrow.Author.Needs.{needs}
+use native.Mathlib.Omega.{arith}
+use Prim.Native.Nat.{_+_, _-_, _*_, _≤_}
+use mathlib.Core.Path.{_≡_, ap, _∙_}
+use lib.ListN.{length, drop, length-take, length-drop}
+use Rattle.record.proofs.Rows.{part}
+use Rattle.rules.proofs.Laws.Record.{unitIn}
+use Rattle.rules.specs.Reading.{unitPlace, unitAt}
+use Rattle.record.proofs.reading.unit_row.Statement.{statement}
+use Rattle.record.proofs.reading.unit_row.Tie as tie
+use Rattle.record.proofs.reading.unit_row.Reads as reads
+use Rattle.record.proofs.reading.unit_row.Lts as lts
+use Rattle.record.proofs.reading.unit_in.Reads as unit-in-reads
+
+mul-at : tie.Need-mul-at
+unfolding unitPlace
+mul-at c = omega arith
+
+add-at : tie.Need-add-at
+unfolding unitPlace
+add-at c = omega arith
+
+sub-unit-in : tie.Need-sub-unit-in
+unfolding unitPlace
+sub-unit-in c = omega arith
+
+part-unit-in-start : tie.Need-part-unit-in-start
+unfolding unitPlace
+part-unit-in-start c = omega arith
+
+part-unit-in-end : tie.Need-part-unit-in-end
+part-unit-in-end c = search needs
+
+unit-in-requires : tie.Need-unit-in-requires
+unfolding unitPlace
+unit-in-requires c κs = simp (length-take, length-drop) (omega arith)
+
+returns : tie.Need-returns
+unfolding unitPlace unitAt unitIn
+returns c = c .unit-in .ensures ∙ ap unitIn (part (64 + 32 * c .before .before .before .args .j) (c .before .before .before .args .bytes .now))
+
+pub unit-row-spec : {M : Type 1} → statement M
+unit-row-spec =
+    tie.close
+    (tie.spec
+    mul-at
+    add-at
+    sub-unit-in
+    part-unit-in-start
+    part-unit-in-end
+    unit-in-requires
+    returns)

@@ -1,0 +1,2 @@
+-- What opening a record answers.
+pub mod Opened

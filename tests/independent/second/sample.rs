@@ -1,0 +1,196 @@
+//! A sample: opened, fed on two sides, sealed into a record.
+
+use crate::capture::CaptureSide;
+use crate::luma::LumaSide;
+use crate::opening::{Opening, Refusal};
+use crate::record::{self, Figures, Index};
+
+/// The two sides of an opening that wasn't refused.
+struct Sides {
+    capture: CaptureSide,
+    luma: LumaSide,
+}
+
+pub struct Sample {
+    opening: Opening,
+    sides: Result<Box<Sides>, Refusal>,
+}
+
+impl Sample {
+    /// Opens a sample. A refused opening leaves a state that answers every call with its number.
+    pub fn open(opening: Opening) -> Self {
+        let sides = opening.check().map(|()| {
+            Box::new(Sides { capture: CaptureSide::new(opening.pid), luma: LumaSide::new(&opening) })
+        });
+        Sample { opening, sides }
+    }
+
+    pub fn opened(&self) -> Result<(), Refusal> {
+        self.sides.as_ref().map(|_| ()).map_err(|&refusal| refusal)
+    }
+
+    pub fn feed_capture(&mut self, piece: &[u8]) -> Result<usize, Refusal> {
+        self.sides.as_mut().map_err(|refusal| *refusal)?.capture.feed(piece)
+    }
+
+    pub fn feed_luma(&mut self, piece: &[u8]) -> Result<usize, Refusal> {
+        self.sides.as_mut().map_err(|refusal| *refusal)?.luma.feed(piece)
+    }
+
+    /// Seals into a buffer: the record's length, or the first of all refusals that hold.
+    pub fn seal(&self, buffer: &mut [u8]) -> Result<usize, Refusal> {
+        let record = self.record()?;
+        match buffer.get_mut(..record.len()) {
+            Some(front) => front.copy_from_slice(&record),
+            None => return Err(Refusal::at(15, record.len() as u64)),
+        }
+        Ok(record.len())
+    }
+
+    /// The record, unless refusals up to 14 stand against it.
+    pub fn record(&self) -> Result<Vec<u8>, Refusal> {
+        let sides = self.sides.as_ref().map_err(|&refusal| refusal)?;
+        sides.ready()?;
+        let Sides { capture, luma } = &**sides;
+        let units = capture.units.rows();
+        let cells = units.iter().map(|unit| unit.cells).sum();
+        let lost = units.iter().map(|unit| unit.lost).sum();
+        let index = Index::new(luma.film.unrepeated(), luma.film.pictures(), cells, lost);
+        let figures = Figures {
+            opening: self.opening,
+            pictures: luma.film.pictures(),
+            records: capture.records,
+            passed_over: capture.passed_over,
+            bad_cells: capture.bad_cells,
+            index_bits: index.index.to_bits(),
+        };
+        Ok(record::write(&figures, units, &luma.film.scenes(self.opening.display_time)))
+    }
+}
+
+impl Sides {
+    /// Refusals 4 to 9, then 10 to 14, in order.
+    fn ready(&self) -> Result<(), Refusal> {
+        let Sides { capture, luma } = self;
+        if let Some(refusal) = capture.refusal().or(luma.refusal()) {
+            return Err(refusal);
+        }
+        if !capture.between_records() {
+            return Err(Refusal::at(11, capture.bytes_fed()));
+        }
+        if capture.units.rows().is_empty() {
+            return Err(Refusal::unplaced(12));
+        }
+        if !luma.between_pictures() {
+            return Err(Refusal::at(13, luma.bytes_fed()));
+        }
+        if luma.film.pictures() == 0 {
+            return Err(Refusal::unplaced(14));
+        }
+        Ok(())
+    }
+}
+
+#[cfg(test)]
+mod tests {
+    use super::*;
+    use crate::record::show;
+
+    const OPENING: Opening = Opening { width: 30, height: 30, display_time: 40_000, pid: 256 };
+
+    /// The capture of document 01's example: one record at 10 s 5 µs with one cell of PID 256.
+    fn example_capture() -> Vec<u8> {
+        let mut capture = vec![0; 24];
+        capture[..4].copy_from_slice(&[0xD4, 0xC3, 0xB2, 0xA1]);
+        capture[20] = 1;
+        capture.extend([10u32, 5, 230, 230].iter().flat_map(|word| word.to_le_bytes()));
+        let mut frame = vec![0; 230];
+        frame[12..15].copy_from_slice(&[8, 0, 0x45]);
+        frame[16..18].copy_from_slice(&216u16.to_be_bytes());
+        frame[23] = 17;
+        frame[38..40].copy_from_slice(&196u16.to_be_bytes());
+        frame[42..46].copy_from_slice(&[0x47, 1, 0, 0]);
+        capture.extend(frame);
+        capture
+    }
+
+    fn seal(sample: &Sample, length: usize) -> (Result<usize, (u32, u64)>, Vec<u8>) {
+        let mut buffer = vec![0xA5; length];
+        let answer = sample.seal(&mut buffer);
+        (answer.map_err(|refusal| (refusal.number, refusal.place)), buffer)
+    }
+
+    #[test]
+    fn the_example_by_every_piece_length() {
+        for piece in 1..=300 {
+            let mut sample = Sample::open(OPENING);
+            assert_eq!(seal(&sample, 200).0, Err((11, 0)));
+            for bytes in example_capture().chunks(piece) {
+                assert_eq!(sample.feed_capture(bytes), Ok(bytes.len()));
+            }
+            assert_eq!(seal(&sample, 200).0, Err((14, 0)));
+            for bytes in [0; 1800].chunks(piece) {
+                assert_eq!(sample.feed_luma(bytes), Ok(bytes.len()));
+            }
+            let (answer, buffer) = seal(&sample, 130);
+            assert_eq!((answer, &buffer[128..]), (Ok(128), &[0xA5, 0xA5][..]));
+            assert_eq!(seal(&sample, 127), (Err((15, 128)), vec![0xA5; 127]));
+            let lines = "sample 30 30 40000 256 2 1 0 0 4008000000000000\n\
+                         unit 0 10000005 10000005 184 1 0\n\
+                         scene 0 0 2 1 1 0 0 0\n";
+            assert_eq!(show(&buffer[..128]), lines);
+            sample.feed_luma(&[1]).unwrap();
+            assert_eq!(seal(&sample, 200).0, Err((13, 1801)));
+        }
+    }
+
+    #[test]
+    fn capture_refusals_stand_at_the_last_byte_of_their_field() {
+        let faults = [(0, 0xA1, 5, 3), (3, 0, 5, 3), (20, 101, 6, 23), (31, 1, 7, 31), (34, 1, 8, 35)];
+        for (place, value, number, at) in faults {
+            let mut capture = example_capture();
+            capture[place] = value;
+            for piece in 1..=60 {
+                let mut sample = Sample::open(OPENING);
+                let mut fed = 0;
+                for bytes in capture.chunks(piece) {
+                    fed += bytes.len();
+                    let answer = if fed > at { Err(Refusal::at(number, at as u64)) } else { Ok(bytes.len()) };
+                    assert_eq!(sample.feed_capture(bytes), answer);
+                }
+                assert_eq!(seal(&sample, 500).0, Err((number, at as u64)));
+            }
+        }
+    }
+
+    #[test]
+    fn the_751st_picture_and_a_header_alone() {
+        let opening = Opening { width: 15, height: 30, ..OPENING };
+        let mut sample = Sample::open(opening);
+        assert_eq!(sample.feed_luma(&vec![3; 450 * 750]), Ok(450 * 750));
+        sample.feed_capture(&example_capture()[..24]).unwrap();
+        assert_eq!(seal(&sample, 0).0, Err((12, 0)));
+        assert_eq!(sample.feed_luma(&[]), Ok(0));
+        assert_eq!(sample.feed_luma(&[3]), Err(Refusal::at(10, 337_500)));
+        assert_eq!(sample.feed_luma(&[]), Err(Refusal::at(10, 337_500)));
+        sample.feed_capture(&example_capture()[24..]).unwrap();
+        assert_eq!(seal(&sample, 500).0, Err((10, 337_500)));
+    }
+
+    #[test]
+    fn the_capture_limit() {
+        let mut sample = Sample::open(OPENING);
+        let mut frame = 65_535u32.to_le_bytes().to_vec();
+        frame.splice(..0, [0; 8]);
+        frame.resize(16 + 65_535, 0);
+        let mut fed = sample.feed_capture(&example_capture()).unwrap();
+        while fed + frame.len() <= 268_435_456 {
+            fed += sample.feed_capture(&frame).unwrap();
+        }
+        fed += sample.feed_capture(&frame[..268_435_456 - fed]).unwrap();
+        assert_eq!(seal(&sample, 0).0, Err((11, fed as u64)));
+        assert_eq!(sample.feed_capture(&[]), Ok(0));
+        assert_eq!(sample.feed_capture(&[0]), Err(Refusal::at(4, 268_435_456)));
+        assert_eq!(seal(&sample, 0).0, Err((4, 268_435_456)));
+    }
+}

@@ -1,0 +1,70 @@
+//! Scripts: five words (W, H, d, PID, rule edition), then calls. See FORMAT.md.
+
+use crate::opening::Opening;
+use std::io::{self, Read, Write};
+
+/// Longest piece of a feed, and longest buffer of a seal.
+pub const LONGEST_PIECE: usize = 1_048_576;
+pub const LONGEST_BUFFER: usize = 65_536;
+
+#[derive(Clone, Debug, PartialEq, Eq)]
+pub enum Call {
+    Capture(Vec<u8>),
+    Luma(Vec<u8>),
+    /// A seal into a buffer of so many bytes.
+    Seal(usize),
+}
+
+/// The opening's values; nothing if the script ends within the five words.
+pub fn read_opening(script: &mut impl Read) -> Option<Opening> {
+    let opening = Opening {
+        width: read_word(script)?,
+        height: read_word(script)?,
+        display_time: read_word(script)?,
+        pid: read_word(script)?,
+    };
+    read_word(script)?;
+    Some(opening)
+}
+
+/// The next call; nothing where the run ends.
+pub fn read_call(script: &mut impl Read) -> Option<Call> {
+    let mut letter = [0];
+    script.read_exact(&mut letter).ok()?;
+    let longest = match letter[0] {
+        b'C' | b'L' => LONGEST_PIECE,
+        b'S' => LONGEST_BUFFER,
+        _ => return None,
+    };
+    let length = usize::try_from(read_word(script)?).ok().filter(|&length| length <= longest)?;
+    if letter[0] == b'S' {
+        return Some(Call::Seal(length));
+    }
+    let mut piece = vec![0; length];
+    script.read_exact(&mut piece).ok()?;
+    Some(if letter[0] == b'C' { Call::Capture(piece) } else { Call::Luma(piece) })
+}
+
+fn read_word(script: &mut impl Read) -> Option<u32> {
+    let mut bytes = [0; 4];
+    script.read_exact(&mut bytes).ok()?;
+    Some(u32::from_le_bytes(bytes))
+}
+
+pub fn write_opening(script: &mut impl Write, opening: &Opening) -> io::Result<()> {
+    for word in [opening.width, opening.height, opening.display_time, opening.pid, 1] {
+        script.write_all(&word.to_le_bytes())?;
+    }
+    Ok(())
+}
+
+pub fn write_call(script: &mut impl Write, call: &Call) -> io::Result<()> {
+    let (letter, length, piece) = match call {
+        Call::Capture(piece) => (b'C', piece.len(), &piece[..]),
+        Call::Luma(piece) => (b'L', piece.len(), &piece[..]),
+        Call::Seal(length) => (b'S', *length, &[][..]),
+    };
+    script.write_all(&[letter])?;
+    script.write_all(&(length as u32).to_le_bytes())?;
+    script.write_all(piece)
+}
