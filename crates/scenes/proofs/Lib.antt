@@ -1,3 +1,4 @@
 pub mod Held
 pub mod Starts
 pub mod Loops
+pub mod Sample
