@@ -1,12 +1,10 @@
 -- The words of a luma side hold its sample's figures: the scores, the changes, and a map whose words have the repeats for their binary digits.
-use Prim.Native.Nat.{ℕ, zero, suc, _+_, _*_, _/_, _%_, _^_, _≤_, _<_}
+use Prim.Native.Nat.{ℕ, zero, suc, _+_, _/_, _≤_, _<_}
 use native.Mathlib.Omega.{arith}
-use native.Mathlib.Nat.{zero-div, pow-suc, mul-comm, div-div-eq-div-mul}
-use mathlib.Core.Path.{_≡_, refl, sym, ap, _∙_}
-use mathlib.Core.List.{List, [], _∷_, map}
-use mathlib.Core.Bool.{Bool, true, false}
-use lib.ListN.{length, getD, take, drop}
-use lib.Seq.{getD-take, getD-drop}
+use mathlib.Core.Path.{_≡_, sym, _∙_}
+use mathlib.Core.List.{List, map}
+use mathlib.Core.Bool.{Bool, false}
+use lib.ListN.{length, getD}
 use Rattle.rules.specs.declared.Opening.{Opening}
 use Rattle.rules.specs.Bytes.{pick}
 use Rattle.rules.specs.Refusals.{none}
@@ -14,66 +12,26 @@ use Rattle.rules.specs.Opening.{openingFault}
 use Rattle.rules.specs.Pictures.{pictureCount}
 use Rattle.rules.specs.Histograms.{histograms}
 use Rattle.rules.specs.Cuts.{cutScore, cutScores}
-use Rattle.rules.specs.Changes.{repeatsAfter, repeats, changesAfter, changes}
+use Rattle.rules.specs.Changes.{repeats, changes}
 use Rattle.rules.specs.Seal.{reduced}
 use Rattle.rules.proofs.Laws.Histograms.{All, and}
 use Rattle.rules.proofs.Laws.Pictures.{Bytes}
 use Rattle.rules.proofs.Laws.Scenes.{score-at, sample-scores, scores-length, pictures-most, reduced-length}
 use Rattle.rules.proofs.Laws.Ranges.{AtMost, sample-scored, sample-changed}
-use Rattle.history.specs.Past.{ones, mapWord}
+use Rattle.history.specs.Past.{mapWord}
+use Rattle.history.proofs.Laws.{length-repeats, length-changes, word-bit}
 use Rattle.scenes.specs.Words.{Bits, Holds, bitAt}
 
--- ---- the map
-
-digit : (bs : List Bool) (k : ℕ) → ones bs / 2 ^ k % 2 ≡ pick (getD bs k false) 1 0
-unfolding ones
-digit [] k = rw (zero-div (2 ^ k))
-digit (b ∷ bs) zero = go b
-  where
-    go : (t : Bool) → (pick t 1 0 + 2 * ones bs) / 2 ^ 0 % 2 ≡ pick t 1 0
-    go true = omega arith
-    go false = omega arith
-digit (b ∷ bs) (suc k) =
-    rw (pow-suc 2 k, mul-comm (2 ^ k) 2, ← div-div-eq-div-mul (pick b 1 0 + 2 * ones bs) 2 (2 ^ k), half b) (digit bs k)
-  where
-    half : (t : Bool) → (pick t 1 0 + 2 * ones bs) / 2 ≡ ones bs
-    half true = omega arith
-    half false = omega arith
-
 map-bits : (w : List ℕ) (n : ℕ) (rs : List Bool) → n ≤ 750 → length rs ≡ n → ((j : ℕ) → j < 12 → getD w (64 + j) 0 ≡ mapWord rs j) → Bits w n rs
-unfolding bitAt mapWord
+unfolding bitAt
 map-bits w n rs few e f = record { size = e; bit = at }
   where
     at : (i : ℕ) → i < n → bitAt w i ≡ pick (getD rs i false) 1 0
-    at i h =
-        let back : 64 * (i / 64) + i % 64 ≡ i = omega arith in
-        rw (f (i / 64) (omega arith), digit (take 64 (drop (64 * (i / 64)) rs)) (i % 64), getD-take 64 (drop (64 * (i / 64)) rs) (i % 64) false (omega arith), getD-drop (64 * (i / 64)) rs (i % 64) false, back)
-
--- ---- the figures
+    at i h = rw (f (i / 64) (omega arith)) (word-bit rs i)
 
 all-at : (most : ℕ) {xs : List ℕ} → All (AtMost most) xs → (i : ℕ) → i < length xs → getD xs i 0 ≤ most
 all-at most (and h hs) zero g = h
 all-at most (and h hs) (suc i) g = all-at most hs i (omega arith)
-
-after-repeats : (px : List ℕ) (pxs : List (List ℕ)) → length (repeatsAfter px pxs) ≡ length pxs
-unfolding repeatsAfter
-after-repeats px [] = refl
-after-repeats px (py ∷ pxs) = ap suc (after-repeats py pxs)
-
-repeats-length : (pxs : List (List ℕ)) → length (repeats pxs) ≡ length pxs
-unfolding repeats
-repeats-length [] = refl
-repeats-length (px ∷ pxs) = ap suc (after-repeats px pxs)
-
-after-changes : (px : List ℕ) (pxs : List (List ℕ)) → length (changesAfter px pxs) ≡ length pxs
-unfolding changesAfter
-after-changes px [] = refl
-after-changes px (py ∷ pxs) = ap suc (after-changes py pxs)
-
-changes-length : (pxs : List (List ℕ)) → length (changes pxs) ≡ length pxs
-unfolding changes
-changes-length [] = refl
-changes-length (px ∷ pxs) = ap suc (after-changes px pxs)
 
 -- the words of a luma side that was fed these bytes hold the figures of its whole pictures
 pub sample-holds : (o : Opening) (luma w : List ℕ) → openingFault o ≡ none → Bytes luma →
@@ -88,7 +46,7 @@ sample-holds o luma w h b fs fq fr =
     let n = reduced-length o luma in
     let s = sample-scores o luma in
     let l = scores-length hs in
-    let q : length (changes pxs) ≡ pictureCount o luma = changes-length pxs ∙ n in
+    let q : length (changes pxs) ≡ pictureCount o luma = length-changes pxs ∙ n in
     record {
       few = few;
       scores = record {
@@ -96,7 +54,7 @@ sample-holds o luma w h b fs fq fr =
         word = λ i g. fs i (omega arith) ∙ sym (score-at hs i (omega arith));
         bound = λ i g. all-at 1000000 (sample-scored o luma b) i (omega arith);
       };
-      repeats = map-bits w (pictureCount o luma) (repeats pxs) few (repeats-length pxs ∙ n) fr;
+      repeats = map-bits w (pictureCount o luma) (repeats pxs) few (length-repeats pxs ∙ n) fr;
       changes = record {
         size = q;
         word = λ i g. fq i (omega arith);
