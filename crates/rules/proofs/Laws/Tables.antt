@@ -1,12 +1,12 @@
--- What stands at a place of a table, and of tables' lines joined.
+-- What stands at a place of a table, of a string's parts, and of lines joined.
 use Prim.Native.Nat.{ℕ, zero, suc, _+_, _*_, _<_}
 use native.Mathlib.Omega.{arith}
 use native.Mathlib.Nat.{add-zero, suc-mul, zero-mul, zero-add}
 use mathlib.Core.Path.{_≡_, refl, ap, _∙_}
 use mathlib.Core.List.{List, [], _∷_, _++_, map}
-use lib.ListN.{length, getD, List·getD-append}
-use lib.Seq.{getD-append-add}
-use Rattle.rules.specs.Bytes.{table, joined}
+use lib.ListN.{length, getD, take, drop, List·getD-append}
+use lib.Seq.{getD-append-add, drop-drop}
+use Rattle.rules.specs.Bytes.{table, parts, joined}
 
 module _ {ℓ} {A : Type ℓ} where
   pub getD-table : (n from : ℕ) (f : ℕ → A) (i : ℕ) (d : A) → i < n → getD (table n from f) i d ≡ f (from + i)
@@ -22,6 +22,20 @@ module _ {ℓ} {A : Type ℓ} where
   unfolding table
   same-table zero from f g e = refl
   same-table (suc n) from f g e = cc (e from (omega arith), same-table n (suc from) f g (λ i h. e i (omega arith)))
+
+  -- n parts, and part i of them
+  pub parts-length : (n m : ℕ) (s : List A) → length (parts n m s) ≡ n
+  unfolding parts
+  parts-length zero m s = refl
+  parts-length (suc n) m s = ap suc (parts-length n m (drop m s))
+
+  pub part-at : (n m i : ℕ) (s : List A) → i < n → getD (parts n m s) i [] ≡ take m (drop (i * m) s)
+  unfolding parts
+  part-at zero m i s h = absurd (omega arith)
+  part-at (suc n) m zero s h = rw (zero-mul m)
+  part-at (suc n) m (suc i) s h =
+      let e : m + i * m ≡ suc i * m = omega (arith, suc-mul i m) in
+      part-at n m i (drop m s) (omega arith) ∙ ap (take m) (drop-drop (i * m) m s ∙ ap (λ (k : ℕ). drop k s) e)
 
   -- n lines of m each, joined: column c of line r stands at r × m + c
   pub getD-lines : (n from m : ℕ) (f : ℕ → List A) (r c : ℕ) (d : A) → ((i : ℕ) → length (f i) ≡ m) → r < n → c < m →

@@ -11,6 +11,7 @@ use lib.Dec.{eqb}
 use borrow.Author.Tests.{eq-eqb, ne-eqb, eqb-true, eqb-false}
 use Rattle.rules.specs.Bytes.{pick, tally, parts}
 use Rattle.rules.specs.Histograms.{third, tileAt}
+use Rattle.rules.proofs.Laws.Tables.{parts-length}
 use Rattle.rules.proofs.Laws.Tally.{tally-shift, tally-none, tally-span}
 use Rattle.rules.proofs.Laws.Blocks.{row-of, column-of, by-rows}
 use Rattle.rules.proofs.Laws.Histograms.{third-small}
@@ -91,11 +92,6 @@ lines-give w h j k r (suc m) p some hk e =
     let rest : length (drop w p) ≡ m * w = simp length-drop (omega arith) in
     let own : tally (λ c v. pick (eqb (third w c) k) 1 0) 0 (take w p) ≡ thirdSize w k = thirds w k 1 (take w p) some hk first ∙ mul-one (thirdSize w k) in
     rw own (omega (arith, lines-give w h j k (suc r) m (drop w p) some hk rest))
-
-parts-length : (m w : ℕ) (p : List ℕ) → length (parts m w p) ≡ m
-unfolding parts
-parts-length zero w p = refl
-parts-length (suc m) w p = ap suc (parts-length m w (drop w p))
 
 -- n of the tile in tile row j and tile column k
 pub tile-size : (w h j k : ℕ) (p : List ℕ) → 0 < w → 0 < h → j < 3 → k < 3 → length p ≡ h * w → tileTally w h (3 * j + k) p ≡ thirdSize h j * thirdSize w k

@@ -44,21 +44,21 @@ bin-most w h t b p = omega (arith, tally-most (hits w h t b) 1 0 p (λ i v. go (
 
 -- of the pixel v at place i: the tile and the bin that it is in, and that it is in no other
 pub record Once (w h i v : ℕ) : Type 0 where
-  pub tile : ℕ
-  pub part : ℕ
-  pub tile-below : tile < 9
-  pub part-below : part < 16
-  pub own : hits w h tile part i v ≡ 1
-  pub only : (t b : ℕ) → hits w h t b i v ≡ 1 → (t ≡ tile) × (b ≡ part)
-  pub others : (t b : ℕ) → ((t ≡ tile) × (b ≡ part) → ⊥) → hits w h t b i v ≡ 0
+  pub theTile : ℕ
+  pub theBin : ℕ
+  pub tile-below : theTile < 9
+  pub bin-below : theBin < 16
+  pub own : hits w h theTile theBin i v ≡ 1
+  pub only : (t b : ℕ) → hits w h t b i v ≡ 1 → (t ≡ theTile) × (b ≡ theBin)
+  pub others : (t b : ℕ) → ((t ≡ theTile) × (b ≡ theBin) → ⊥) → hits w h t b i v ≡ 0
 
 pub once : (w h i v : ℕ) → 0 < w → i < w * h → v < 256 → Once w h i v
 once w h i v some place byte =
     record {
-      tile = tileAt w h i;
-      part = bin v;
+      theTile = tileAt w h i;
+      theBin = bin v;
       tile-below = tile-small w h i some place;
-      part-below = bin-small v byte;
+      bin-below = bin-small v byte;
       own = rw (eq-eqb (tileAt w h i) (tileAt w h i) refl, eq-eqb (bin v) (bin v) refl);
       only = λ t b e. is t b (eqb (tileAt w h i) t) (eqb (bin v) b) refl refl e;
       others = λ t b e. isn't t b (eqb (tileAt w h i) t) (eqb (bin v) b) refl refl e;
@@ -76,22 +76,22 @@ once w h i v some place byte =
 
 -- so a pixel more, at the place behind the first pixels p, raises that bin by one and leaves every other
 pub record Raised (w h v : ℕ) (p : List ℕ) : Type 0 where
-  pub tile : ℕ
-  pub part : ℕ
-  pub tile-below : tile < 9
-  pub part-below : part < 16
-  pub own : binTally w h tile part (p ++ v ∷ []) ≡ binTally w h tile part p + 1
-  pub others : (t b : ℕ) → ((t ≡ tile) × (b ≡ part) → ⊥) → binTally w h t b (p ++ v ∷ []) ≡ binTally w h t b p
+  pub theTile : ℕ
+  pub theBin : ℕ
+  pub tile-below : theTile < 9
+  pub bin-below : theBin < 16
+  pub own : binTally w h theTile theBin (p ++ v ∷ []) ≡ binTally w h theTile theBin p + 1
+  pub others : (t b : ℕ) → ((t ≡ theTile) × (b ≡ theBin) → ⊥) → binTally w h t b (p ++ v ∷ []) ≡ binTally w h t b p
 
 pub raised : (w h v : ℕ) (p : List ℕ) → 0 < w → length p < w * h → v < 256 → Raised w h v p
 raised w h v p some place byte =
     let o = once w h (length p) v some place byte in
     record {
-      tile = o .tile;
-      part = o .part;
+      theTile = o .theTile;
+      theBin = o .theBin;
       tile-below = o .tile-below;
-      part-below = o .part-below;
-      own = bin-more w h (o .tile) (o .part) v p ∙ ap (λ (z : ℕ). binTally w h (o .tile) (o .part) p + z) (o .own);
+      bin-below = o .bin-below;
+      own = bin-more w h (o .theTile) (o .theBin) v p ∙ ap (λ (z : ℕ). binTally w h (o .theTile) (o .theBin) p + z) (o .own);
       others = λ t b e. bin-more w h t b v p ∙ ap (λ (z : ℕ). binTally w h t b p + z) (o .others t b e) ∙ add-zero (binTally w h t b p);
     }
 

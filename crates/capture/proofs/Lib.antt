@@ -1,0 +1,7 @@
+pub mod Fits
+pub mod Steps
+pub mod Ends
+pub mod Body
+pub mod Files
+pub mod Pieces
+pub mod Parts

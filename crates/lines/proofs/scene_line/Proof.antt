@@ -1,0 +1,77 @@
+use borrow.Author.Needs.{needs}
+use native.Mathlib.Omega.{arith}
+use mathlib.Core.List.{[], _∷_}
+use Rattle.lines.proofs.Texts.{line-of-three}
+use Rattle.lines.specs.Lines.{field, fields, sceneLine}
+use Rattle.lines.proofs.scene_line.Statement.{statement}
+use Rattle.lines.proofs.scene_line.Tie as tie
+use Rattle.lines.proofs.scene_line.Reads as reads
+use Rattle.lines.proofs.scene_line.Lts as lts
+use Rattle.lines.proofs.put_fields.Reads as put-fields-reads
+use Rattle.lines.proofs.put_text.Reads as put-text-reads
+
+cast-t9 : tie.Need-cast-t9
+cast-t9 c = search needs
+
+cast-t10 : tie.Need-cast-t10
+cast-t10 c = search needs
+
+cast-t11 : tie.Need-cast-t11
+cast-t11 c = search needs
+
+cast-t12 : tie.Need-cast-t12
+cast-t12 c = search needs
+
+cast-t13 : tie.Need-cast-t13
+cast-t13 c = search needs
+
+cast-t14 : tie.Need-cast-t14
+cast-t14 c = search needs
+
+cast-t15 : tie.Need-cast-t15
+cast-t15 c = search needs
+
+slice-aggregate-put-text : tie.Need-slice-aggregate-put-text
+slice-aggregate-put-text c = search needs
+
+put-text-requires : tie.Need-put-text-requires
+put-text-requires c κs = search needs
+
+slice-aggregate-put-fields : tie.Need-slice-aggregate-put-fields
+slice-aggregate-put-fields c = search needs
+
+put-fields-requires : tie.Need-put-fields-requires
+put-fields-requires c κs = search needs
+
+slice-aggregate-put-text-2 : tie.Need-slice-aggregate-put-text-2
+slice-aggregate-put-text-2 c = search needs
+
+put-text-requires-2 : tie.Need-put-text-requires-2
+put-text-requires-2 c κs = search needs
+
+same-length : tie.Need-same-length
+same-length c = search needs
+
+returns : tie.Need-returns
+unfolding sceneLine
+returns c = line-of-three (115 ∷ 99 ∷ 101 ∷ 110 ∷ 101 ∷ []) (fields (c .before .before .before .before .before .before .before .before .before .before .before .before .before .before .before .before .before .before .before .before .before .before .before .args .j ∷ c .before .before .before .before .before .before .before .before .before .before .before .before .before .before .before .before .before .before .before .before .before .before .before .args .s .first ∷ c .before .before .before .before .before .before .before .before .before .before .before .before .before .before .before .before .before .before .before .before .before .before .before .args .s .pictures ∷ c .before .before .before .before .before .before .before .before .before .before .before .before .before .before .before .before .before .before .before .before .before .before .before .args .s .repeated ∷ c .before .before .before .before .before .before .before .before .before .before .before .before .before .before .before .before .before .before .before .before .before .before .before .args .s .longest ∷ c .before .before .before .before .before .before .before .before .before .before .before .before .before .before .before .before .before .before .before .before .before .before .before .args .s .score ∷ c .before .before .before .before .before .before .before .before .before .before .before .before .before .before .before .before .before .before .before .before .before .before .before .args .s .peak ∷ c .before .before .before .before .before .before .before .before .before .before .before .before .before .before .before .before .before .before .before .before .before .before .before .args .s .change ∷ [])) (10 ∷ []) (c .before .before .before .before .before .before .before .before .before .before .before .before .before .before .before .before .before .before .before .before .before .before .before .args .buffer .now) (c .before .before .before .before .before .before .before .before .before .before .before .before .put-text .last .0) (c .before .before .before .before .before .before .before .put-fields .last .0) (c .before .before .put-text2 .last .0) (c .before .before .before .before .before .before .before .before .before .before .before .before .put-text .result) (c .before .before .before .before .before .before .before .put-fields .result) (c .before .before .put-text2 .result) (omega (arith, c .before .before .before .before .before .before .before .before .before .before .before .before .put-text .ensures .0, c .before .before .before .before .before .before .before .before .before .before .before .before .before .before .before .before .before .before .before .before .before .before .before .pre)) (omega (arith, c .before .before .before .before .before .before .before .before .before .before .before .before .put-text .ensures .0, c .before .before .before .before .before .before .before .put-fields .ensures .1, c .before .before .before .before .before .before .before .before .before .before .before .before .before .before .before .before .before .before .before .before .before .before .before .pre)) (c .before .before .before .before .before .before .before .before .before .before .before .before .put-text .ensures) (c .before .before .before .before .before .before .before .put-fields .ensures .0) (c .before .before .before .before .before .before .before .put-fields .ensures .2) (c .before .before .put-text2 .ensures)
+
+pub scene-line-spec : {M : Type 1} → statement M
+scene-line-spec =
+    tie.close
+    (tie.spec
+    cast-t9
+    cast-t10
+    cast-t11
+    cast-t12
+    cast-t13
+    cast-t14
+    cast-t15
+    slice-aggregate-put-text
+    put-text-requires
+    slice-aggregate-put-fields
+    put-fields-requires
+    slice-aggregate-put-text-2
+    put-text-requires-2
+    same-length
+    returns)
