@@ -1,12 +1,10 @@
--- Changes: a number that fits, with the next one too large, is the rule's root; V is small enough for 64 bits; and q of two pictures from the sums of their moves.
-use Prim.Native.Nat.{ℕ, _+_, _-_, _*_, _≤_, _<_}
+-- Changes: a number that fits, with the next one too large, is the rule's root; and V is small enough for 64 bits.
+use Prim.Native.Nat.{ℕ, _-_, _*_, _≤_, _<_}
 use native.Mathlib.Omega.{arith}
 use native.Mathlib.Nat.{mul-assoc, mul-comm, mul-pos, mul-le-mul-left, le-antisymm, le-trans, sub-le}
 use mathlib.Core.Path.{_≡_}
-use mathlib.Core.List.{List}
-use lib.ListN.{length}
-use Rattle.rules.specs.Bytes.{apart, total}
-use Rattle.rules.specs.Changes.{squares, spread, root, change}
+use Rattle.rules.specs.Bytes.{apart}
+use Rattle.rules.specs.Changes.{squares, root}
 use Rattle.rules.proofs.Laws.Changes.{Root, greatest, root-greatest}
 use Rattle.figures.specs.Changes.{Asked, spreadOf}
 
@@ -28,10 +26,3 @@ asked n up down squares a b h =
       few = b;
       bounded = le-trans (sub-le (n * squares) (apart up down * apart up down)) (omega (arith, mul-le-mul-left n h, mul-comm 65025 n, mul-assoc n n 65025));
     }
-
--- q of two pictures, whose pixels rise by `up` and fall by `down` in all
-pub change-is : (before px : List ℕ) (up down : ℕ) → up + total before ≡ down + total px → change before px ≡ root (spreadOf (length px) up down (squares before px)) (length px)
-unfolding change spread spreadOf
-change-is before px up down h =
-    let same : apart (total before) (total px) ≡ apart up down = omega arith in
-    rw same

@@ -2,7 +2,6 @@
 mod changes;
 mod numbers;
 pub mod opening;
-mod scenes;
 mod units;
 
 pub use changes::change;
@@ -10,7 +9,9 @@ pub use numbers::apart;
 pub use numbers::smaller;
 pub use numbers::wide;
 pub use opening::Sizes;
+pub use opening::good_pid;
+pub use opening::good_size;
+pub use opening::good_time;
 pub use opening::opening_fault;
 pub use opening::sizes_of;
-pub use scenes::starts_scene;
 pub use units::gap_loss;

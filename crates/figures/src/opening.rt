@@ -1,15 +1,30 @@
 // Opening: the refusal that it meets, and the sizes that follow from it.
 ghost use mathlib.Core.Path.{_≡_};
-ghost use Rattle.rules.specs.Opening.{goodSize, levelUpTo};
+ghost use Rattle.rules.specs.Opening.{goodSize, goodTime, goodPid, levelUpTo};
 ghost use Rattle.figures.specs.Opening.{OpeningFault, sizesOf};
 use rules::Opening;
 
-fn good_size(w: u32, h: u32) -> bool
-    ensures { λ r. ⌜ r ≡ goodSize w h ⌝ }
+// Not refused by 1.
+pub fn good_size(width: u32, height: u32) -> bool
+    ensures { λ r. ⌜ r ≡ goodSize width height ⌝ }
 {
-    let wide = w as u64;
-    let high = h as u64;
-    (30 <= h) & (h <= 1088) & ((15 <= w) & (w <= 1920)) & (high <= 2 * wide) & (wide <= 4 * high)
+    let w = width as u64;
+    let h = height as u64;
+    (30 <= h) & (h <= 1088) & ((15 <= w) & (w <= 1920)) & (h <= 2 * w) & (w <= 4 * h)
+}
+
+// Not refused by 2.
+pub fn good_time(time: u32) -> bool
+    ensures { λ r. ⌜ r ≡ goodTime time ⌝ }
+{
+    (10000 <= time) & (time <= 200000)
+}
+
+// Not refused by 3.
+pub fn good_pid(pid: u32) -> bool
+    ensures { λ r. ⌜ r ≡ goodPid pid ⌝ }
+{
+    pid <= 8191
 }
 
 // The number of the opening's refusal, 0 for none.
@@ -19,13 +34,10 @@ pub fn opening_fault(o: Opening) -> u64
     if !good_size(o.width, o.height) {
         return 1;
     }
-    if o.time < 10000 {
+    if !good_time(o.time) {
         return 2;
     }
-    if 200000 < o.time {
-        return 2;
-    }
-    if 8191 < o.pid {
+    if !good_pid(o.pid) {
         return 3;
     }
     0

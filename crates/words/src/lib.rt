@@ -1,8 +1,8 @@
-// Numbers in byte strings: little-endian words, read and written at a place, and the network's big-endian ones.
+// Numbers in byte strings: little-endian words, read and written at a place.
 ghost use mathlib.Core.Path.{_≡_};
 ghost use Prim.Native.Nat.{_+_, _*_, _≤_};
 ghost use lib.ListN.{length};
-ghost use Rattle.rules.specs.Bytes.{word32 as rule32, word64 as rule64, network16 as rule16, bytesOf};
+ghost use Rattle.rules.specs.Bytes.{word32 as rule32, word64 as rule64, bytesOf};
 ghost use Rattle.words.specs.Written.{written};
 
 fn wide(x: u8) -> u32
@@ -34,14 +34,6 @@ pub fn word64(s: &[u8], at: usize) -> u64
     let low = word32(s, at);
     let high = word32(s, at + 4);
     low as u64 + 4294967296 * high as u64
-}
-
-// The network's 16-bit number at a place.
-pub fn network16(s: &[u8], at: usize) -> u32
-    requires { ⌜ at + 2 ≤ length (now s) ⌝ }
-    ensures { λ r. ⌜ r ≡ rule16 (now (s .entry)) at ⌝ }
-{
-    joined(s[at + 1], s[at], 0, 0)
 }
 
 // The lowest n bytes of x from a place on, the lowest first.

@@ -1,9 +1,9 @@
 -- `opening_fault` meets its contract: the rule tries 1, 2, 3 in this order, as the code does.
-use mathlib.Core.Path.{sym, _∙_}
 use native.Mathlib.Omega.{arith}
+use mathlib.Core.Path.{sym, _∙_}
 use borrow.Author.Needs.{needs}
-use borrow.Author.Tests.{le-leb, lt-leb, not-true, not-false}
-use Rattle.rules.specs.Opening.{openingFault, goodTime, goodPid}
+use borrow.Author.Tests.{not-true, not-false}
+use Rattle.rules.specs.Opening.{openingFault}
 use Rattle.figures.proofs.opening.opening_fault.Statement.{statement}
 use Rattle.figures.proofs.opening.opening_fault.Tie as tie
 
@@ -14,21 +14,37 @@ returns : tie.Need-returns
 unfolding openingFault
 returns c = record { shown = simp (sym (c .before .good-size .ensures) ∙ not-true _ (c .if1 .taken)); few = omega arith }
 
+good-time-requires : tie.Need-good-time-requires
+good-time-requires c κs = search needs
+
 returns-2 : tie.Need-returns-2
-unfolding openingFault goodTime
-returns-2 c = record { shown = simp (sym (c .before .before .before .good-size .ensures) ∙ not-false _ (c .before .before .if1 .left), lt-leb _ _ (c .if2 .taken)); few = omega arith }
+unfolding openingFault
+returns-2 c =
+    record {
+      shown = simp (sym (c .before .before .before .good-size .ensures) ∙ not-false _ (c .before .before .if1 .left), sym (c .before .good-time .ensures) ∙ not-true _ (c .if2 .taken));
+      few = omega arith;
+    }
+
+good-pid-requires : tie.Need-good-pid-requires
+good-pid-requires c κs = search needs
 
 returns-3 : tie.Need-returns-3
-unfolding openingFault goodTime
-returns-3 c = record { shown = simp (sym (c .before .before .before .before .before .good-size .ensures) ∙ not-false _ (c .before .before .before .before .if1 .left), le-leb _ _ (c .before .before .if2 .left), lt-leb _ _ (c .if3 .taken)); few = omega arith }
+unfolding openingFault
+returns-3 c =
+    record {
+      shown = simp (sym (c .before .before .before .before .before .good-size .ensures) ∙ not-false _ (c .before .before .before .before .if1 .left), sym (c .before .before .before .good-time .ensures) ∙ not-false _ (c .before .before .if2 .left), sym (c .before .good-pid .ensures) ∙ not-true _ (c .if3 .taken));
+      few = omega arith;
+    }
 
 returns-4 : tie.Need-returns-4
-unfolding openingFault goodTime goodPid
-returns-4 c = record { shown = simp (sym (c .before .before .before .before .before .before .before .good-size .ensures) ∙ not-false _ (c .before .before .before .before .before .before .if1 .left), le-leb _ _ (c .before .before .before .before .if2 .left), le-leb _ _ (c .before .before .if3 .left), lt-leb _ _ (c .if4 .taken)); few = omega arith }
-
-returns-5 : tie.Need-returns-5
-unfolding openingFault goodTime goodPid
-returns-5 c = record { shown = simp (sym (c .before .before .before .before .before .before .before .good-size .ensures) ∙ not-false _ (c .before .before .before .before .before .before .if1 .left), le-leb _ _ (c .before .before .before .before .if2 .left), le-leb _ _ (c .before .before .if3 .left), le-leb _ _ (c .if4 .left)); few = omega arith }
+unfolding openingFault
+returns-4 c =
+    record {
+      shown = simp (sym (c .before .before .before .before .before .good-size .ensures) ∙ not-false _ (c .before .before .before .before .if1 .left), sym (c .before .before .before .good-time .ensures) ∙ not-false _ (c .before .before .if2 .left), sym (c .before .good-pid .ensures) ∙ not-false _ (c .if3 .left));
+      few = omega arith;
+    }
 
 pub opening-fault-spec : {M : Type 1} → statement M
-opening-fault-spec = tie.close (tie.spec good-size-requires returns returns-2 returns-3 returns-4 returns-5)
+opening-fault-spec =
+    tie.close
+    (tie.spec good-size-requires returns good-time-requires returns-2 good-pid-requires returns-3 returns-4)
