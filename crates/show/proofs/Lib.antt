@@ -1,0 +1,2 @@
+-- What the lines' promises give the program.
+pub mod Shown

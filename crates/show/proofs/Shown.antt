@@ -1,0 +1,16 @@
+-- A line that was made is a part of its buffer.
+use Prim.Native.Nat.{ℕ, _≤_}
+use native.Mathlib.Omega.{arith}
+use mathlib.Core.Path.{_≡_, sym, ap, _∙_}
+use mathlib.Core.List.{List, _++_}
+use lib.ListN.{length, take, drop, length-append}
+use lib.Seq.{length-take-le}
+use Rattle.rules.specs.Seal.{over}
+
+module _ (line before after : List ℕ) (n : ℕ) (made : (n ≡ length line) × (after ≡ over line before)) where
+  pub within-buffer : n ≤ length after
+  unfolding over
+  within-buffer = omega (arith, made .0, ap length (made .1), length-append line (drop (length line) before))
+
+  pub whole-line : n ≡ length (take n after)
+  whole-line = sym (length-take-le n after within-buffer)

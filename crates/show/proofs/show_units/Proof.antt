@@ -1,0 +1,72 @@
+use native.Mathlib.Omega.{arith}
+use borrow.Author.Needs.{needs}
+use mathlib.Core.Path.{_≡_, refl}
+use Prim.Native.Nat.{_-_, _≤_}
+use lib.ListN.{length}
+use Rattle.show.proofs.Shown.{within-buffer, whole-line}
+use Rattle.rules.specs.Reading.{unitPlace}
+use Rattle.show.proofs.show_units.Statement.{statement}
+use Rattle.show.proofs.show_units.Tie as tie
+use Rattle.show.proofs.show_units.Reads as reads
+use Rattle.show.proofs.show_units.Lts as lts
+use Rattle.io.proofs.write_all.Reads as write-all-reads
+use Rattle.lines.proofs.unit_line.Reads as unit-line-reads
+use Rattle.record.proofs.unit_row.Reads as unit-row-reads
+
+abbrev Inv-loop : tie.InvT-loop
+Inv-loop bytes units text₀ j₀ text j = (j ≤ units) × (length text ≡ 200)
+
+abbrev μ-loop : tie.MeasureT-loop
+μ-loop bytes units text₀ j₀ text j = units - j
+
+loop-holds : tie.Need-loop-holds Inv-loop μ-loop
+loop-holds c = (omega arith, refl)
+
+unit-row-requires : tie.Need-unit-row-requires Inv-loop μ-loop
+unfolding unitPlace
+unit-row-requires c κs = omega arith
+
+slice-aggregate-unit-line : tie.Need-slice-aggregate-unit-line Inv-loop μ-loop
+slice-aggregate-unit-line c = omega arith
+
+unit-line-requires : tie.Need-unit-line-requires Inv-loop μ-loop
+unit-line-requires c κs = omega arith
+
+array-share-prefix-text : tie.Need-array-share-prefix-text Inv-loop μ-loop
+array-share-prefix-text c = within-buffer _ _ _ _ (c .before .unit-line .ensures)
+
+slice-aggregate-write-all : tie.Need-slice-aggregate-write-all Inv-loop μ-loop
+slice-aggregate-write-all c = whole-line _ _ _ _ (c .before .before .unit-line .ensures)
+
+write-all-requires : tie.Need-write-all-requires Inv-loop μ-loop
+write-all-requires c κs = search needs
+
+add-j : tie.Need-add-j Inv-loop μ-loop
+add-j c = omega arith
+
+loop-less : tie.Need-loop-less Inv-loop μ-loop
+loop-less c = omega arith
+
+loop-again : tie.Need-loop-again Inv-loop μ-loop
+loop-again c = (omega arith, omega (arith, c .before .before .before .unit-line .kept .0))
+
+returns : tie.Need-returns Inv-loop μ-loop
+returns c = search needs
+
+pub show-units-spec : {M : Type 1} → statement M
+show-units-spec =
+    tie.close
+    (tie.spec
+    Inv-loop
+    μ-loop
+    loop-holds
+    unit-row-requires
+    slice-aggregate-unit-line
+    unit-line-requires
+    array-share-prefix-text
+    slice-aggregate-write-all
+    write-all-requires
+    add-j
+    loop-less
+    loop-again
+    returns)

@@ -1,0 +1,57 @@
+// Program `show`: reads a record on standard input and prints its figures, a line for the sample and one for each row, or the refusal.
+// The longest record has 32,064 bytes; of longer input the first 65,536 are enough to refuse it.
+ghost use mathlib.Core.Path.{_≡_};
+ghost use Prim.Native.Nat.{_+_, _*_, _≤_};
+ghost use lib.ListN.{length};
+ghost use Rattle.rules.specs.Bytes.{word32};
+use libc::STDIN_FILENO;
+use libc::STDOUT_FILENO;
+use record::Opened;
+
+fn show_units(bytes: &[u8], units: usize)
+    requires { ⌜ 64 + 32 * units ≤ length (now bytes) ⌝ }
+{
+    let mut text = [0u8; 200];
+    let mut j = 0;
+    while j < units {
+        let row = record::unit_row(bytes, j);
+        let n = lines::unit_line(&mut text, j as u64, row);
+        io::write_all(STDOUT_FILENO, &text[..n]);
+        j += 1;
+    }
+}
+
+fn show_scenes(bytes: &[u8], units: usize, scenes: usize)
+    requires { ⌜ (units ≡ word32 (now bytes) 8) × (64 + 32 * (units + scenes) ≤ length (now bytes)) ⌝ }
+{
+    let mut text = [0u8; 200];
+    let mut j = 0;
+    while j < scenes {
+        let row = record::scene_row(bytes, units, j);
+        let n = lines::scene_line(&mut text, j as u64, row);
+        io::write_all(STDOUT_FILENO, &text[..n]);
+        j += 1;
+    }
+}
+
+fn show(bytes: &[u8]) {
+    let mut text = [0u8; 200];
+    match record::open(bytes) {
+        Opened::Accepted { units, scenes } => {
+            let n = lines::sample_line(&mut text, record::header_figures(bytes));
+            io::write_all(STDOUT_FILENO, &text[..n]);
+            show_units(bytes, units);
+            show_scenes(bytes, units, scenes);
+        }
+        Opened::Refused { number, place: _ } => {
+            let n = lines::refused_line(&mut text, number);
+            io::write_all(STDOUT_FILENO, &text[..n]);
+        }
+    }
+}
+
+fn main() {
+    let mut input = io::large_buffer();
+    let n = io::read_full(STDIN_FILENO, &mut input);
+    show(&input[..n]);
+}
