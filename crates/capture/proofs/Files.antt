@@ -25,13 +25,13 @@ use Rattle.capture.proofs.Fits.{longer}
 use Rattle.capture.proofs.Steps.{refuse, table-set, bytes-more}
 
 -- of a file header there is nothing to count
-header-bad : (o : Opening) (s : List ℕ) → length s ≤ 24 → badCount o s ≡ 0
+pub header-bad : (o : Opening) (s : List ℕ) → length s ≤ 24 → badCount o s ≡ 0
 header-bad o s h = bad-of o s ∙ rw (reached-none s h 188 (omega arith) (omega arith)) (unfold badOf count in refl)
 
-header-wanted : (o : Opening) (s : List ℕ) → length s ≤ 24 → wholeWanted o s ≡ []
+pub header-wanted : (o : Opening) (s : List ℕ) → length s ≤ 24 → wholeWanted o s ≡ []
 header-wanted o s h = wanted-of o s ∙ rw (reached-none s h 188 (omega arith) (omega arith)) (unfold wantedOf only in refl)
 
-none-skipped : skipped [] ≡ 0
+pub none-skipped : skipped [] ≡ 0
 unfolding skipped count
 none-skipped = refl
 

@@ -27,7 +27,7 @@ pub struct Meter {
     pub units: Units,
 }
 
-fn load(words: &[u64; 3840]) -> Meter
+pub fn load(words: &[u64; 3840]) -> Meter
     ensures { λ r. ⌜ r ≡ loaded (now (words .entry)) ⌝ }
 {
     let units = Units {
