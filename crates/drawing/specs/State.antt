@@ -61,9 +61,10 @@ movesIn s = record { up = s .ups; down = s .downs; squares = s .squares }
 
 -- ---- whole pictures, with the pixels pxs
 
--- what the words hold of them: every cut score that is settled and every change, 0 elsewhere, and the map of repeats
+-- what the words hold: the opening, and of the pictures every cut score that is settled and every change, 0 elsewhere, and the map of repeats
 pub record Words (o : Opening) (pxs : List (List ℕ)) (luma : List ℕ) : Type 0 where
   pub size : length luma ≡ 1600
+  pub opening : openingIn luma ≡ o
   pub scores : (i : ℕ) → i < 750 → getD luma (100 + i) 0 ≡ cutScore (map (histograms o) pxs) i
   pub changes : (i : ℕ) → i < 750 → getD luma (850 + i) 0 ≡ getD (changes pxs) i 0
   pub repeats : (j : ℕ) → j < 12 → getD luma (64 + j) 0 ≡ mapWord (repeats pxs) j

@@ -1,0 +1,4 @@
+pub mod Notes
+pub mod Ends
+pub mod Pieces
+pub mod Posts

@@ -1,0 +1,154 @@
+-- What each function of the luma side promises. What the arrays stand for is `Means`, in the crate `drawing`.
+use Prim.Native.Nat.{ℕ, _+_, _-_, _*_, _/_, _%_, _^_, _≤_, _<_}
+use mathlib.Core.Path.{_≡_}
+use mathlib.Core.List.{List, [], _++_}
+use mathlib.Core.Bool.{Bool, true}
+use lib.ListN.{length, getD, take, set}
+use lib.Dec.{eqb}
+use Rattle.rules.specs.declared.Opening.{Opening}
+use Rattle.rules.specs.declared.Answer.{Answer}
+use Rattle.rules.specs.Bytes.{pick}
+use Rattle.rules.specs.Opening.{openingFault, openAnswer}
+use Rattle.rules.specs.Refusals.{none}
+use Rattle.rules.specs.Seal.{lumaAnswer}
+use Rattle.figures.specs.Changes.{Changed}
+use Rattle.cuts.specs.Counts.{leastAt}
+use Rattle.drawing.specs.declared.Grid.{Grid}
+use Rattle.drawing.specs.declared.Progress.{Progress}
+use Rattle.drawing.specs.declared.Taken.{Taken}
+use Rattle.drawing.specs.State.{loaded, openingIn, gridOf, slot, Live, Sane, Stands, Means}
+use Rattle.drawing.specs.Contract.{Fits, Goes, Loose, Took, Taking}
+
+-- ---- the calls
+
+-- the opening, the answer, the arrays after
+pub record OpenPost (o : Opening) (a : Answer) (luma sums bins picture : List ℕ) : Type 0 where
+  pub answer : a ≡ openAnswer o
+  pub means : Means luma sums bins picture o []
+
+-- the arrays before, the piece, the answer, the arrays after
+pub record FeedPost (luma sums bins picture piece : List ℕ) (a : Answer) (luma′ sums′ bins′ picture′ : List ℕ) : Type 0 where
+  pub means : (o : Opening) (joined : List ℕ) → Means luma sums bins picture o joined → Means luma′ sums′ bins′ picture′ o (joined ++ piece)
+  pub answer : (o : Opening) (joined : List ℕ) → Means luma sums bins picture o joined → a ≡ lumaAnswer o (joined ++ piece) (length piece)
+
+-- ---- a picture's end
+
+-- 1 if no pixel moved since the previous picture
+abbrev pub againOf : Progress → ℕ
+againOf s = pick (eqb (s .pictures) 0) 0 (pick (eqb (s .squares % 2 ^ 32) 0) 1 0)
+
+-- q of the picture that ends: 0 for the first
+pub record ChangeOf (g : Grid) (s : Progress) (r : ℕ) : Type 0 where
+  pub first : s .pictures ≡ 0 → r ≡ 0
+  pub later : (s .pictures ≡ 0 → ⊥) → Changed (g .lines * g .columns) (s .ups % 2 ^ 32) (s .downs % 2 ^ 32) (s .squares % 2 ^ 32) r
+
+-- the cut score that picture i settles, and that each count is a u32
+pub record ScoreOf (bins : List ℕ) (i r : ℕ) : Type 0 where
+  pub early : i < 4 → r ≡ 0
+  pub later : 4 ≤ i → r ≡ leastAt bins (slot (i - 4)) (slot (i - 3)) (slot (i - 2)) (slot (i - 1)) (slot i)
+  pub small : (k : ℕ) → getD bins k 0 < 2 ^ 32
+
+-- picture i's change, its bit in the map of repeats, and the cut score of picture i - 2
+abbrev pub bitOf : ℕ → ℕ → ℕ
+bitOf i again = again * 2 ^ (i % 64) % 2 ^ 64
+
+abbrev pub withBit : List ℕ → ℕ → ℕ → List ℕ
+withBit w i again = set w (64 + i / 64) ((getD w (64 + i / 64) 0 + bitOf i again) % 2 ^ 64)
+
+abbrev pub noted : List ℕ → ℕ → ℕ → ℕ → ℕ → List ℕ
+noted w i q again score = set (withBit (set w (850 + i) q) i again) (98 + i) score
+
+-- the start of the next picture
+abbrev pub nextPicture : Progress → ℕ → Progress
+nextPicture s again =
+    record {
+      status = s .status;
+      place = s .place;
+      fed = s .fed;
+      pictures = s .pictures + 1;
+      fresh = (s .fresh + (1 - again)) % 2 ^ 64;
+      line = 0;
+      row = 0;
+      col = 0;
+      left = 0;
+      ups = 0;
+      downs = 0;
+      squares = 0;
+    }
+
+pub record AtPictureEnd (g : Grid) (s : Progress) : Type 0 where
+  pub fits : Fits g
+  pub more : s .pictures < 750
+  pub line : s .line ≡ g .lines
+  pub left : s .left ≡ 0
+
+pub record PictureEnded (g : Grid) (s : Progress) (luma bins : List ℕ) (r : Progress) (luma′ bins′ : List ℕ) : Type 0 where
+  pub is : r ≡ nextPicture s (againOf s)
+  pub goes : (sums picture : List ℕ) → Goes g s luma sums bins picture [] r luma′ sums bins′ picture
+
+-- ---- steps through a piece
+
+-- what `finish` asks
+pub record Finishing (g : Grid) (t : Taken) : Type 0 where
+  pub fits : Fits g
+  pub loose : Loose g (t .state)
+  pub more : t .state .pictures < 750
+
+pub record Finished (g : Grid) (t : Taken) (luma bins : List ℕ) (r : Taken) (luma′ bins′ : List ℕ) : Type 0 where
+  pub used : r .used ≡ t .used
+  pub sane : Sane g (r .state)
+  pub goes : (sums picture : List ℕ) → Goes g (t .state) luma sums bins picture [] (r .state) luma′ sums bins′ picture
+
+abbrev pub Passed : Grid → Progress → List ℕ → Taken → Type 0
+Passed g s rest r = (sums bins picture : List ℕ) → Took g s sums bins picture rest r sums bins picture
+
+pub record Stepped (g : Grid) (s : Progress) (luma sums bins picture rest : List ℕ) (r : Taken) (luma′ sums′ bins′ picture′ : List ℕ) : Type 0 where
+  pub some : 0 < r .used
+  pub most : r .used ≤ length rest
+  pub sane : Sane g (r .state)
+  pub goes : Goes g s luma sums bins picture (take (r .used) rest) (r .state) luma′ sums′ bins′ picture′
+
+-- the arrays, but for the scalars in the words, which are s
+pub record Holding (o : Opening) (s : Progress) (luma sums bins picture joined : List ℕ) : Type 0 where
+  pub size : length luma ≡ 1600
+  pub opening : openingIn luma ≡ o
+  pub stands : Stands o s luma sums bins picture joined
+
+-- a whole piece
+abbrev pub Ran : Grid → Progress → List ℕ → List ℕ → List ℕ → List ℕ → List ℕ → Progress → List ℕ → List ℕ → List ℕ → List ℕ → Type 0
+Ran g s luma sums bins picture piece r luma′ sums′ bins′ picture′ =
+    (o : Opening) (joined : List ℕ) → openingFault o ≡ none → g ≡ gridOf o → Live g o s luma sums bins picture joined →
+    Holding o r luma′ sums′ bins′ picture′ (joined ++ piece)
+
+-- what a feed of n bytes answers
+abbrev pub Replied : Progress → ℕ → Answer → Type 0
+Replied s n a = (o : Opening) (luma sums bins picture joined : List ℕ) → Stands o s luma sums bins picture joined → a ≡ lumaAnswer o joined n
+
+-- a refusal 10
+abbrev pub stoppedAt : Grid → Progress → Progress
+stoppedAt g s =
+    record {
+      status = 10;
+      place = 750 * g .bytes;
+      fed = s .fed;
+      pictures = s .pictures;
+      fresh = s .fresh;
+      line = s .line;
+      row = s .row;
+      col = s .col;
+      left = s .left;
+      ups = s .ups;
+      downs = s .downs;
+      squares = s .squares;
+    }
+
+-- ---- the scalars in the words
+
+pub record Stored (before : List ℕ) (s : Progress) (after : List ℕ) : Type 0 where
+  pub size : length after ≡ length before
+  pub loads : length before ≡ 1600 → loaded after ≡ s
+  pub kept : (i : ℕ) → 12 ≤ i → getD after i 0 ≡ getD before i 0
+
+pub record Placed (g : Grid) (s : Progress) (r : Bool) : Type 0 where
+  pub sound : r ≡ true → Sane g s
+  pub whole : Sane g s → r ≡ true
