@@ -37,7 +37,7 @@ pub bytes-left : (s t : List ℕ) → Bytes (s ++ t) → Bytes s
 bytes-left [] t h = none
 bytes-left (b ∷ s) t (and k h) = and k (bytes-left s t h)
 
-still : (old : List ℕ) (s : Progress) → s .ups ≡ 0 → s .downs ≡ 0 → s .squares ≡ 0 → Figures old [] (movesIn s)
+pub still : (old : List ℕ) (s : Progress) → s .ups ≡ 0 → s .downs ≡ 0 → s .squares ≡ 0 → Figures old [] (movesIn s)
 unfolding tally
 still old s a b c = record { up = rw a; down = rw b; both = rw c }
 

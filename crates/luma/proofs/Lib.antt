@@ -2,3 +2,5 @@ pub mod Notes
 pub mod Ends
 pub mod Pieces
 pub mod Posts
+pub mod Opens
+pub mod Seals

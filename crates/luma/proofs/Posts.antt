@@ -67,10 +67,9 @@ short {g} {s} {cur} f sane (drawing h e k) =
 short f sane (passing h e k c) = omega (arith, e, sane .left h)
 
 -- and no byte is past 750 pictures
-pub no-fault : (o : Opening) {s : Progress} {luma sums bins picture joined : List ℕ} → openingFault o ≡ none → Sane (gridOf o) s →
-    Live (gridOf o) o s luma sums bins picture joined → lumaFault o joined ≡ none
-unfolding lumaFault
-no-fault o {s} {luma} {sums} {bins} {picture} {joined} e sane v = rw (le-ltb (750 * pictureSize o) (length joined) (rw (v .split) (go (decLe 750 (length (v .pxs)))))) refl
+pub not-past : (o : Opening) {s : Progress} {luma sums bins picture joined : List ℕ} → openingFault o ≡ none → Sane (gridOf o) s →
+    Live (gridOf o) o s luma sums bins picture joined → length joined ≤ 750 * pictureSize o
+not-past o {s} {luma} {sums} {bins} {picture} {joined} e sane v = rw (v .split) (go (decLe 750 (length (v .pxs))))
   where
     long : length (v .whole ++ v .cur) ≡ length (v .pxs) * pictureSize o + length (v .cur)
     long = length-append (v .whole) (v .cur) ∙ ap (λ (n : ℕ). n + length (v .cur)) (v .full)
@@ -82,6 +81,11 @@ no-fault o {s} {luma} {sums} {bins} {picture} {joined} e sane v = rw (le-ltb (75
     go (no h) =
         let up : length (v .pxs) + 1 ≤ 750 = omega (arith, lt-of-not-le h) in
         omega (arith, long, short (fits-of o e) sane (v .place), mul-le-mul-right (pictureSize o) up, add-mul (length (v .pxs)) 1 (pictureSize o))
+
+pub no-fault : (o : Opening) {s : Progress} {luma sums bins picture joined : List ℕ} → openingFault o ≡ none → Sane (gridOf o) s →
+    Live (gridOf o) o s luma sums bins picture joined → lumaFault o joined ≡ none
+unfolding lumaFault
+no-fault o {s} {luma} {sums} {bins} {picture} {joined} e sane v = rw (le-ltb (750 * pictureSize o) (length joined) (not-past o e sane v))
 
 -- ---- refusals
 

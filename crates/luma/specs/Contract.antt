@@ -2,21 +2,24 @@
 use Prim.Native.Nat.{ℕ, _+_, _-_, _*_, _/_, _%_, _^_, _≤_, _<_}
 use mathlib.Core.Path.{_≡_}
 use mathlib.Core.List.{List, [], _++_}
-use mathlib.Core.Bool.{Bool, true}
+use mathlib.Core.Bool.{Bool, true, false}
 use lib.ListN.{length, getD, take, set}
 use lib.Dec.{eqb}
 use Rattle.rules.specs.declared.Opening.{Opening}
 use Rattle.rules.specs.declared.Answer.{Answer}
 use Rattle.rules.specs.Bytes.{pick}
 use Rattle.rules.specs.Opening.{openingFault, openAnswer}
-use Rattle.rules.specs.Refusals.{none}
-use Rattle.rules.specs.Seal.{lumaAnswer}
+use Rattle.rules.specs.Refusals.{Fault, none, fault, _orElse_}
+use Rattle.rules.specs.Pictures.{pictureCount, lumaFault}
+use Rattle.rules.proofs.Laws.Pictures.{Bytes}
+use Rattle.rules.specs.Seal.{reduced, unrepeated, lumaOpen, lumaAnswer}
 use Rattle.figures.specs.Changes.{Changed}
 use Rattle.cuts.specs.Counts.{leastAt}
 use Rattle.drawing.specs.declared.Grid.{Grid}
 use Rattle.drawing.specs.declared.Progress.{Progress}
 use Rattle.drawing.specs.declared.Taken.{Taken}
-use Rattle.drawing.specs.State.{loaded, openingIn, gridOf, slot, Live, Sane, Stands, Means}
+use Rattle.luma.specs.declared.Summary.{Summary}
+use Rattle.drawing.specs.State.{loaded, openingIn, gridOf, slot, Words, Live, Sane, Stands, Means}
 use Rattle.drawing.specs.Contract.{Fits, Goes, Loose, Took, Taking}
 
 -- ---- the calls
@@ -30,6 +33,29 @@ pub record OpenPost (o : Opening) (a : Answer) (luma sums bins picture : List �
 pub record FeedPost (luma sums bins picture piece : List ℕ) (a : Answer) (luma′ sums′ bins′ picture′ : List ℕ) : Type 0 where
   pub means : (o : Opening) (joined : List ℕ) → Means luma sums bins picture o joined → Means luma′ sums′ bins′ picture′ o (joined ++ piece)
   pub answer : (o : Opening) (joined : List ℕ) → Means luma sums bins picture o joined → a ≡ lumaAnswer o (joined ++ piece) (length piece)
+
+-- what a seal needs of the luma side, where no refusal stands: every figure is the rule's
+pub record Known (luma : List ℕ) (o : Opening) (joined : List ℕ) (r : Summary) : Type 0 where
+  pub opened : openingFault o ≡ none
+  pub clear : lumaFault o joined ≡ none
+  pub bytes : Bytes joined
+  pub fed : r .fed ≡ length joined
+  pub inside : lumaOpen o joined ≡ pick (r .inside) (fault 13 (length joined)) none
+  pub pictures : r .pictures ≡ pictureCount o joined
+  pub fresh : r .fresh ≡ unrepeated o joined
+  pub words : Words o (reduced o joined) luma
+
+-- the refusal that stands, or the figures
+pub record Summarised (luma : List ℕ) (o : Opening) (joined : List ℕ) (r : Summary) : Type 0 where
+  pub refused : 0 < r .status → openingFault o orElse lumaFault o joined ≡ fault (r .status) (r .place)
+  pub live : r .status ≡ 0 → Known luma o joined r
+
+abbrev pub SummaryPost : List ℕ → Summary → Type 0
+SummaryPost luma r = (sums bins picture : List ℕ) (o : Opening) (joined : List ℕ) → Means luma sums bins picture o joined → Summarised luma o joined r
+
+-- the place is not a picture's start
+abbrev pub insideOf : Progress → Bool
+insideOf s = pick (eqb (s .line) 0) (pick (eqb (s .row) 0) (pick (eqb (s .col) 0) false true) true) true
 
 -- ---- a picture's end
 

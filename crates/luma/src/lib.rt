@@ -5,12 +5,22 @@ ghost use Prim.Native.Nat.{ℕ, _+_, _-_, _*_, _/_, _%_, _^_, _≤_, _<_};
 ghost use lib.ListN.{length, getD};
 ghost use Rattle.drawing.specs.State.{loaded, openingIn, gridOf, Sane};
 ghost use Rattle.drawing.specs.Contract.{Fits, passedOn, Took, Taking};
-ghost use Rattle.luma.specs.Contract.{againOf, ChangeOf, ScoreOf, noted, nextPicture, AtPictureEnd, PictureEnded, Finishing, Finished, Passed, Stepped, Ran, stoppedAt, Stored, Placed, Replied, OpenPost, FeedPost};
+ghost use Rattle.luma.specs.Contract.{againOf, ChangeOf, ScoreOf, noted, nextPicture, AtPictureEnd, PictureEnded, Finishing, Finished, Passed, Stepped, Ran, stoppedAt, Stored, Placed, Replied, insideOf, OpenPost, FeedPost, SummaryPost};
 use drawing::Grid;
 use drawing::Progress;
 use drawing::Taken;
 use rules::Answer;
 use rules::Opening;
+
+// What a seal needs: the refusal that stands, bytes fed, whether they end inside a picture, whole pictures, and those of them that are not repeated.
+pub struct Summary {
+    pub status: u64,
+    pub place: u64,
+    pub fed: u64,
+    pub inside: bool,
+    pub pictures: u64,
+    pub fresh: u64,
+}
 
 // ---- a picture's end
 
@@ -358,6 +368,35 @@ fn reply(s: Progress, n: u64) -> Answer
 
 // ---- the calls
 
+// Opens the state.
+pub fn open(
+    luma: &mut [u64; 1600],
+    sums: &mut [u32; 240],
+    bins: &mut [u32; 720],
+    picture: &mut [u8; 14104],
+    o: Opening,
+) -> Answer
+    ensures { λ r. ⌜ OpenPost o r (now (luma .exit)) (now (sums .exit)) (now (bins .exit)) (now (picture .exit)) ⌝ }
+{
+    *luma = [0u64; 1600];
+    *sums = [0u32; 240];
+    *bins = [0u32; 720];
+    *picture = [0u8; 14104];
+    let f = figures::opening_fault(o);
+    luma[0] = f;
+    luma[12] = o.width as u64;
+    luma[13] = o.height as u64;
+    luma[14] = o.time as u64;
+    luma[15] = o.pid as u64;
+    if f != 0 {
+        return Answer::Refused {
+            number: f,
+            place: 0,
+        };
+    }
+    Answer::Done(0)
+}
+
 // Feeds a piece.
 pub fn feed(
     luma: &mut [u64; 1600],
@@ -388,4 +427,35 @@ pub fn feed(
     let r = run(luma, sums, bins, picture, g, s, piece);
     store(luma, r);
     reply(r, n)
+}
+
+// Whether the place is not a picture's start.
+fn inside_of(s: Progress) -> bool
+    ensures { λ r. ⌜ r ≡ insideOf s ⌝ }
+{
+    if s.line == 0 {
+        if s.row == 0 {
+            if s.col == 0 {
+                return false;
+            }
+            return true;
+        }
+        return true;
+    }
+    true
+}
+
+pub fn summarise(luma: &[u64; 1600]) -> Summary
+    ensures { λ r. ⌜ SummaryPost (now (luma .entry)) r ⌝ }
+{
+    let s = load(luma);
+    let inside = inside_of(s);
+    Summary {
+        status: s.status,
+        place: s.place,
+        fed: s.fed,
+        inside: inside,
+        pictures: s.pictures as u64,
+        fresh: s.fresh,
+    }
 }

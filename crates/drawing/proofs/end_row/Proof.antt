@@ -5,52 +5,34 @@ use Rattle.drawing.proofs.Rows.{row-room, row-ended}
 use borrow.Author.Needs.{needs}
 use Rattle.drawing.proofs.end_row.Statement.{statement}
 use Rattle.drawing.proofs.end_row.Tie as tie
-use Rattle.drawing.proofs.end_row.Reads as reads
-use Rattle.drawing.proofs.end_row.Lts as lts
-use Rattle.blocks.proofs.finish_row.Reads as finish-row-reads
-use Rattle.drawing.proofs.keep.Reads as keep-reads
-use Rattle.drawing.proofs.moves_in.Reads as moves-in-reads
-use Rattle.drawing.proofs.next_row.Reads as next-row-reads
-use Rattle.moves.proofs.compare_run.Reads as compare-run-reads
-use Rattle.tiles.proofs.count_row.Reads as count-row-reads
 
--- src/lib.rt:122:16
 mul-base : tie.Need-mul-base
 mul-base c = let p = c .before .pre in let a = c .before .args in omega (arith, row-room (a .g) (a .s) (p .line), p .fits .room)
 
--- src/lib.rt:124:5
 keep-requires : tie.Need-keep-requires
 keep-requires c κs = let p = c .before .before .before .pre in let a = c .before .before .before .args in (omega (arith, p .fits .narrow), omega (arith, row-room (a .g) (a .s) (p .line), p .fits .room))
 
--- src/lib.rt:125:5
 finish-row-requires : tie.Need-finish-row-requires
 finish-row-requires c κs = let p = c .before .before .before .before .before .before .pre in let a = c .before .before .before .before .before .before .args in record { some = p .fits .some; few = omega (arith, p .fits .few); room = omega (arith, p .fits .narrow); fits = omega (arith, row-room (a .g) (a .s) (p .line), p .fits .room) }
 
--- src/lib.rt:126:16
 mul-slot : tie.Need-mul-slot
 mul-slot c = search needs
 
--- src/lib.rt:127:5
 count-row-requires : tie.Need-count-row-requires
 count-row-requires c κs = let p = c .before .before .before .before .before .before .before .before .before .before .before .pre in let a = c .before .before .before .before .before .before .before .before .before .before .before .args in record { wide = omega (arith, p .fits .wide); few = omega (arith, p .fits .narrow); inside = p .line; low = omega (arith, p .fits .low); slot = omega arith; there = omega (arith, row-room (a .g) (a .s) (p .line), p .fits .room) }
 
--- src/lib.rt:128:32
 moves-in-requires : tie.Need-moves-in-requires
 moves-in-requires c κs = search needs
 
--- src/lib.rt:128:45
 slice-aggregate-compare-run : tie.Need-slice-aggregate-compare-run
 slice-aggregate-compare-run c = search needs
 
--- src/lib.rt:128:9
 compare-run-requires : tie.Need-compare-run-requires
 compare-run-requires c κs = let p = c .before .before .before .before .before .before .before .before .before .before .before .before .before .before .before .before .pre in let a = c .before .before .before .before .before .before .before .before .before .before .before .before .before .before .before .before .args in record { kept-there = omega (arith, p .fits .narrow); made-there = omega (arith, row-room (a .g) (a .s) (p .line), p .fits .room) }
 
--- src/lib.rt:129:5
 next-row-requires : tie.Need-next-row-requires
 next-row-requires c κs = let p = c .before .before .before .before .before .before .before .before .before .before .before .before .before .before .before .before .before .pre in (p .fits, p .line)
 
--- src/lib.rt:111:1
 returns : tie.Need-returns
 returns c = let p = c .before .before .before .before .before .before .before .before .before .before .before .before .before .before .before .before .before .before .pre in let a = c .before .before .before .before .before .before .before .before .before .before .before .before .before .before .before .before .before .before .args in row-ended (a .g) (a .s) (p .fits) (p .line) (p .row) (p .col) refl (c .before .before .before .before .before .before .before .before .before .before .before .before .before .before .keep .ensures) (c .before .before .before .before .before .before .before .before .before .before .before .finish-row .ensures) (c .before .before .before .before .before .before .count-row .ensures) (c .before .before .before .before .before .moves-in .ensures) (c .before .compare-run .ensures) _ (c .next-row .ensures)
 

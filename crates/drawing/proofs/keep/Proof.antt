@@ -6,8 +6,6 @@ use Rattle.drawing.specs.Contract.{Keeps}
 use Rattle.drawing.proofs.Rows.{keeps-none, keeps-more}
 use Rattle.drawing.proofs.keep.Statement.{statement}
 use Rattle.drawing.proofs.keep.Tie as tie
-use Rattle.drawing.proofs.keep.Reads as reads
-use Rattle.drawing.proofs.keep.Lts as lts
 
 abbrev Inv-loop : tie.InvT-loop
 Inv-loop kept₀ picture base w j₀ kept j = (j ≤ w) × Keeps base j picture kept₀ kept
@@ -15,35 +13,27 @@ Inv-loop kept₀ picture base w j₀ kept j = (j ≤ w) × Keeps base j picture 
 abbrev μ-loop : tie.MeasureT-loop
 μ-loop kept₀ picture base w j₀ kept j = w - j
 
--- src/lib.rt:104:5
 loop-holds : tie.Need-loop-holds Inv-loop μ-loop
 loop-holds c = (omega arith, keeps-none _ _ _)
 
--- src/lib.rt:105:27
 add-kept : tie.Need-add-kept Inv-loop μ-loop
 add-kept c = search needs
 
--- src/lib.rt:105:19
 element-copy-out-kept : tie.Need-element-copy-out-kept Inv-loop μ-loop
 element-copy-out-kept c = search needs
 
--- src/lib.rt:105:9
 element-write-kept : tie.Need-element-write-kept Inv-loop μ-loop
 element-write-kept c = search needs
 
--- src/lib.rt:106:9
 add-j : tie.Need-add-j Inv-loop μ-loop
 add-j c = search needs
 
--- src/lib.rt:104:5
 loop-less : tie.Need-loop-less Inv-loop μ-loop
 loop-less c = omega arith
 
--- src/lib.rt:104:5
 loop-again : tie.Need-loop-again Inv-loop μ-loop
 loop-again c = (omega arith, keeps-more (c .before .before .loop .inv .1) (omega arith) refl)
 
--- src/lib.rt:99:1
 returns : tie.Need-returns Inv-loop μ-loop
 returns c = let e : c .before .loop .j ≡ c .before .before .args .w = omega arith in rw e at (c .before .loop .inv .1)
 

@@ -1,18 +1,13 @@
 use borrow.Author.Tests.{eq-eqb, ne-eqb}
 use Rattle.luma.proofs.again_of.Statement.{statement}
 use Rattle.luma.proofs.again_of.Tie as tie
-use Rattle.luma.proofs.again_of.Reads as reads
-use Rattle.luma.proofs.again_of.Lts as lts
 
--- src/lib.rt:20:9
 returns : tie.Need-returns
 returns c = rw (eq-eqb _ 0 (c .if1 .taken))
 
--- src/lib.rt:24:9
 returns-2 : tie.Need-returns-2
 returns-2 c = rw (ne-eqb _ 0 (c .before .before .if1 .left), eq-eqb _ 0 (c .if2 .taken))
 
--- src/lib.rt:16:1
 returns-3 : tie.Need-returns-3
 returns-3 c = rw (ne-eqb _ 0 (c .before .before .if1 .left), ne-eqb _ 0 (c .if2 .left))
 

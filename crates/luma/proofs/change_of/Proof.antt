@@ -2,32 +2,22 @@ use native.Mathlib.Omega.{arith}
 use borrow.Author.Needs.{needs}
 use Rattle.luma.proofs.change_of.Statement.{statement}
 use Rattle.luma.proofs.change_of.Tie as tie
-use Rattle.luma.proofs.change_of.Reads as reads
-use Rattle.luma.proofs.change_of.Lts as lts
-use Rattle.drawing.proofs.moves_in.Reads as moves-in-reads
-use Rattle.figures.proofs.change.Reads as change-reads
 
--- src/lib.rt:35:9
 returns : tie.Need-returns
 returns c = search needs
 
--- src/lib.rt:37:9
 moves-in-requires : tie.Need-moves-in-requires
 moves-in-requires c κs = search needs
 
--- src/lib.rt:38:14
 mul-n : tie.Need-mul-n
 mul-n c = search needs
 
--- src/lib.rt:38:13
 cast-n : tie.Need-cast-n
 cast-n c = search needs
 
--- src/lib.rt:39:5
 change-requires : tie.Need-change-requires
 change-requires c κs = search needs
 
--- src/lib.rt:30:1
 returns-2 : tie.Need-returns-2
 returns-2 c = record { first = λ e. absurd (c .before .before .before .if1 .left e); later = λ n. rw (← c .before .before .moves-in .ensures .0, ← c .before .before .moves-in .ensures .1, ← c .before .before .moves-in .ensures .2) (c .change .ensures) }
 

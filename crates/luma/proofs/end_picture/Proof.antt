@@ -4,49 +4,31 @@ use Rattle.luma.proofs.Ends.{picture-ended, again-small}
 use borrow.Author.Needs.{needs}
 use Rattle.luma.proofs.end_picture.Statement.{statement}
 use Rattle.luma.proofs.end_picture.Tie as tie
-use Rattle.luma.proofs.end_picture.Reads as reads
-use Rattle.luma.proofs.end_picture.Lts as lts
-use Rattle.luma.proofs.again_of.Reads as again-of-reads
-use Rattle.luma.proofs.change_of.Reads as change-of-reads
-use Rattle.luma.proofs.next_picture.Reads as next-picture-reads
-use Rattle.luma.proofs.note.Reads as note-reads
-use Rattle.luma.proofs.score_of.Reads as score-of-reads
-use Rattle.luma.proofs.slot_of.Reads as slot-of-reads
-use Rattle.tiles.proofs.clear.Reads as clear-reads
 
--- src/lib.rt:112:9
 again-of-requires : tie.Need-again-of-requires
 again-of-requires c κs = search needs
 
--- src/lib.rt:113:9
 score-of-requires : tie.Need-score-of-requires
 score-of-requires c κs = search needs
 
--- src/lib.rt:114:9
 change-of-requires : tie.Need-change-of-requires
 change-of-requires c κs = search needs
 
--- src/lib.rt:115:5
 note-requires : tie.Need-note-requires
 note-requires c κs = search needs
 
--- src/lib.rt:116:24
 add-slot-of : tie.Need-add-slot-of
 add-slot-of c = search needs
 
--- src/lib.rt:116:9
 slot-of-requires : tie.Need-slot-of-requires
 slot-of-requires c κs = search needs
 
--- src/lib.rt:117:5
 clear-requires : tie.Need-clear-requires
 clear-requires c κs = search needs
 
--- src/lib.rt:118:5
 next-picture-requires : tie.Need-next-picture-requires
 next-picture-requires c κs = let p = c .before .before .before .before .before .before .before .before .before .pre in let a = c .before .before .before .before .before .before .before .before .before .args in (p .more, rw (c .before .before .before .before .before .before .before .before .again-of .ensures) (again-small (a .s)))
 
--- src/lib.rt:107:1
 returns : tie.Need-returns
 returns c = let p = c .before .before .before .before .before .before .before .before .before .before .pre in let a = c .before .before .before .before .before .before .before .before .before .before .args in let again = c .before .before .before .before .before .before .before .before .before .again-of .ensures in picture-ended (a .g) (a .s) p (c .before .before .before .before .before .before .change-of .ensures) (c .before .before .before .before .before .before .before .score-of .ensures) (rw again at (c .before .before .before .before .note .ensures)) (rw (c .before .before .before .slot-of .ensures .0) at (c .before .clear .ensures)) (rw again at (c .next-picture .ensures))
 

@@ -7,62 +7,40 @@ use Rattle.luma.proofs.Posts.{fits-of, feed-stopped, feed-forged, wrong
 use borrow.Author.Needs.{needs}
 use Rattle.luma.proofs.feed.Statement.{statement}
 use Rattle.luma.proofs.feed.Tie as tie
-use Rattle.luma.proofs.feed.Reads as reads
-use Rattle.luma.proofs.feed.Lts as lts
-use Rattle.figures.proofs.opening_fault.Reads as opening-fault-reads
-use Rattle.luma.proofs.grid_of.Reads as grid-of-reads
-use Rattle.luma.proofs.load.Reads as load-reads
-use Rattle.luma.proofs.opening_in.Reads as opening-in-reads
-use Rattle.luma.proofs.placed.Reads as placed-reads
-use Rattle.luma.proofs.reply.Reads as reply-reads
-use Rattle.luma.proofs.run.Reads as run-reads
-use Rattle.luma.proofs.store.Reads as store-reads
 
--- src/lib.rt:372:9
 load-requires : tie.Need-load-requires
 load-requires c κs = search needs
 
--- src/lib.rt:374:9
 returns : tie.Need-returns
 returns c = feed-stopped _ (c .before .before .load .ensures) (c .if1 .taken)
 
--- src/lib.rt:379:9
 opening-in-requires : tie.Need-opening-in-requires
 opening-in-requires c κs = search needs
 
--- src/lib.rt:380:9
 opening-fault-requires : tie.Need-opening-fault-requires
 opening-fault-requires c κs = search needs
 
--- src/lib.rt:382:9
 returns-2 : tie.Need-returns-2
 returns-2 c = feed-forged _ (c .before .before .before .before .before .before .load .ensures) (wrong-opening _ (c .before .before .before .before .before .before .load .ensures) _ (c .before .before .before .before .if1 .left) (rw (c .before .before .opening-in .ensures) at (c .before .opening-fault .ensures)) (c .if2 .taken))
 
--- src/lib.rt:384:9
 grid-of-requires : tie.Need-grid-of-requires
 grid-of-requires c κs = search needs
 
--- src/lib.rt:385:9
 placed-requires : tie.Need-placed-requires
 placed-requires c κs = search needs
 
--- src/lib.rt:386:9
 returns-3 : tie.Need-returns-3
 returns-3 c = let g = rw (c .before .before .before .before .before .opening-in .ensures) at (c .before .before .grid-of .ensures) in feed-forged _ (c .before .before .before .before .before .before .before .before .before .load .ensures) (wrong-place _ (c .before .before .before .before .before .before .before .before .before .load .ensures) _ (c .before .before .before .before .before .before .before .if1 .left) g (c .before .placed .ensures) (not-true _ (c .if3 .taken)))
 
--- src/lib.rt:388:9
 run-requires : tie.Need-run-requires
 run-requires c κs = (rw (c .before .before .before .before .before .before .grid-of .ensures) (fits-of (c .before .before .before .before .before .before .before .before .before .opening-in .result) (c .before .before .before .before .before .before .before .before .opening-fault .ensures .shown ∙ ap numbered (c .before .before .before .before .before .before .before .if2 .left))), c .before .before .before .before .before .placed .ensures .sound (not-false _ (c .before .before .before .before .if3 .left)))
 
--- src/lib.rt:389:5
 store-requires : tie.Need-store-requires
 store-requires c κs = search needs
 
--- src/lib.rt:390:5
 reply-requires : tie.Need-reply-requires
 reply-requires c κs = search needs
 
--- src/lib.rt:362:1
 returns-4 : tie.Need-returns-4
 returns-4 c = let g = rw (c .before .before .before .before .before .before .before .before .before .before .before .before .before .opening-in .ensures) at (c .before .before .before .before .before .before .before .before .before .before .grid-of .ensures) in feed-post _ (c .before .before .before .before .before .before .before .before .before .before .before .before .before .before .before .before .before .load .ensures) _ (c .before .before .before .before .before .before .before .before .before .before .before .before .before .before .before .if1 .left) g (c .before .before .before .run .ensures) (c .before .store .ensures) (c .reply .ensures)
 

@@ -2,19 +2,13 @@ use mathlib.Core.Path.{refl}
 use borrow.Author.Needs.{needs}
 use Rattle.luma.proofs.grid_of.Statement.{statement}
 use Rattle.luma.proofs.grid_of.Tie as tie
-use Rattle.luma.proofs.grid_of.Reads as reads
-use Rattle.luma.proofs.grid_of.Lts as lts
-use Rattle.figures.proofs.sizes_of.Reads as sizes-of-reads
 
--- src/lib.rt:312:9
 sizes-of-requires : tie.Need-sizes-of-requires
 sizes-of-requires c κs = search needs
 
--- src/lib.rt:314:16
 cast-t3 : tie.Need-cast-t3
 cast-t3 c = search needs
 
--- src/lib.rt:309:1
 returns : tie.Need-returns
 returns c = rw (c .before .sizes-of .ensures)
 

@@ -1,23 +1,16 @@
 use borrow.Author.Needs.{needs}
 use Rattle.luma.proofs.next_picture.Statement.{statement}
 use Rattle.luma.proofs.next_picture.Tie as tie
-use Rattle.luma.proofs.next_picture.Reads as reads
-use Rattle.luma.proofs.next_picture.Lts as lts
-use Rattle.std.proofs.num.wrapping_add_u64.Reads as wrapping-add-u64-reads
 
--- src/lib.rt:89:53
 sub-wrapping-add-u64 : tie.Need-sub-wrapping-add-u64
 sub-wrapping-add-u64 c = search needs
 
--- src/lib.rt:89:9
 wrapping-add-u64-requires : tie.Need-wrapping-add-u64-requires
 wrapping-add-u64-requires c κs = search needs
 
--- src/lib.rt:94:19
 add-t5 : tie.Need-add-t5
 add-t5 c = search needs
 
--- src/lib.rt:85:1
 returns : tie.Need-returns
 returns c = rw (c .before .wrapping-add-u64 .ensures)
 

@@ -1,43 +1,31 @@
 use borrow.Author.Needs.{needs}
 use Rattle.luma.proofs.opening_in.Statement.{statement}
 use Rattle.luma.proofs.opening_in.Tie as tie
-use Rattle.luma.proofs.opening_in.Reads as reads
-use Rattle.luma.proofs.opening_in.Lts as lts
-use Rattle.luma.proofs.half.Reads as half-reads
 
--- src/lib.rt:297:22
 element-copy-out-half : tie.Need-element-copy-out-half
 element-copy-out-half c = search needs
 
--- src/lib.rt:297:9
 half-requires : tie.Need-half-requires
 half-requires c κs = search needs
 
--- src/lib.rt:298:23
 element-copy-out-half-2 : tie.Need-element-copy-out-half-2
 element-copy-out-half-2 c = search needs
 
--- src/lib.rt:298:9
 half-requires-2 : tie.Need-half-requires-2
 half-requires-2 c κs = search needs
 
--- src/lib.rt:299:21
 element-copy-out-half-3 : tie.Need-element-copy-out-half-3
 element-copy-out-half-3 c = search needs
 
--- src/lib.rt:299:9
 half-requires-3 : tie.Need-half-requires-3
 half-requires-3 c κs = search needs
 
--- src/lib.rt:300:20
 element-copy-out-half-4 : tie.Need-element-copy-out-half-4
 element-copy-out-half-4 c = search needs
 
--- src/lib.rt:300:9
 half-requires-4 : tie.Need-half-requires-4
 half-requires-4 c κs = search needs
 
--- src/lib.rt:294:1
 returns : tie.Need-returns
 returns c = rw (c .before .before .before .before .before .before .half .ensures, c .before .before .before .before .half2 .ensures, c .before .before .half3 .ensures, c .half4 .ensures)
 

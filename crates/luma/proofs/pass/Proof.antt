@@ -3,23 +3,16 @@ use Rattle.luma.proofs.Pieces.{passed}
 use borrow.Author.Needs.{needs}
 use Rattle.luma.proofs.pass.Statement.{statement}
 use Rattle.luma.proofs.pass.Tie as tie
-use Rattle.luma.proofs.pass.Reads as reads
-use Rattle.luma.proofs.pass.Lts as lts
-use Rattle.luma.proofs.skip.Reads as skip-reads
 
--- src/lib.rt:156:9
 skip-requires : tie.Need-skip-requires
 skip-requires c κs = search needs
 
--- src/lib.rt:156:9
 returns : tie.Need-returns
 returns c = let p = c .before .before .before .before .pre in let a = c .before .before .before .before .args in passed (a .g) (a .s) (p .0) (p .1) (λ i. omega (arith, c .before .before .before .shared-slice-known .given i)) (p .0 .some) (omega arith) (omega arith) (c .skip .ensures)
 
--- src/lib.rt:158:5
 skip-requires-2 : tie.Need-skip-requires-2
 skip-requires-2 c κs = search needs
 
--- src/lib.rt:150:1
 returns-2 : tie.Need-returns-2
 returns-2 c = let p = c .before .before .before .before .pre in let a = c .before .before .before .before .args in passed (a .g) (a .s) (p .0) (p .1) (λ i. omega (arith, c .before .before .before .shared-slice-known .given i)) (p .0 .sane .left (p .1)) (omega arith) (omega arith) (c .skip2 .ensures)
 

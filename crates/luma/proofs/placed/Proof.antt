@@ -3,34 +3,25 @@ use Rattle.luma.proofs.Posts.{not-placed, is-placed}
 use borrow.Author.Needs.{needs}
 use Rattle.luma.proofs.placed.Statement.{statement}
 use Rattle.luma.proofs.placed.Tie as tie
-use Rattle.luma.proofs.placed.Reads as reads
-use Rattle.luma.proofs.placed.Lts as lts
 
--- src/lib.rt:327:9
 returns : tie.Need-returns
 returns c = not-placed (λ h. omega (arith, h .few))
 
--- src/lib.rt:331:13
 returns-2 : tie.Need-returns-2
 returns-2 c = not-placed (λ h. omega (arith, h .row (c .before .before .before .if2 .taken), c .if3 .taken))
 
--- src/lib.rt:334:13
 returns-3 : tie.Need-returns-3
 returns-3 c = not-placed (λ h. omega (arith, h .col (c .before .before .before .before .before .before .if2 .taken), c .if4 .taken))
 
--- src/lib.rt:336:9
 returns-4 : tie.Need-returns-4
 returns-4 c = is-placed (record { few = c .before .before .before .before .before .before .before .before .before .if1 .left; line = omega (arith, c .before .before .before .before .before .before .if2 .taken); row = λ h. c .before .before .before .if3 .left; col = λ h. c .if4 .left; left = λ h. absurd (omega (arith, c .before .before .before .before .before .before .if2 .taken)) })
 
--- src/lib.rt:339:9
 returns-5 : tie.Need-returns-5
 returns-5 c = not-placed (λ h. omega (arith, h .line, c .if5 .taken))
 
--- src/lib.rt:342:9
 returns-6 : tie.Need-returns-6
 returns-6 c = not-placed (λ h. omega (arith, h .left (omega (arith, c .before .before .if5 .left, c .before .before .before .before .before .if2 .left)), c .if6 .taken))
 
--- src/lib.rt:323:1
 returns-7 : tie.Need-returns-7
 returns-7 c = is-placed (record { few = c .before .before .before .before .before .before .before .before .if1 .left; line = c .before .before .if5 .left; row = λ h. absurd (omega (arith, c .before .before .before .before .before .if2 .left)); col = λ h. absurd (omega (arith, c .before .before .before .before .before .if2 .left)); left = λ h. omega (arith, c .if6 .left) })
 

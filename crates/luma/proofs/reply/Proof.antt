@@ -1,14 +1,10 @@
 use Rattle.luma.proofs.Posts.{reply-stopped, reply-done}
 use Rattle.luma.proofs.reply.Statement.{statement}
 use Rattle.luma.proofs.reply.Tie as tie
-use Rattle.luma.proofs.reply.Reads as reads
-use Rattle.luma.proofs.reply.Lts as lts
 
--- src/lib.rt:351:9
 returns : tie.Need-returns
 returns c = reply-stopped (c .before .before .args .s) (c .before .before .args .n) (c .if1 .taken)
 
--- src/lib.rt:347:1
 returns-2 : tie.Need-returns-2
 returns-2 c = reply-done (c .before .before .args .s) (c .before .before .args .n) (c .if1 .left)
 

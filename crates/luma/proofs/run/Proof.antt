@@ -11,10 +11,6 @@ use Rattle.drawing.specs.Contract.{Goes}
 use Rattle.luma.proofs.Pieces.{goes-none, goes-more, ran-all, ran-over}
 use Rattle.luma.proofs.run.Statement.{statement}
 use Rattle.luma.proofs.run.Tie as tie
-use Rattle.luma.proofs.run.Reads as reads
-use Rattle.luma.proofs.run.Lts as lts
-use Rattle.luma.proofs.step.Reads as step-reads
-use Rattle.luma.proofs.stopped.Reads as stopped-reads
 
 abbrev Inv-loop : tie.InvT-loop
 Inv-loop luma₀ sums₀ bins₀ picture₀ g piece s₀ at₀ luma sums bins picture s at = (at ≤ length piece) × Sane g s × Goes g s₀ luma₀ sums₀ bins₀ picture₀ (take at piece) s luma sums bins picture
@@ -22,47 +18,36 @@ Inv-loop luma₀ sums₀ bins₀ picture₀ g piece s₀ at₀ luma sums bins pi
 abbrev μ-loop : tie.MeasureT-loop
 μ-loop luma₀ sums₀ bins₀ picture₀ g piece s₀ at₀ luma sums bins picture s at = length piece - at
 
--- src/lib.rt:239:5
 loop-holds : tie.Need-loop-holds Inv-loop μ-loop
 loop-holds c = (omega arith, c .before .pre .1, goes-none _ _ _ _ _ _)
 
--- src/lib.rt:241:13
 stopped-requires : tie.Need-stopped-requires Inv-loop μ-loop
 stopped-requires c κs = c .before .before .before .before .before .pre .0
 
--- src/lib.rt:241:13
 returns : tie.Need-returns Inv-loop μ-loop
 returns c = let l = c .before .before .before .before .loop in ran-over (c .before .before .before .before .before .before .args .g) _ (l .s) _ (c .before .before .before .before .before .before .args .piece .now) (l .at) (l .inv .2) (c .before .before .before .loop-test .taken) (c .before .if1 .taken) (c .stopped .ensures)
 
--- src/lib.rt:243:55
 sub-step : tie.Need-sub-step Inv-loop μ-loop
 sub-step c = omega arith
 
--- src/lib.rt:243:55
 part-step-start : tie.Need-part-step-start Inv-loop μ-loop
 part-step-start c = omega arith
 
--- src/lib.rt:243:55
 part-step-end : tie.Need-part-step-end Inv-loop μ-loop
 part-step-end c = omega arith
 
--- src/lib.rt:243:13
 step-requires : tie.Need-step-requires Inv-loop μ-loop
 step-requires c κs = let l = c .before .before .before .before .before .before .before .before .loop in taking-rest (c .before .before .before .before .before .before .before .before .before .before .args .g) (l .s) (c .before .before .before .before .before .before .before .before .before .before .args .piece .now) (l .at) (c .before .before .before .before .before .before .before .before .before .before .pre .0) (l .inv .1) (omega (arith, l .inv .1 .few, c .before .before .before .before .before .if1 .left)) (c .before .before .before .before .before .before .before .loop-test .taken)
 
--- src/lib.rt:245:9
 add-at : tie.Need-add-at Inv-loop μ-loop
 add-at c = let p = c .before .before .before .before .before .before .before .before .before .before .before .before .before .args .piece .now in let m = onward p (c .before .before .before .before .before .before .before .before .before .before .before .loop .at) (c .before .before .before .before .before .before .before .before .before .before .loop-test .taken) (c .before .before .step .ensures) in record { fits = lt-of-le-of-lt (m .most) (c .before .before .before .before .before .before .before .before .before .before .before .before .before .good .1 .1 .1 .1 .1 .1 .0 .0) }
 
--- src/lib.rt:239:5
 loop-less : tie.Need-loop-less Inv-loop μ-loop
 loop-less c = let m = onward (c .before .before .before .before .before .before .before .before .before .before .before .before .before .args .piece .now) (c .before .before .before .before .before .before .before .before .before .before .before .loop .at) (c .before .before .before .before .before .before .before .before .before .before .loop-test .taken) (c .before .before .step .ensures) in omega arith
 
--- src/lib.rt:239:5
 loop-again : tie.Need-loop-again Inv-loop μ-loop
 loop-again c = let l = c .before .before .before .before .before .before .before .before .before .before .before .loop in let p = c .before .before .before .before .before .before .before .before .before .before .before .before .before .args .piece .now in let m = onward p (l .at) (c .before .before .before .before .before .before .before .before .before .before .loop-test .taken) (c .before .before .step .ensures) in let e = on-rest p (l .at) (c .before .before .step .ensures) in (m .most, e .sane, goes-more (c .before .before .before .before .before .before .before .before .before .before .before .before .before .args .g) _ (l .s) _ p (l .at) (l .inv .2) e)
 
--- src/lib.rt:225:1
 returns-2 : tie.Need-returns-2 Inv-loop μ-loop
 returns-2 c = let l = c .before .loop in ran-all (c .before .before .before .args .g) _ (l .s) (c .before .before .before .args .piece .now) (l .at) (l .inv .1) (l .inv .2) (omega arith)
 

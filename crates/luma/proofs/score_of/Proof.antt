@@ -3,57 +3,40 @@ use mathlib.Core.Path.{_∙_, ap}
 use borrow.Author.Needs.{needs}
 use Rattle.luma.proofs.score_of.Statement.{statement}
 use Rattle.luma.proofs.score_of.Tie as tie
-use Rattle.luma.proofs.score_of.Reads as reads
-use Rattle.luma.proofs.score_of.Lts as lts
-use Rattle.cuts.proofs.least_of_six.Reads as least-of-six-reads
-use Rattle.luma.proofs.first.Reads as first-reads
-use Rattle.luma.proofs.slot_of.Reads as slot-of-reads
 
--- src/lib.rt:61:5
 first-requires : tie.Need-first-requires
 first-requires c κs = search needs
 
--- src/lib.rt:63:9
 returns : tie.Need-returns
 returns c = search needs
 
--- src/lib.rt:65:9
 slot-of-requires : tie.Need-slot-of-requires
 slot-of-requires c κs = search needs
 
--- src/lib.rt:66:21
 sub-slot-of : tie.Need-sub-slot-of
 sub-slot-of c = search needs
 
--- src/lib.rt:66:9
 slot-of-requires-2 : tie.Need-slot-of-requires-2
 slot-of-requires-2 c κs = search needs
 
--- src/lib.rt:67:21
 sub-slot-of-2 : tie.Need-sub-slot-of-2
 sub-slot-of-2 c = search needs
 
--- src/lib.rt:67:9
 slot-of-requires-3 : tie.Need-slot-of-requires-3
 slot-of-requires-3 c κs = search needs
 
--- src/lib.rt:68:21
 sub-slot-of-3 : tie.Need-sub-slot-of-3
 sub-slot-of-3 c = search needs
 
--- src/lib.rt:68:9
 slot-of-requires-4 : tie.Need-slot-of-requires-4
 slot-of-requires-4 c κs = search needs
 
--- src/lib.rt:69:9
 slot-of-requires-5 : tie.Need-slot-of-requires-5
 slot-of-requires-5 c κs = search needs
 
--- src/lib.rt:70:5
 least-of-six-requires : tie.Need-least-of-six-requires
 least-of-six-requires c κs = search needs
 
--- src/lib.rt:58:1
 returns-2 : tie.Need-returns-2
 returns-2 c = record { early = λ h. absurd (omega arith); later = λ h. rw (← c .before .before .before .before .before .slot-of .ensures .0, ← c .before .before .before .before .slot-of2 .ensures .0, ← c .before .before .before .slot-of3 .ensures .0, ← c .before .before .slot-of4 .ensures .0, ← c .before .slot-of5 .ensures .0) (c .least-of-six .ensures); small = c .before .before .before .before .before .before .before .first .ensures }
 

@@ -4,33 +4,22 @@ use Rattle.luma.proofs.Pieces.{stepped, to-finish}
 use borrow.Author.Needs.{needs}
 use Rattle.luma.proofs.step.Statement.{statement}
 use Rattle.luma.proofs.step.Tie as tie
-use Rattle.luma.proofs.step.Reads as reads
-use Rattle.luma.proofs.step.Lts as lts
-use Rattle.drawing.proofs.draw.Reads as draw-reads
-use Rattle.luma.proofs.finish.Reads as finish-reads
-use Rattle.luma.proofs.pass.Reads as pass-reads
 
--- src/lib.rt:195:13
 draw-requires : tie.Need-draw-requires
 draw-requires c κs = search needs
 
--- src/lib.rt:196:9
 finish-requires : tie.Need-finish-requires
 finish-requires c κs = search needs
 
--- src/lib.rt:196:9
 returns : tie.Need-returns
 returns c = stepped (c .before .before .before .before .before .before .before .before .before .before .before .args .g) (c .before .before .before .before .before .before .before .before .before .before .before .args .s) (c .before .before .before .draw .ensures) (c .finish .ensures)
 
--- src/lib.rt:198:9
 pass-requires : tie.Need-pass-requires
 pass-requires c κs = search needs
 
--- src/lib.rt:199:5
 finish-requires-2 : tie.Need-finish-requires-2
 finish-requires-2 c κs = let a = c .before .before .before .before .before .before .before .args in to-finish (a .g) (a .s) (c .before .before .before .before .before .before .before .pre) (c .before .before .pass .ensures [] [] [])
 
--- src/lib.rt:182:1
 returns-2 : tie.Need-returns-2
 returns-2 c = let a = c .before .before .before .before .before .before .before .before .args in stepped (a .g) (a .s) (c .before .before .before .pass .ensures (a .sums .now) (a .bins .now) (a .picture .now)) (c .finish2 .ensures)
 

@@ -2,58 +2,43 @@ use Rattle.luma.proofs.Posts.{stored}
 use borrow.Author.Needs.{needs}
 use Rattle.luma.proofs.store.Statement.{statement}
 use Rattle.luma.proofs.store.Tie as tie
-use Rattle.luma.proofs.store.Reads as reads
-use Rattle.luma.proofs.store.Lts as lts
 
--- src/lib.rt:273:5
 element-write-luma : tie.Need-element-write-luma
 element-write-luma c = search needs
 
--- src/lib.rt:274:5
 element-write-luma-2 : tie.Need-element-write-luma-2
 element-write-luma-2 c = search needs
 
--- src/lib.rt:275:5
 element-write-luma-3 : tie.Need-element-write-luma-3
 element-write-luma-3 c = search needs
 
--- src/lib.rt:276:5
 element-write-luma-4 : tie.Need-element-write-luma-4
 element-write-luma-4 c = search needs
 
--- src/lib.rt:277:5
 element-write-luma-5 : tie.Need-element-write-luma-5
 element-write-luma-5 c = search needs
 
--- src/lib.rt:278:5
 element-write-luma-6 : tie.Need-element-write-luma-6
 element-write-luma-6 c = search needs
 
--- src/lib.rt:279:5
 element-write-luma-7 : tie.Need-element-write-luma-7
 element-write-luma-7 c = search needs
 
--- src/lib.rt:280:5
 element-write-luma-8 : tie.Need-element-write-luma-8
 element-write-luma-8 c = search needs
 
--- src/lib.rt:281:5
 element-write-luma-9 : tie.Need-element-write-luma-9
 element-write-luma-9 c = search needs
 
--- src/lib.rt:282:5
 element-write-luma-10 : tie.Need-element-write-luma-10
 element-write-luma-10 c = search needs
 
--- src/lib.rt:283:5
 element-write-luma-11 : tie.Need-element-write-luma-11
 element-write-luma-11 c = search needs
 
--- src/lib.rt:284:5
 element-write-luma-12 : tie.Need-element-write-luma-12
 element-write-luma-12 c = search needs
 
--- src/lib.rt:270:1
 returns : tie.Need-returns
 returns c = stored (c .args .luma .now) (c .args .s)
 
