@@ -301,7 +301,7 @@ fn half(x: u64) -> u32
     (x % 4294967296) as u32
 }
 
-fn opening_in(luma: &[u64; 1600]) -> Opening
+pub fn opening_in(luma: &[u64; 1600]) -> Opening
     ensures { λ r. ⌜ r ≡ openingIn (now (luma .entry)) ⌝ }
 {
     let width = half(luma[12]);

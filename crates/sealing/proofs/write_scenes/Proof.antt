@@ -9,11 +9,6 @@ use Rattle.rules.specs.Record.{recordLength, sceneOffset}
 use Rattle.sealing.proofs.Rows.{ScenesSoFar, scenes-none, scenes-more, scenes-all}
 use Rattle.sealing.proofs.write_scenes.Statement.{statement}
 use Rattle.sealing.proofs.write_scenes.Tie as tie
-use Rattle.sealing.proofs.write_scenes.Reads as reads
-use Rattle.sealing.proofs.write_scenes.Lts as lts
-use Rattle.record.proofs.write_scene.Reads as write-scene-reads
-use Rattle.scenes.proofs.next_start.Reads as next-start-reads
-use Rattle.scenes.proofs.scene_row.Reads as scene-row-reads
 
 abbrev Inv-loop : tie.InvT-loop
 Inv-loop buffer₀ luma units n pictures time start₀ j₀ buffer start j =
@@ -22,34 +17,27 @@ Inv-loop buffer₀ luma units n pictures time start₀ j₀ buffer start j =
 abbrev μ-loop : tie.MeasureT-loop
 μ-loop buffer₀ luma units n pictures time start₀ j₀ buffer start j = n - j
 
--- src/lib.rt:36:5
 loop-holds : tie.Need-loop-holds Inv-loop μ-loop
 loop-holds c = (omega arith, refl, scenes-none _ _ _ _ _)
 
--- src/lib.rt:37:13
 next-start-requires : tie.Need-next-start-requires Inv-loop μ-loop
 next-start-requires c κs = search needs
 
--- src/lib.rt:38:13
 scene-row-requires : tie.Need-scene-row-requires Inv-loop μ-loop
 scene-row-requires c κs = search needs
 
--- src/lib.rt:39:9
 write-scene-requires : tie.Need-write-scene-requires Inv-loop μ-loop
 unfolding recordLength sceneOffset
 write-scene-requires c κs =
     let i = c .before .before .before .before .loop .inv in
     omega (arith, i .0, i .1)
 
--- src/lib.rt:41:9
 add-j : tie.Need-add-j Inv-loop μ-loop
 add-j c = omega arith
 
--- src/lib.rt:36:5
 loop-less : tie.Need-loop-less Inv-loop μ-loop
 loop-less c = omega arith
 
--- src/lib.rt:36:5
 loop-again : tie.Need-loop-again Inv-loop μ-loop
 unfolding recordLength sceneOffset
 loop-again c =
@@ -66,11 +54,9 @@ loop-again c =
       scenes-more (a .luma .now) (a .pictures) (a .time) (a .units) (a .buffer .now) (l .buffer) (l .start) (l .j) (l .inv .2) (x .result) (r .result) (x .ensures) (r .ensures) (omega (arith, p)) (w .ensures),
     )
 
--- src/lib.rt:23:1
 same-length : tie.Need-same-length Inv-loop μ-loop
 same-length c = c .before .loop .inv .1
 
--- src/lib.rt:23:1
 returns : tie.Need-returns Inv-loop μ-loop
 returns c =
     let l = c .before .loop in

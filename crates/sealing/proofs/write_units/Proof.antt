@@ -10,10 +10,6 @@ use Rattle.sealing.specs.Contract.{UnitsWritten}
 use Rattle.sealing.proofs.Rows.{units-none, units-more}
 use Rattle.sealing.proofs.write_units.Statement.{statement}
 use Rattle.sealing.proofs.write_units.Tie as tie
-use Rattle.sealing.proofs.write_units.Reads as reads
-use Rattle.sealing.proofs.write_units.Lts as lts
-use Rattle.record.proofs.write_unit.Reads as write-unit-reads
-use Rattle.units.proofs.row.Reads as row-reads
 
 abbrev Inv-loop : tie.InvT-loop
 Inv-loop buffer₀ capture n j₀ buffer j = (j ≤ n) × (length buffer ≡ length buffer₀) × UnitsWritten capture j buffer₀ buffer
@@ -21,30 +17,24 @@ Inv-loop buffer₀ capture n j₀ buffer j = (j ≤ n) × (length buffer ≡ len
 abbrev μ-loop : tie.MeasureT-loop
 μ-loop buffer₀ capture n j₀ buffer j = n - j
 
--- src/lib.rt:15:5
 loop-holds : tie.Need-loop-holds Inv-loop μ-loop
 loop-holds c = (omega arith, refl, units-none _ _)
 
--- src/lib.rt:16:13
 row-requires : tie.Need-row-requires Inv-loop μ-loop
 row-requires c κs = search needs
 
--- src/lib.rt:17:9
 write-unit-requires : tie.Need-write-unit-requires Inv-loop μ-loop
 unfolding sceneOffset unitPlace
 write-unit-requires c κs =
     let i = c .before .before .before .loop .inv in
     omega (arith, i .0, i .1)
 
--- src/lib.rt:18:9
 add-j : tie.Need-add-j Inv-loop μ-loop
 add-j c = omega arith
 
--- src/lib.rt:15:5
 loop-less : tie.Need-loop-less Inv-loop μ-loop
 loop-less c = omega arith
 
--- src/lib.rt:15:5
 loop-again : tie.Need-loop-again Inv-loop μ-loop
 unfolding sceneOffset unitPlace
 loop-again c =
@@ -58,11 +48,9 @@ loop-again c =
       units-more (a .capture .now) (l .j) (a .buffer .now) (l .buffer) (w .last .0) (omega (arith, p)) (c .before .before .before .before .row .result) (l .inv .2) (c .before .before .before .before .row .ensures) (w .ensures),
     )
 
--- src/lib.rt:10:1
 same-length : tie.Need-same-length Inv-loop μ-loop
 same-length c = c .before .loop .inv .1
 
--- src/lib.rt:10:1
 returns : tie.Need-returns Inv-loop μ-loop
 unfolding sceneOffset unitPlace
 returns c =

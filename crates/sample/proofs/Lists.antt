@@ -1,0 +1,71 @@
+-- DEMAND 3: the statements of `specs/Calls` hold.
+use Prim.Native.Nat.{ℕ}
+use mathlib.Core.Path.{_≡_, refl, sym, ap, _∙_}
+use mathlib.Core.List.{List, [], _∷_, _++_, append-nil, append-assoc, head-eq-of-cons-eq, tail-eq-of-cons-eq, cons-ne-nil}
+use lib.ListN.{length}
+use Rattle.rules.specs.declared.Opening.{Opening}
+use Rattle.rules.specs.Seal.{sealAnswer, sealedBuffer}
+use Rattle.rules.specs.Calls.{Call, feedCapture, feedLuma, seal, Outcome, fed, sealedInto, expected, captureFed, lumaFed}
+use Rattle.rules.proofs.Laws.Counted.{every-picture}
+use Rattle.sample.specs.State.{State, Means}
+use Rattle.sample.specs.Contract.{OpenPost, SealPost}
+use Rattle.sample.specs.Calls.{Ran, feedsCapture, feedsLuma, seals, Runs, done, next, EveryList, SealsAlike}
+
+-- from a state that stands for the strings so far
+pub runs : (o : Opening) (capture luma : List ℕ) {st : State} {cs : List Call} {os : List Outcome} → Means st o capture luma → Runs st cs os → os ≡ expected o capture luma cs
+unfolding expected
+runs o capture luma h done = refl
+runs o capture luma h (next (feedsCapture {piece = piece} p) r) =
+    let m = p .means o capture (h .captured) in
+    let i = runs o (capture ++ piece) luma (record { captured = m; drawn = h .drawn }) r in
+    let e = p .answer o capture (h .captured) in
+    cc
+runs o capture luma h (next (feedsLuma {piece = piece} p) r) =
+    let m = p .means o luma (h .drawn) in
+    let i = runs o capture (luma ++ piece) (record { captured = h .captured; drawn = m }) r in
+    let e = p .answer o luma (h .drawn) in
+    cc
+runs o capture luma h (next (seals {st = st} p) r) =
+    let i = runs o capture luma h r in
+    let e = p .answer st o capture luma refl refl h in
+    let b = p .buffer st o capture luma refl refl h in
+    cc
+
+-- ---- two lists that seal alike
+
+some-outcome : (o : Opening) (capture luma : List ℕ) (cs : List Call) (buffer : List ℕ) → expected o capture luma (cs ++ seal buffer ∷ []) ≡ [] → ⊥
+unfolding expected
+some-outcome o capture luma [] buffer e = cons-ne-nil _ _ e
+some-outcome o capture luma (feedCapture piece ∷ cs) buffer e = cons-ne-nil _ _ e
+some-outcome o capture luma (feedLuma piece ∷ cs) buffer e = cons-ne-nil _ _ e
+some-outcome o capture luma (seal b ∷ cs) buffer e = cons-ne-nil _ _ e
+
+abbrev sealOutcome : Opening → List ℕ → List ℕ → List ℕ → Outcome
+sealOutcome o capture luma buffer = sealedInto (sealAnswer o capture luma (length buffer)) (sealedBuffer o capture luma buffer)
+
+-- the outcome of a seal at the end goes by the joined strings
+sealed-last : (o : Opening) (capture luma : List ℕ) (cs : List Call) (os : List Outcome) (s : Outcome) (buffer : List ℕ) →
+    os ++ s ∷ [] ≡ expected o capture luma (cs ++ seal buffer ∷ []) → s ≡ sealOutcome o (capture ++ captureFed cs) (luma ++ lumaFed cs) buffer
+unfolding expected captureFed lumaFed
+sealed-last o capture luma [] [] s buffer e = rw (append-nil capture, append-nil luma) (head-eq-of-cons-eq e)
+sealed-last o capture luma [] (p ∷ []) s buffer e = absurd (cons-ne-nil s [] (tail-eq-of-cons-eq e))
+sealed-last o capture luma [] (p ∷ q ∷ os) s buffer e = absurd (cons-ne-nil q (os ++ s ∷ []) (tail-eq-of-cons-eq e))
+sealed-last o capture luma (feedCapture piece ∷ cs) [] s buffer e = absurd (some-outcome o (capture ++ piece) luma cs buffer (sym (tail-eq-of-cons-eq e)))
+sealed-last o capture luma (feedCapture piece ∷ cs) (p ∷ os) s buffer e =
+    rw (← append-assoc capture piece (captureFed cs)) (sealed-last o (capture ++ piece) luma cs os s buffer (tail-eq-of-cons-eq e))
+sealed-last o capture luma (feedLuma piece ∷ cs) [] s buffer e = absurd (some-outcome o capture (luma ++ piece) cs buffer (sym (tail-eq-of-cons-eq e)))
+sealed-last o capture luma (feedLuma piece ∷ cs) (p ∷ os) s buffer e =
+    rw (← append-assoc luma piece (lumaFed cs)) (sealed-last o capture (luma ++ piece) cs os s buffer (tail-eq-of-cons-eq e))
+sealed-last o capture luma (seal b ∷ cs) [] s buffer e = absurd (some-outcome o capture luma cs buffer (sym (tail-eq-of-cons-eq e)))
+sealed-last o capture luma (seal b ∷ cs) (p ∷ os) s buffer e = sealed-last o capture luma cs os s buffer (tail-eq-of-cons-eq e)
+
+pub seals-alike : SealsAlike
+seals-alike o a a′ st st′ cs cs′ os os′ s s′ buffer p p′ e l r r′ =
+    sealed-last o [] [] cs os s buffer (runs o [] [] (p .means) r)
+    ∙ ap (λ (c : List ℕ). sealOutcome o c (lumaFed cs) buffer) e
+    ∙ ap (λ (y : List ℕ). sealOutcome o (captureFed cs′) y buffer) l
+    ∙ sym (sealed-last o [] [] cs′ os′ s′ buffer (runs o [] [] (p′ .means) r′))
+
+pub every-list : EveryList
+every-list o a st cs os p r =
+    record { opening = p .answer; outcomes = runs o [] [] (p .means) r; pictures = λ b i w. every-picture o (lumaFed cs) i b w }

@@ -1,0 +1,183 @@
+-- What a seal comes to: each refusal in document 01's order, and the record.
+use Prim.Native.Nat.{ℕ, zero, suc, _+_, _*_, _%_, _^_, _≤_, _<_}
+use native.Mathlib.Omega.{arith}
+use mathlib.Core.Path.{_≡_, refl, sym, ap, subst, subst⁻¹, _∙_}
+use mathlib.Core.List.{List, [], _∷_, map}
+use mathlib.Core.Bool.{Bool, true, false}
+use lib.ListN.{length}
+use borrow.Author.Tests.{eq-eqb, ne-eqb, lt-ltb, le-ltb}
+use Rattle.rules.specs.declared.Opening.{Opening}
+use Rattle.rules.specs.declared.Answer.{Answer}
+use Rattle.rules.specs.declared.Answer.the-variants.{Done, Refused}
+use Rattle.rules.specs.declared.Header.{Header}
+use Rattle.rules.specs.declared.UnitRow.{UnitRow}
+use Rattle.rules.specs.Bytes.{pick, total}
+use Rattle.rules.specs.Refusals.{Fault, none, fault, _orElse_, answer}
+use Rattle.rules.specs.Opening.{openingFault}
+use Rattle.rules.specs.Capture.{units, wholeWanted, captureFault, captureInside}
+use Rattle.rules.specs.Pictures.{pictureCount, lumaFault}
+use Rattle.rules.specs.Seal.{captureOpen, noPacket, lumaOpen, noPicture, noRoom, sealFault, sealAnswer, ifDone, over, sealed, sealedLength, sealedBuffer}
+use Rattle.counts.specs.declared.Summary.{Summary}
+use Rattle.counts.specs.Summary.{SumsUp, SumOf, Figures, standing}
+use Rattle.luma.specs.declared.Summary as of-luma
+use Rattle.luma.specs.Contract.{SummaryPost, Summarised, Known}
+use Rattle.drawing.specs.State.{openingIn}
+use Rattle.sample.specs.State.{State, Means}
+use Rattle.sample.specs.Contract.{SealPost, Ready, WritePost}
+
+-- ---- refusals one after the other
+
+either : (a b c : Fault) → a orElse (b orElse c) ≡ (a orElse b) orElse c
+either none b c = refl
+either (fault k p) b c = refl
+
+no-units : (us : List UnitRow) → length us ≡ 0 → noPacket us ≡ fault 12 0
+unfolding noPacket
+no-units [] h = refl
+no-units (u ∷ us) h = absurd (omega arith)
+
+some-units : (us : List UnitRow) → (length us ≡ 0 → ⊥) → noPacket us ≡ none
+unfolding noPacket
+some-units [] h = absurd (h refl)
+some-units (u ∷ us) h = refl
+
+-- what a seal finds on its way, from the summaries of the two sides
+module _ (st : State) (o : Opening) (fedCapture fedLuma : List ℕ) (m : Means st o fedCapture fedLuma)
+    (c : Summary) (l : of-luma.Summary) (cp : SumsUp (st .capture) c) (lp : SummaryPost (st .luma) l) where
+  sum : SumOf (st .capture) o fedCapture c
+  sum = cp o fedCapture (m .captured)
+
+  seen : Summarised (st .luma) o fedLuma l
+  seen = lp (st .sums) (st .bins) (st .picture) o fedLuma (m .drawn)
+
+  pub of-capture : (n : ℕ) → (c .number ≡ 0 → ⊥) → sealFault o fedCapture fedLuma n ≡ fault (c .number) (c .place)
+  unfolding sealFault
+  of-capture n h =
+      let e : openingFault o orElse captureFault o fedCapture ≡ fault (c .number) (c .place) = sum .refusal ∙ rw (ne-eqb (c .number) 0 h) in
+      either (openingFault o) (captureFault o fedCapture) _ ∙ rw e
+
+  module _ (h₁ : c .number ≡ 0) where
+    fig : Figures (st .capture) o fedCapture c
+    fig = sum .figures h₁
+
+    pub of-luma-side : (n : ℕ) → (l .status ≡ 0 → ⊥) → sealFault o fedCapture fedLuma n ≡ fault (l .status) (l .place)
+    unfolding sealFault
+    of-luma-side n h =
+        let e : openingFault o orElse lumaFault o fedLuma ≡ fault (l .status) (l .place) = seen .refused (omega arith) in
+        let e′ : lumaFault o fedLuma ≡ fault (l .status) (l .place) = rw (fig .good) at e in
+        rw (fig .good, fig .clear, e′)
+
+    module _ (h₂ : l .status ≡ 0) where
+      known : Known (st .luma) o fedLuma l
+      known = seen .live h₂
+
+      -- behind refusals 1 to 10
+      behind : (n : ℕ) → sealFault o fedCapture fedLuma n ≡
+          captureOpen fedCapture orElse (noPacket (units o fedCapture) orElse (lumaOpen o fedLuma orElse (noPicture (pictureCount o fedLuma) orElse noRoom n (sealedLength o fedCapture fedLuma))))
+      unfolding sealFault
+      behind n = rw (fig .good, fig .clear, known .clear)
+
+      pub inside-capture : (n : ℕ) → c .inside ≡ true → sealFault o fedCapture fedLuma n ≡ fault 11 (c .fed)
+      unfolding captureOpen
+      inside-capture n h = behind n ∙ rw (sym (fig .inside), h, fig .fed)
+
+      module _ (h₃ : c .inside ≡ false) where
+        closed : captureOpen fedCapture ≡ none
+        unfolding captureOpen
+        closed = rw (sym (fig .inside), h₃)
+
+        pub no-packet : (n : ℕ) → c .units ≡ 0 → sealFault o fedCapture fedLuma n ≡ fault 12 0
+        no-packet n h = behind n ∙ rw (closed, no-units (units o fedCapture) (sym (fig .units) ∙ h))
+
+        module _ (h₄ : c .units ≡ 0 → ⊥) where
+          packet : noPacket (units o fedCapture) ≡ none
+          packet = some-units (units o fedCapture) (λ e. h₄ (fig .units ∙ e))
+
+          pub inside-luma : (n : ℕ) → l .inside ≡ true → sealFault o fedCapture fedLuma n ≡ fault 13 (l .fed)
+          inside-luma n h = behind n ∙ rw (closed, packet, known .inside, h, known .fed)
+
+          module _ (h₅ : l .inside ≡ false) where
+            ended : lumaOpen o fedLuma ≡ none
+            ended = known .inside ∙ rw h₅
+
+            pub no-picture : (n : ℕ) → l .pictures ≡ 0 → sealFault o fedCapture fedLuma n ≡ fault 14 0
+            unfolding noPicture
+            no-picture n h = behind n ∙ rw (closed, packet, ended, eq-eqb (pictureCount o fedLuma) 0 (sym (known .pictures) ∙ h))
+
+            pub ready : (l .pictures ≡ 0 → ⊥) → Ready (st .capture) (st .luma) o fedCapture fedLuma c (l .pictures)
+            unfolding noPicture
+            ready h =
+                record {
+                  figures = fig;
+                  seen = l;
+                  known = known;
+                  same = refl;
+                  units = omega arith;
+                  some = omega arith;
+                  free = λ n. behind n ∙ rw (closed, packet, ended, ne-eqb (pictureCount o fedLuma) 0 (λ e. h (known .pictures ∙ e)));
+                }
+
+-- ---- what a seal promises
+
+refuse-post : (capture luma before : List ℕ) (a : Answer) (k p : ℕ) → a ≡ Refused k p →
+    ((st : State) (o : Opening) (fedCapture fedLuma : List ℕ) → st .capture ≡ capture → st .luma ≡ luma → Means st o fedCapture fedLuma →
+    sealFault o fedCapture fedLuma (length before) ≡ fault k p) →
+    SealPost capture luma before a before
+unfolding sealAnswer sealedBuffer
+refuse-post capture luma before a k p e f =
+    record {
+      answer = λ st o fc fl x y m. rw (f st o fc fl x y m) e;
+      buffer = λ st o fc fl x y m. rw (f st o fc fl x y m);
+    }
+
+module _ (capture luma before : List ℕ) (c : Summary) (l : of-luma.Summary) (cp : SumsUp capture c) (lp : SummaryPost luma l) (a : Answer) where
+  cp-of : (w : List ℕ) → w ≡ capture → SumsUp w c
+  cp-of w x = subst⁻¹ (λ (w : List ℕ). SumsUp w c) x cp
+
+  lp-of : (w : List ℕ) → w ≡ luma → SummaryPost w l
+  lp-of w y = subst⁻¹ (λ (w : List ℕ). SummaryPost w l) y lp
+
+  pub post-capture : a ≡ Refused (c .number) (c .place) → (c .number ≡ 0 → ⊥) → SealPost capture luma before a before
+  post-capture e h = refuse-post capture luma before a _ _ e (λ st o fc fl x y m. of-capture st o fc fl m c l (cp-of (st .capture) x) (lp-of (st .luma) y) (length before) h)
+
+  module _ (h₁ : c .number ≡ 0) where
+    pub post-luma : a ≡ Refused (l .status) (l .place) → (l .status ≡ 0 → ⊥) → SealPost capture luma before a before
+    post-luma e h = refuse-post capture luma before a _ _ e (λ st o fc fl x y m. of-luma-side st o fc fl m c l (cp-of (st .capture) x) (lp-of (st .luma) y) h₁ (length before) h)
+
+    module _ (h₂ : l .status ≡ 0) where
+      pub post-inside-capture : a ≡ Refused 11 (c .fed) → c .inside ≡ true → SealPost capture luma before a before
+      post-inside-capture e h =
+          refuse-post capture luma before a _ _ e (λ st o fc fl x y m. inside-capture st o fc fl m c l (cp-of (st .capture) x) (lp-of (st .luma) y) h₁ h₂ (length before) h)
+
+      module _ (h₃ : c .inside ≡ false) where
+        pub post-no-packet : a ≡ Refused 12 0 → c .units ≡ 0 → SealPost capture luma before a before
+        post-no-packet e h = refuse-post capture luma before a _ _ e (λ st o fc fl x y m. no-packet st o fc fl m c l (cp-of (st .capture) x) (lp-of (st .luma) y) h₁ h₂ h₃ (length before) h)
+
+        module _ (h₄ : c .units ≡ 0 → ⊥) where
+          pub post-inside-luma : a ≡ Refused 13 (l .fed) → l .inside ≡ true → SealPost capture luma before a before
+          post-inside-luma e h =
+              refuse-post capture luma before a _ _ e (λ st o fc fl x y m. inside-luma st o fc fl m c l (cp-of (st .capture) x) (lp-of (st .luma) y) h₁ h₂ h₃ h₄ (length before) h)
+
+          module _ (h₅ : l .inside ≡ false) where
+            pub post-no-picture : a ≡ Refused 14 0 → l .pictures ≡ 0 → SealPost capture luma before a before
+            post-no-picture e h =
+                refuse-post capture luma before a _ _ e (λ st o fc fl x y m. no-picture st o fc fl m c l (cp-of (st .capture) x) (lp-of (st .luma) y) h₁ h₂ h₃ h₄ h₅ (length before) h)
+
+            pub post-written : (after : List ℕ) (o : Opening) → o ≡ openingIn luma → (l .pictures ≡ 0 → ⊥) → WritePost capture luma o c (l .pictures) before a after →
+                SealPost capture luma before a after
+            post-written after o e h w =
+                record {
+                  answer = λ st p fc fl x y m. wrote st p fc fl x y m .0;
+                  buffer = λ st p fc fl x y m. wrote st p fc fl x y m .1;
+                }
+              where
+                same : (st : State) (p : Opening) (fc fl : List ℕ) → st .luma ≡ luma → Means st p fc fl → o ≡ p
+                same st p fc fl y m = e ∙ ap openingIn (sym y) ∙ m .drawn .opening
+
+                wrote : (st : State) (p : Opening) (fc fl : List ℕ) → st .capture ≡ capture → st .luma ≡ luma → Means st p fc fl →
+                    (a ≡ sealAnswer p fc fl (length before)) × (after ≡ sealedBuffer p fc fl before)
+                wrote st p fc fl x y m =
+                    let r = ready st p fc fl m c l (cp-of (st .capture) x) (lp-of (st .luma) y) h₁ h₂ h₃ h₄ h₅ h in
+                    let r₁ = subst (λ (k : List ℕ). Ready k (st .luma) p fc fl c (l .pictures)) x r in
+                    let r₂ = subst (λ (k : List ℕ). Ready capture k p fc fl c (l .pictures)) y r₁ in
+                    subst (λ (q : Opening). WritePost capture luma q c (l .pictures) before a after) (same st p fc fl y m) w fc fl r₂

@@ -1,0 +1,155 @@
+-- The record that a seal writes: its header and rows are the rules', and so is its length.
+use Prim.Native.Nat.{ℕ, zero, suc, _+_, _*_, _%_, _^_, _≤_, _<_}
+use native.Mathlib.Omega.{arith}
+use native.Mathlib.Nat.{mod-eq-of-lt}
+use mathlib.Core.Path.{_≡_, refl, sym, ap, subst, _∙_}
+use mathlib.Core.List.{List, [], _∷_, map}
+use mathlib.Core.Bool.{Bool, not}
+use lib.ListN.{length}
+use borrow.Author.Tests.{lt-ltb, le-ltb}
+use Rattle.rules.specs.declared.Opening.{Opening}
+use Rattle.rules.specs.declared.Answer.{Answer}
+use Rattle.rules.specs.declared.Answer.the-variants.{Done, Refused}
+use Rattle.rules.specs.declared.Header.{Header}
+use Rattle.rules.specs.declared.UnitRow.{UnitRow}
+use Rattle.rules.specs.declared.SceneRow.{SceneRow}
+use Rattle.rules.specs.Bytes.{count, total}
+use Rattle.rules.specs.Packets.{Packet}
+use Rattle.rules.specs.Units.{unitsOf}
+use Rattle.rules.specs.Refusals.{none, fault}
+use Rattle.rules.specs.Capture.{units, wholeWanted}
+use Rattle.rules.specs.Pictures.{pictureCount}
+use Rattle.rules.specs.Histograms.{histograms}
+use Rattle.rules.specs.Cuts.{cutScores}
+use Rattle.rules.specs.Changes.{repeats, changes}
+use Rattle.rules.specs.Scenes.{scenesOf}
+use Rattle.rules.specs.Index.{indexOf, indexBits}
+use Rattle.rules.specs.Record.{recordLength, recordBytes}
+use Rattle.rules.specs.Seal.{reduced, scenesIn, scenes, unrepeated, indexFrom, index, header, sealed, sealedLength, over, noRoom, sealFault, sealAnswer, sealedBuffer}
+use Rattle.rules.proofs.Laws.Sizes.{good}
+use Rattle.rules.proofs.Laws.Scenes.{pictures-most}
+use Rattle.rules.proofs.Laws.UnitsMore.{allPackets, allLost, packets-total, lost-small, units-none}
+use Rattle.index.specs.Counts.{Counts}
+use Rattle.scenes.specs.Words.{Holds}
+use Rattle.scenes.specs.Contract.{CountPost, FreshPost}
+use Rattle.scenes.proofs.Sample.{sample-holds}
+use Rattle.sealing.specs.Contract.{RecordWritten}
+use Rattle.counts.specs.declared.Summary.{Summary}
+use Rattle.sample.specs.Contract.{BitsOf, HeaderOf, Ready}
+
+some-packet : (ps : List Packet) → 1 ≤ length (unitsOf ps) → 1 ≤ length ps
+some-packet [] h = absurd (omega (arith, rw units-none at h))
+some-packet (p ∷ ps) h = omega arith
+
+-- every picture's cut score, repeat and change
+abbrev scoresOf : Opening → List ℕ → List ℕ
+scoresOf o fedLuma = cutScores (map (histograms o) (reduced o fedLuma))
+
+abbrev repeatsOf : Opening → List ℕ → List Bool
+repeatsOf o fedLuma = repeats (reduced o fedLuma)
+
+abbrev changesOf : Opening → List ℕ → List ℕ
+changesOf o fedLuma = changes (reduced o fedLuma)
+
+module _ (capture luma : List ℕ) (o : Opening) (fedCapture fedLuma : List ℕ) (c : Summary) (pictures : ℕ) (r : Ready capture luma o fedCapture fedLuma c pictures) where
+  opened-well : o .time < 2 ^ 32
+  opened-well = omega (arith, good o (r .known .opened) .time-high)
+
+  pictures-are : pictures ≡ pictureCount o fedLuma
+  pictures-are = r .same ∙ r .known .pictures
+
+  holds : Holds luma pictures (scoresOf o fedLuma) (repeatsOf o fedLuma) (changesOf o fedLuma)
+  holds =
+      let w = r .known .words in
+      rw pictures-are (sample-holds o fedLuma luma (r .known .opened) (r .known .bytes) (w .scores) (w .changes) (w .repeats))
+
+  scenes-are : scenes o fedLuma ≡ scenesOf (o .time) (scoresOf o fedLuma) (repeatsOf o fedLuma) (changesOf o fedLuma)
+  unfolding scenes scenesIn
+  scenes-are = refl
+
+  units-are : units o fedCapture ≡ unitsOf (wholeWanted o fedCapture)
+  unfolding units
+  units-are = refl
+
+  pub few-units : c .units ≤ 750
+  few-units =
+      let t = r .figures .table .few in
+      omega (arith, r .figures .units, ap length units-are)
+
+  pub few-pictures : pictures ≤ 750
+  few-pictures = omega (arith, pictures-are, pictures-most o fedLuma)
+
+  module _ (n : ℕ) (k : CountPost luma pictures (o .time) n) where
+    count-is : n ≡ length (scenes o fedLuma)
+    count-is = k .scenes (scoresOf o fedLuma) (repeatsOf o fedLuma) (changesOf o fedLuma) holds opened-well ∙ ap length (sym scenes-are)
+
+    pub size-is : 64 + 32 * (c .units + n) ≡ sealedLength o fedCapture fedLuma
+    unfolding sealedLength recordLength
+    size-is = rw (r .figures .units, count-is)
+
+    pub too-short : (before : List ℕ) (a : Answer) → length before < 64 + 32 * (c .units + n) → a ≡ Refused 15 (64 + 32 * (c .units + n)) →
+        (a ≡ sealAnswer o fedCapture fedLuma (length before)) × (before ≡ sealedBuffer o fedCapture fedLuma before)
+    unfolding sealAnswer sealedBuffer noRoom
+    too-short before a h e =
+        let f : sealFault o fedCapture fedLuma (length before) ≡ fault 15 (64 + 32 * (c .units + n)) = r .free (length before) ∙ rw (sym size-is, lt-ltb (length before) (64 + 32 * (c .units + n)) h) in
+        (rw f (e), rw f)
+
+    -- ---- the header
+
+    packets-are : c .packets ≡ length (wholeWanted o fedCapture)
+    packets-are = r .figures .packets ∙ ap allPackets units-are ∙ packets-total (wholeWanted o fedCapture)
+
+    lost-are : c .lost ≡ allLost (unitsOf (wholeWanted o fedCapture))
+    lost-are = r .figures .lost ∙ ap allLost units-are
+
+    pub header-is : (h : Header) → HeaderOf luma o c pictures n h → h ≡ header o fedCapture fedLuma
+    unfolding header index indexFrom unrepeated
+    header-is h e =
+        let few = r .figures .few in
+        let ps = wholeWanted o fedCapture in
+        let f : e .fresh ≡ count not (repeats (reduced o fedLuma)) = e .counted .fresh (scoresOf o fedLuma) (repeatsOf o fedLuma) (changesOf o fedLuma) holds in
+        let fl = e .counted .most in
+        let fm = few-pictures in
+        let lo = lost-small ps in
+        let g₁ : e .fresh % 2 ^ 32 ≡ e .fresh = mod-eq-of-lt (omega arith) in
+        let g₂ : c .packets % 2 ^ 32 ≡ c .packets = mod-eq-of-lt (omega (arith, packets-are)) in
+        let g₃ : c .lost % 2 ^ 32 ≡ c .lost = mod-eq-of-lt (omega (arith, lost-are)) in
+        let some = some-packet ps (omega (arith, r .units, r .figures .units, ap length units-are)) in
+        let k : Counts (e .fresh % 2 ^ 32) pictures (c .packets % 2 ^ 32) (c .lost % 2 ^ 32) =
+        record {
+          some-pictures = r .some;
+          of-them = omega (arith, g₁);
+          some-packets = omega (arith, g₂, packets-are);
+          few-pictures = omega arith;
+          few-packets = omega (arith, g₂, packets-are);
+          few-lost = omega (arith, g₃, lost-are);
+        }
+        in
+        let ix : h .index ≡ indexBits (indexOf (e .fresh % 2 ^ 32) pictures (c .packets % 2 ^ 32) (c .lost % 2 ^ 32)) = e .index k in
+        e .is ∙ rw (ix, g₁, g₂, g₃, f, r .figures .units, count-is, pictures-are, r .figures .frames, r .figures .skipped, r .figures .bad, r .figures .packets, r .figures .lost)
+
+    record-is : (before after : List ℕ) → RecordWritten capture luma (header o fedCapture fedLuma) before after →
+        after ≡ over (recordBytes (header o fedCapture fedLuma) (units o fedCapture) (scenes o fedLuma)) before
+    unfolding header
+    record-is before after w =
+        let there = subst (λ (x : ℕ). Holds luma x (scoresOf o fedLuma) (repeatsOf o fedLuma) (changesOf o fedLuma)) pictures-are holds in
+        let hd = header o fedCapture fedLuma in
+        w (r .figures .beside) (wholeWanted o fedCapture) (scoresOf o fedLuma) (repeatsOf o fedLuma) (changesOf o fedLuma) (r .figures .table) (r .figures .few) there opened-well (ap length units-are) (ap length scenes-are)
+        ∙ ap (λ (us : List UnitRow). over (recordBytes hd us (scenesOf (o .time) (scoresOf o fedLuma) (repeatsOf o fedLuma) (changesOf o fedLuma))) before) (sym units-are)
+        ∙ ap (λ (xs : List SceneRow). over (recordBytes hd (units o fedCapture) xs) before) (sym scenes-are)
+
+    pub written-post : (before after : List ℕ) (h : Header) (a : Answer) → HeaderOf luma o c pictures n h → RecordWritten capture luma h before after →
+        64 + 32 * (c .units + n) ≤ length before → a ≡ Done (64 + 32 * (c .units + n)) →
+        (a ≡ sealAnswer o fedCapture fedLuma (length before)) × (after ≡ sealedBuffer o fedCapture fedLuma before)
+    unfolding sealAnswer sealedBuffer noRoom sealed
+    written-post before after h a e w room d =
+        let f : sealFault o fedCapture fedLuma (length before) ≡ none = r .free (length before) ∙ rw (sym size-is, le-ltb (length before) (64 + 32 * (c .units + n)) room) in
+        let i = header-is h e in
+        let w′ : RecordWritten capture luma (header o fedCapture fedLuma) before after = rw i at w in
+        let b = record-is before after w′ in
+        (rw f (d ∙ ap Done size-is), rw f b)
+
+-- the index's bits, of counts that were taken below 2^32
+pub bits-from : {a a′ pictures b b′ d d′ r : ℕ} → a ≡ a′ → b ≡ b′ → d ≡ d′ → BitsOf a pictures b d r → BitsOf a′ pictures b′ d′ r
+bits-from {a = a} {pictures = n} {b = b} {b′ = b′} {d′ = d′} {r = r} e f g h =
+    subst (λ (x : ℕ). BitsOf x n b′ d′ r) e (subst (λ (y : ℕ). BitsOf a n y d′ r) f (subst (λ (z : ℕ). BitsOf a n b z r) g h))

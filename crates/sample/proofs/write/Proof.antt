@@ -1,0 +1,92 @@
+-- `write` meets its contract: where nothing but a short buffer can refuse, the guards for other states never hold, and the record is the rules'. Assumes nothing.
+use native.Mathlib.Omega.{arith}
+use mathlib.Core.Path.{refl, ap}
+use Rattle.rules.specs.declared.Header.{Header}
+use Rattle.rules.specs.Record.{recordLength}
+use Rattle.sample.proofs.Writing.{few-units, few-pictures, too-short, written-post}
+use borrow.Author.Needs.{needs}
+use Rattle.sample.proofs.write.Statement.{statement}
+use Rattle.sample.proofs.write.Tie as tie
+
+refused-requires : tie.Need-refused-requires
+refused-requires c κs = search needs
+
+returns : tie.Need-returns
+returns c = λ fc fl r. absurd (omega (arith, few-units _ _ _ _ _ _ _ r, c .before .if1 .taken))
+
+refused-requires-2 : tie.Need-refused-requires-2
+refused-requires-2 c κs = search needs
+
+returns-2 : tie.Need-returns-2
+returns-2 c = λ fc fl r. absurd (omega (arith, few-pictures _ _ _ _ _ _ _ r, c .before .if2 .taken))
+
+cast-count : tie.Need-cast-count
+cast-count c = search needs
+
+count-requires : tie.Need-count-requires
+count-requires c κs = search needs
+
+cast-size : tie.Need-cast-size
+cast-size c = search needs
+
+add-size : tie.Need-add-size
+add-size c = search needs
+
+mul-size : tie.Need-mul-size
+mul-size c = search needs
+
+add-size-2 : tie.Need-add-size-2
+add-size-2 c = search needs
+
+refused-requires-3 : tie.Need-refused-requires-3
+refused-requires-3 c κs = search needs
+
+returns-3 : tie.Need-returns-3
+returns-3 c = λ fc fl r. too-short _ _ _ fc fl _ _ r (c .before .before .before .count .result) (c .before .before .before .count .ensures) _ _ (c .before .if3 .taken) (c .refused3 .ensures)
+
+cast-header-of : tie.Need-cast-header-of
+cast-header-of c = search needs
+
+cast-header-of-2 : tie.Need-cast-header-of-2
+cast-header-of-2 c = search needs
+
+header-of-requires : tie.Need-header-of-requires
+header-of-requires c κs = search needs
+
+write-record-requires : tie.Need-write-record-requires
+unfolding recordLength
+write-record-requires c κs =
+    let h = c .before .header-of .ensures .is in
+    let u = ap (λ (x : Header). x .units) h in
+    let n = ap (λ (x : Header). x .scenes) h in
+    omega (arith, u, n, c .before .before .if3 .left, c .before .before .before .before .count .ensures .most, c .before .before .before .before .before .before .if2 .left, c .before .before .before .before .before .before .before .if1 .left)
+
+same-length : tie.Need-same-length
+same-length c = search needs
+
+returns-4 : tie.Need-returns-4
+returns-4 c = λ fc fl r.
+    written-post _ _ _ fc fl _ _ r (c .before .before .before .before .before .before .before .count .result) (c .before .before .before .before .before .before .before .count .ensures) _ _ (c .before .before .before .before .header-of .result) _ (c .before .before .before .before .header-of .ensures) (c .before .before .write-record .ensures) (c .before .before .before .before .before .if3 .left) refl
+
+pub write-spec : {M : Type 1} → statement M
+write-spec =
+    tie.close
+    (tie.spec
+    refused-requires
+    returns
+    refused-requires-2
+    returns-2
+    cast-count
+    count-requires
+    cast-size
+    add-size
+    mul-size
+    add-size-2
+    refused-requires-3
+    returns-3
+    cast-header-of
+    cast-header-of-2
+    header-of-requires
+    write-record-requires
+    same-length
+    returns-4)

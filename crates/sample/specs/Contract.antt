@@ -1,0 +1,73 @@
+-- What `open` and `seal` promise, in terms of the rules and of what the lent arrays stand for. What the feeds promise is each side's own `FeedPost`.
+use Prim.Native.Nat.{ℕ, _%_, _^_, _≤_}
+use mathlib.Core.Path.{_≡_}
+use mathlib.Core.List.{List, []}
+use lib.ListN.{length}
+use Rattle.rules.specs.declared.Opening.{Opening}
+use Rattle.rules.specs.declared.Answer.{Answer}
+use Rattle.rules.specs.declared.Header.{Header}
+use Rattle.rules.specs.Opening.{openAnswer}
+use Rattle.rules.specs.Index.{indexOf, indexBits}
+use Rattle.rules.specs.Seal.{sealedLength, noRoom, sealFault, sealAnswer, sealedBuffer}
+use Rattle.index.specs.Counts.{Counts}
+use Rattle.scenes.specs.Contract.{FreshPost}
+use Rattle.counts.specs.declared.Summary.{Summary}
+use Rattle.counts.specs.Summary.{Figures}
+use Rattle.luma.specs.declared.Summary as of-luma
+use Rattle.luma.specs.Contract.{Known}
+use Rattle.sample.specs.State.{State, Means}
+
+-- the opening, the answer, the state after
+pub record OpenPost (o : Opening) (a : Answer) (after : State) : Type 0 where
+  pub answer : a ≡ openAnswer o
+  pub means : Means after o [] []
+
+-- the words of both sides, the buffer before, the answer, the buffer after; for whatever opening and joined strings the words stand
+pub record SealPost (capture luma : List ℕ) (before : List ℕ) (a : Answer) (after : List ℕ) : Type 0 where
+  pub answer : (st : State) (o : Opening) (fedCapture fedLuma : List ℕ) → st .capture ≡ capture → st .luma ≡ luma →
+      Means st o fedCapture fedLuma → a ≡ sealAnswer o fedCapture fedLuma (length before)
+  pub buffer : (st : State) (o : Opening) (fedCapture fedLuma : List ℕ) → st .capture ≡ capture → st .luma ≡ luma →
+      Means st o fedCapture fedLuma → after ≡ sealedBuffer o fedCapture fedLuma before
+
+-- ---- of the functions within
+
+abbrev pub BitsOf : ℕ → ℕ → ℕ → ℕ → ℕ → Type 0
+BitsOf unrepeated pictures packets lost r = Counts unrepeated pictures packets lost → r ≡ indexBits (indexOf unrepeated pictures packets lost)
+
+-- a header of an opening, of what the capture side counted, of pictures and scenes, and of the index's bits
+abbrev pub headerBy : Opening → Summary → ℕ → ℕ → ℕ → Header
+headerBy o c pictures scenes index =
+    record {
+      units = c .units;
+      scenes = scenes;
+      width = o .width;
+      height = o .height;
+      time = o .time;
+      pid = o .pid;
+      pictures = pictures;
+      frames = c .frames;
+      skipped = c .skipped;
+      bad = c .bad;
+      index = index;
+    }
+
+pub record HeaderOf (luma : List ℕ) (o : Opening) (c : Summary) (pictures scenes : ℕ) (h : Header) : Type 0 where
+  pub fresh : ℕ
+  pub counted : FreshPost luma pictures fresh
+  pub is : h ≡ headerBy o c pictures scenes (h .index)
+  pub index : BitsOf (fresh % 2 ^ 32) pictures (c .packets % 2 ^ 32) (c .lost % 2 ^ 32) (h .index)
+
+-- nothing but a short buffer refuses a seal of what the words stand for
+pub record Ready (capture luma : List ℕ) (o : Opening) (fedCapture fedLuma : List ℕ) (c : Summary) (pictures : ℕ) : Type 0 where
+  pub figures : Figures capture o fedCapture c
+  pub seen : of-luma.Summary
+  pub known : Known luma o fedLuma seen
+  pub same : pictures ≡ seen .pictures
+  pub units : 1 ≤ c .units
+  pub some : 1 ≤ pictures
+  pub free : (n : ℕ) → sealFault o fedCapture fedLuma n ≡ noRoom n (sealedLength o fedCapture fedLuma)
+
+abbrev pub WritePost : List ℕ → List ℕ → Opening → Summary → ℕ → List ℕ → Answer → List ℕ → Type 0
+WritePost capture luma o c pictures before a after =
+    (fedCapture fedLuma : List ℕ) → Ready capture luma o fedCapture fedLuma c pictures →
+    (a ≡ sealAnswer o fedCapture fedLuma (length before)) × (after ≡ sealedBuffer o fedCapture fedLuma before)

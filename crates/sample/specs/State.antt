@@ -1,0 +1,18 @@
+-- What a sample's lent arrays stand for: the capture side's words, and the luma side's words, sums, bins and picture.
+use Prim.Native.Nat.{ℕ}
+use mathlib.Core.List.{List}
+use Rattle.rules.specs.declared.Opening.{Opening}
+use Rattle.capture.specs.State as side-capture
+use Rattle.drawing.specs.State as side-luma
+
+pub record State : Type 0 where
+  pub capture : List ℕ
+  pub luma : List ℕ
+  pub sums : List ℕ
+  pub bins : List ℕ
+  pub picture : List ℕ
+
+-- The state stands for the opening o, refused or not, and for the two joined strings. Neither side looks at the other's
+pub record Means (st : State) (o : Opening) (capture luma : List ℕ) : Type 0 where
+  pub captured : side-capture.Means (st .capture) o capture
+  pub drawn : side-luma.Means (st .luma) (st .sums) (st .bins) (st .picture) o luma

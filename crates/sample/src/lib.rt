@@ -1,0 +1,160 @@
+// A stream sample: opened, fed on two sides, sealed. Its state is memory that the caller lends, in arrays of fixed sizes: the capture side's words, and the luma
+// side's words, block sums, bins and picture. Every call is safe and ends on any contents of them, and expects no checking by its caller.
+ghost use mathlib.Core.Path.{_≡_};
+ghost use Prim.Native.Nat.{_%_};
+ghost use Rattle.capture.specs.Contract as side-capture;
+ghost use Rattle.luma.specs.Contract as side-luma;
+ghost use Rattle.sample.specs.Contract.{OpenPost, SealPost, BitsOf, HeaderOf, WritePost};
+use counts::Summary;
+use rules::Answer;
+use rules::Header;
+use rules::Opening;
+
+// Opens a sample, and answers Done with 0, or refusal 1, 2 or 3, which its feeds and seals then repeat.
+pub fn open(
+    capture: &mut [u64; 3840],
+    luma: &mut [u64; 1600],
+    sums: &mut [u32; 240],
+    bins: &mut [u32; 720],
+    picture: &mut [u8; 14104],
+    o: Opening,
+) -> Answer
+    ensures { λ r. ⌜ OpenPost o r (record { capture = now (capture .exit); luma = now (luma .exit); sums = now (sums .exit); bins = now (bins .exit); picture = now (picture .exit) }) ⌝ }
+{
+    let number = figures::opening_fault(o);
+    capture::open(capture, number, o.pid as u64);
+    luma::open(luma, sums, bins, picture, o)
+}
+
+// Feeds a piece of the capture.
+pub fn feed_capture(capture: &mut [u64; 3840], piece: &[u8]) -> Answer
+    ensures { λ r. ⌜ side-capture.FeedPost (now (capture .entry)) (now (piece .entry)) r (now (capture .exit)) ⌝ }
+{
+    capture::feed(capture, piece)
+}
+
+// Feeds a piece of the luma.
+pub fn feed_luma(
+    luma: &mut [u64; 1600],
+    sums: &mut [u32; 240],
+    bins: &mut [u32; 720],
+    picture: &mut [u8; 14104],
+    piece: &[u8],
+) -> Answer
+    ensures { λ r. ⌜ side-luma.FeedPost (now (luma .entry)) (now (sums .entry)) (now (bins .entry)) (now (picture .entry)) (now (piece .entry)) r (now (luma .exit)) (now (sums .exit)) (now (bins .exit)) (now (picture .exit)) ⌝ }
+{
+    luma::feed(luma, sums, bins, picture, piece)
+}
+
+// ---- sealing
+
+fn refused(number: u64, place: u64) -> Answer
+    ensures { λ r. ⌜ r ≡ Answer.Refused number place ⌝ }
+{
+    Answer::Refused {
+        number: number,
+        place: place,
+    }
+}
+
+fn low(x: u64) -> u32
+    ensures { λ r. ⌜ r ≡ x % 4294967296 ⌝ }
+{
+    (x % 4294967296) as u32
+}
+
+// The bits of the index of counts that a seal can have; 0 of any others.
+fn bits_of(unrepeated: u32, pictures: u32, packets: u32, lost: u32) -> u64
+    ensures { λ r. ⌜ BitsOf unrepeated pictures packets lost r ⌝ }
+{
+    if pictures < 1 {
+        return 0;
+    }
+    if pictures < unrepeated {
+        return 0;
+    }
+    if packets < 1 {
+        return 0;
+    }
+    let i = index::index_of(unrepeated, pictures, packets, lost);
+    index::index_bits(i)
+}
+
+// The header's figures.
+fn header_of(luma: &[u64; 1600], o: Opening, c: Summary, pictures: u32, scenes: u32) -> Header
+    ensures { λ r. ⌜ HeaderOf (now (luma .entry)) o c pictures scenes r ⌝ }
+{
+    let unrepeated = low(scenes::unrepeated(luma, pictures as usize));
+    let packets = low(c.packets);
+    let lost = low(c.lost);
+    let index = bits_of(unrepeated, pictures, packets, lost);
+    Header {
+        units: c.units,
+        scenes: scenes,
+        width: o.width,
+        height: o.height,
+        time: o.time,
+        pid: o.pid,
+        pictures: pictures,
+        frames: c.frames,
+        skipped: c.skipped,
+        bad: c.bad,
+        index: index,
+    }
+}
+
+// Writes the record, if the buffer has room for it. Its counts are in range, but where somebody else wrote on the state.
+fn write(
+    buffer: &mut [u8],
+    capture: &[u64; 3840],
+    luma: &[u64; 1600],
+    o: Opening,
+    c: Summary,
+    pictures: u64,
+) -> Answer
+    ensures { λ r. ⌜ WritePost (now (capture .entry)) (now (luma .entry)) o c pictures (now (buffer .entry)) r (now (buffer .exit)) ⌝ }
+{
+    if 750 < c.units {
+        return refused(12, 0);
+    }
+    if 750 < pictures {
+        return refused(14, 0);
+    }
+    let n = pictures as usize;
+    let scenes = scenes::count(luma, n, o.time as u64);
+    let size = 64 + 32 * (c.units as usize + scenes);
+    if buffer.len() < size {
+        return refused(15, size as u64);
+    }
+    let h = header_of(luma, o, c, n as u32, scenes as u32);
+    sealing::write_record(buffer, capture, luma, h);
+    Answer::Done(size as u64)
+}
+
+// Seals what was fed: the record goes into the buffer, and the answer is its length; or the buffer stands as it was, and the answer is the refusal.
+pub fn seal(capture: &[u64; 3840], luma: &[u64; 1600], buffer: &mut [u8]) -> Answer
+    ensures { λ r. ⌜ SealPost (now (capture .entry)) (now (luma .entry)) (now (buffer .entry)) r (now (buffer .exit)) ⌝ }
+{
+    let c = counts::sum_up(capture);
+    let l = luma::summarise(luma);
+    if c.number != 0 {
+        return refused(c.number, c.place);
+    }
+    if l.status != 0 {
+        return refused(l.status, l.place);
+    }
+    if c.inside {
+        return refused(11, c.fed);
+    }
+    if c.units == 0 {
+        return refused(12, 0);
+    }
+    if l.inside {
+        return refused(13, l.fed);
+    }
+    if l.pictures == 0 {
+        return refused(14, 0);
+    }
+    let o = luma::opening_in(luma);
+    write(buffer, capture, luma, o, c, l.pictures)
+}
