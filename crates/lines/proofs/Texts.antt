@@ -1,20 +1,20 @@
 -- Texts that are written piece by piece.
-use Prim.Native.Nat.{ℕ, zero, suc, _+_, _-_, _*_, _/_, _%_, _^_, _≤_, _<_}
+use Prim.Native.Nat.{ℕ, zero, suc, _+_, _-_, _/_, _%_, _^_, _≤_, _<_}
 use native.Mathlib.Omega.{arith}
 use native.Mathlib.Numerals.{add-one}
-use native.Mathlib.Nat.{pow-suc, pow-le-pow-right, div-lt-iff-lt-mul, add-assoc, add-zero, le-div-iff-mul-le}
+use native.Mathlib.Nat.{pow-suc, pow-le-pow-right, div-lt-iff-lt-mul, add-zero, le-div-iff-mul-le}
 use mathlib.Core.Path.{_≡_, refl, sym, ap, _∙_}
 use mathlib.Core.Bool.{Bool, true, false}
-use mathlib.Core.List.{List, [], _∷_, _++_, map, map-append, append-assoc, append-nil}
-use lib.ListN.{length, length-set, take-append-drop, take, drop, set, getD, length-append, length-drop, length-map, List·getD-map}
-use lib.Seq.{take-suc, take-all, length-take-le, drop-cons}
-use lib.Dec.{ltb, leb}
+use mathlib.Core.List.{List, [], _∷_, _++_, map, map-append, append-nil}
+use lib.ListN.{length, length-set, take-append-drop, take, set, getD, length-append, length-map, List·getD-map}
+use lib.Seq.{take-suc, take-all, length-take-le}
+use lib.Dec.{ltb}
 use borrow.Author.Tests.{lt-ltb, le-ltb, le-leb, lt-leb, ltb-true, ltb-false}
 use Rattle.io.specs.Digits.{digits, glyph, Fewest}
 use Rattle.rules.specs.Bytes.{pick, joined}
 use Rattle.rules.proofs.Laws.Lists.{joined-append}
 use Rattle.words.specs.Written.{written}
-use Rattle.words.proofs.Laws.{written-append, written-sets, length-written}
+use Rattle.words.proofs.Laws.{written-sets, length-written}
 use Rattle.rules.specs.Seal.{over}
 use Rattle.record.proofs.Buffers.{next, over-written}
 use Rattle.record.proofs.Composed.{behind}

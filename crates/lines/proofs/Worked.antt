@@ -1,7 +1,6 @@
 -- Document 01, "Program `show`": its example's three lines and a refused one, computed.
-use Prim.Native.Nat.{ℕ}
 use mathlib.Core.Path.{_≡_, refl}
-use mathlib.Core.List.{List, [], _∷_, _++_, map}
+use mathlib.Core.List.{[], _∷_}
 use Rattle.rules.specs.Bytes.{joined}
 use Rattle.lines.specs.Lines.{decimalIn, decimal, hexIn, field, fields, sampleLine, unitLine, sceneLine, refusedLine}
 

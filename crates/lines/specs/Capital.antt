@@ -1,7 +1,5 @@
 -- A hexadecimal digit as a capital.
 use Prim.Native.Nat.{ℕ, _-_}
-use mathlib.Core.Bool.{_&&_}
-use lib.Dec.{leb}
 use Rattle.rules.specs.Bytes.{pick, within}
 
 -- a to f as A to F, any other byte as it is

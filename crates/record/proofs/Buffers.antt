@@ -1,20 +1,17 @@
 -- Buffers that are written on piece by piece, each piece behind the one before.
-use Prim.Native.Nat.{ℕ, _+_, _*_, _≤_}
+use Prim.Native.Nat.{ℕ, _+_, _≤_}
 use native.Mathlib.Omega.{arith}
-use native.Mathlib.Nat.{zero-add, add-assoc}
-use mathlib.Core.Path.{_≡_, refl, sym, ap, _∙_}
-use mathlib.Core.List.{List, [], _∷_, _++_, map, map-append, append-assoc, append-nil}
-use lib.ListN.{length, take, drop, length-append}
-use Rattle.rules.specs.Bytes.{bytesOf, joined}
-use Rattle.rules.specs.Record.{recordLength, sceneOffset, headerBytes, unitBytes, sceneBytes, recordBytes}
-use Rattle.rules.specs.Reading.{unitPlace}
+use native.Mathlib.Nat.{zero-add}
+use mathlib.Core.Path.{_≡_, ap, _∙_}
+use mathlib.Core.List.{List, _++_, append-assoc}
+use lib.ListN.{length, length-append}
+use Rattle.rules.specs.Bytes.{bytesOf}
+use Rattle.rules.specs.Record.{recordLength, sceneOffset, headerBytes, unitBytes, sceneBytes}
 use Rattle.rules.specs.Seal.{over}
 use Rattle.rules.specs.declared.Header.{Header}
 use Rattle.rules.specs.declared.UnitRow.{UnitRow}
 use Rattle.rules.specs.declared.SceneRow.{SceneRow}
 use Rattle.rules.proofs.Laws.Words.{length-bytes}
-use Rattle.rules.proofs.Laws.Lists.{joined-append}
-use Rattle.rules.proofs.Laws.Record.{length-header, length-unit, length-scene, length-record}
 use Rattle.words.specs.Written.{written}
 use Rattle.words.proofs.Laws.{written-append}
 

@@ -1,10 +1,10 @@
 -- What the calls of writing come to, one after the other: header, unit rows and scene rows make up the record, and every byte behind it stands unaltered.
-use Prim.Native.Nat.{ℕ, zero, suc, _+_, _*_, _≤_}
+use Prim.Native.Nat.{ℕ, suc, _+_, _*_, _≤_}
 use native.Mathlib.Omega.{arith}
-use native.Mathlib.Nat.{add-zero, zero-add}
-use mathlib.Core.Path.{_≡_, refl, sym, ap, _∙_}
+use native.Mathlib.Nat.{zero-add}
+use mathlib.Core.Path.{_≡_, refl, sym, _∙_}
 use mathlib.Core.List.{List, [], _∷_, _++_, map, append-assoc, append-nil}
-use lib.ListN.{length, drop, length-append}
+use lib.ListN.{length, length-append}
 use lib.Seq.{append-snoc}
 use Rattle.rules.specs.declared.Header.{Header}
 use Rattle.rules.specs.declared.UnitRow.{UnitRow}
@@ -13,8 +13,7 @@ use Rattle.rules.specs.Bytes.{joined}
 use Rattle.rules.specs.Record.{recordLength, sceneOffset, headerBytes, unitBytes, sceneBytes, recordBytes}
 use Rattle.rules.specs.Reading.{unitPlace}
 use Rattle.rules.specs.Seal.{over}
-use Rattle.rules.proofs.Laws.Lists.{joined-append}
-use Rattle.rules.proofs.Laws.Record.{length-unit, length-scene, length-record}
+use Rattle.rules.proofs.Laws.Record.{length-record}
 use Rattle.words.specs.Written.{written}
 use Rattle.record.proofs.Buffers.{next, over-written}
 
@@ -31,7 +30,7 @@ map-snoc f (y ∷ xs) x = rw (map-snoc f xs x) (sym (append-assoc (f y) (joined 
 module _ (h : Header) (us : List UnitRow) where
   record-unit : (u : UnitRow) → recordBytes h us [] ++ unitBytes u ≡ recordBytes h (us ++ (u ∷ [])) []
   unfolding recordBytes joined
-  record-unit u = rw (map-snoc unitBytes us u, append-nil, append-nil) (append-assoc (headerBytes h) (joined (map unitBytes us)) (unitBytes u))
+  record-unit u = rw (map-snoc unitBytes us u, append-nil (headerBytes h ++ joined (map unitBytes us)), append-nil (headerBytes h ++ (joined (map unitBytes us) ++ unitBytes u))) (append-assoc (headerBytes h) (joined (map unitBytes us)) (unitBytes u))
 
   record-scene : (ss : List SceneRow) (s : SceneRow) → recordBytes h us ss ++ sceneBytes s ≡ recordBytes h us (ss ++ (s ∷ []))
   unfolding recordBytes

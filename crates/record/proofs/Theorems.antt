@@ -1,7 +1,7 @@
 -- Document 01's claims about records, for any figures and any byte string.
 use Prim.Native.Nat.{ℕ, _<_}
 use native.Mathlib.Omega.{arith}
-use mathlib.Core.Path.{_≡_, refl, sym, ap, _∙_}
+use mathlib.Core.Path.{_≡_, sym, ap, _∙_}
 use mathlib.Core.Bool.{true}
 use mathlib.Core.List.{List, _++_}
 use lib.ListN.{length, take, drop, getD}
@@ -16,14 +16,14 @@ use Rattle.rules.specs.declared.SceneAnswer.the-variants as of-scene
 use Rattle.rules.specs.Bytes.{word32}
 use Rattle.rules.specs.Refusals.{none}
 use Rattle.rules.specs.Record.{recordLength, recordBytes}
-use Rattle.rules.specs.Reading.{headerOf, unitAt, sceneAt, allowed, readingFault, headerAnswer, unitAnswer, sceneAnswer}
+use Rattle.rules.specs.Reading.{headerOf, allowed, readingFault, headerAnswer, unitAnswer, sceneAnswer}
 use Rattle.rules.specs.Seal.{over}
 use Rattle.rules.proofs.Laws.Words.{Bytes}
 use Rattle.rules.proofs.Laws.Record.{Figures, header-read, unit-read, scene-read, record-injective}
 use Rattle.rules.proofs.Laws.Allowed.{goodFigures, allowed-figures, record-allowed, unitsRead, scenesRead, record-again}
 use Rattle.record.specs.declared.reading.Opened.the-variants.{Accepted}
 use Rattle.record.specs.Opened.{openedAs}
-use Rattle.record.proofs.Answers.{AcceptedAs, accepted-as, fault-allowed, header-given, unit-given, scene-given}
+use Rattle.record.proofs.Answers.{accepted-as, fault-allowed, header-given, unit-given, scene-given}
 
 -- ---- accepted exactly when allowed
 

@@ -2,8 +2,6 @@ use borrow.Author.Needs.{needs}
 use borrow.Author.Tests.{le-leb, lt-leb}
 use Rattle.lines.proofs.capital.Statement.{statement}
 use Rattle.lines.proofs.capital.Tie as tie
-use Rattle.lines.proofs.capital.Reads as reads
-use Rattle.lines.proofs.capital.Lts as lts
 
 returns : tie.Need-returns
 returns c = rw (lt-leb 97 _ (c .if1 .taken))

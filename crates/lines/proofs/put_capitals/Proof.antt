@@ -3,17 +3,14 @@ use borrow.Author.Needs.{needs}
 use mathlib.Core.Path.{_≡_, ap, _∙_}
 use mathlib.Core.List.{List, map}
 use Prim.Native.Nat.{ℕ, _+_, _-_, _≤_}
-use lib.ListN.{length, take, set, getD, length-set, length-map, List·getD-map}
+use lib.ListN.{length, take, set, length-set, length-map}
 use lib.Seq.{take-all}
 use Rattle.lines.proofs.Texts.{capital-more}
-use Rattle.lines.proofs.Texts.{byte-more, none-yet}
+use Rattle.lines.proofs.Texts.{none-yet}
 use Rattle.lines.specs.Capital.{capital}
 use Rattle.words.specs.Written.{written}
 use Rattle.lines.proofs.put_capitals.Statement.{statement}
 use Rattle.lines.proofs.put_capitals.Tie as tie
-use Rattle.lines.proofs.put_capitals.Reads as reads
-use Rattle.lines.proofs.put_capitals.Lts as lts
-use Rattle.lines.proofs.capital.Reads as capital-reads
 
 abbrev Inv-loop : tie.InvT-loop
 Inv-loop buffer₀ at text i₀ buffer i = (i ≤ length text) × (length buffer ≡ length buffer₀) × (buffer ≡ written at (take i (map capital text)) buffer₀)
@@ -22,7 +19,9 @@ abbrev μ-loop : tie.MeasureT-loop
 μ-loop buffer₀ at text i₀ buffer i = length text - i
 
 loop-holds : tie.Need-loop-holds Inv-loop μ-loop
-loop-holds c = (omega arith, omega arith, none-yet _ (map capital (c .before .before .args .text .now)) (c .before .before .args .at))
+loop-holds c =
+    let c₂ = c .before .before in
+    (omega arith, omega arith, none-yet _ (map capital (c₂ .args .text .now)) (c₂ .args .at))
 
 shared-slice-read-capital : tie.Need-shared-slice-read-capital Inv-loop μ-loop
 shared-slice-read-capital c = omega arith
@@ -43,7 +42,16 @@ loop-less : tie.Need-loop-less Inv-loop μ-loop
 loop-less c = omega arith
 
 loop-again : tie.Need-loop-again Inv-loop μ-loop
-loop-again c = (omega arith, simp length-set (omega arith), ap (λ (b : List ℕ). set b (c .before .before .before .before .before .before .args .at + c .before .before .before .loop .i) (c .capital .result)) (c .before .before .before .loop .inv .2) ∙ capital-more (c .before .before .before .before .before .before .args .buffer .now) (c .before .before .before .before .before .before .args .text .now) (c .before .before .before .before .before .before .args .at) (c .before .before .before .loop .i) (c .capital .result) (c .before .before .before .before .before .before .pre) (c .before .before .loop-test .taken) (c .capital .ensures))
+loop-again c =
+    let c₂ = c .before .before in
+    let c₃ = c₂ .before in
+    let c₆ = c₃ .before .before .before in (
+      omega arith,
+      simp length-set (omega arith),
+      ap (λ (b : List ℕ). set b (c₆ .args .at + c₃ .loop .i) (c .capital .result)) (c₃ .loop .inv .2)
+          ∙ capital-more (c₆ .args .buffer .now) (c₆ .args .text .now) (c₆ .args .at) (c₃ .loop .i) (c .capital .result) (c₆ .pre)
+          (c₂ .loop-test .taken) (c .capital .ensures),
+    )
 
 add-result : tie.Need-add-result Inv-loop μ-loop
 add-result c = omega arith
@@ -52,7 +60,12 @@ same-length : tie.Need-same-length Inv-loop μ-loop
 same-length c = omega arith
 
 returns : tie.Need-returns Inv-loop μ-loop
-returns c = (omega arith, c .before .loop .inv .2 ∙ ap (λ (x : List ℕ). written (c .before .before .before .before .args .at) x (c .before .before .before .before .args .buffer .now)) (take-all (c .before .loop .i) (map capital (c .before .before .before .before .args .text .now)) (omega (arith, length-map (c .before .before .before .before .args .text .now) capital))))
+returns c =
+    let c₄ = c .before .before .before .before in (
+      omega arith,
+      c .before .loop .inv .2 ∙ ap (λ (x : List ℕ). written (c₄ .args .at) x (c₄ .args .buffer .now))
+          (take-all (c .before .loop .i) (map capital (c₄ .args .text .now)) (omega (arith, length-map (c₄ .args .text .now) capital))),
+    )
 
 pub put-capitals-spec : {M : Type 1} → statement M
 put-capitals-spec =

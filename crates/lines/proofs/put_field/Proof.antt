@@ -1,13 +1,9 @@
 use borrow.Author.Needs.{needs}
-use mathlib.Core.Path.{_≡_, ap, _∙_}
-use lib.ListN.{length, take, set, getD, length-set, length-map, List·getD-map}
+use mathlib.Core.Path.{_∙_}
+use lib.ListN.{length-set}
 use Rattle.lines.proofs.Texts.{field-room, field-written}
 use Rattle.lines.proofs.put_field.Statement.{statement}
 use Rattle.lines.proofs.put_field.Tie as tie
-use Rattle.lines.proofs.put_field.Reads as reads
-use Rattle.lines.proofs.put_field.Lts as lts
-use Rattle.io.proofs.decimal.Reads as decimal-reads
-use Rattle.lines.proofs.put_text.Reads as put-text-reads
 
 slice-write-buffer : tie.Need-slice-write-buffer
 slice-write-buffer c = search needs
@@ -25,13 +21,25 @@ slice-aggregate-put-text : tie.Need-slice-aggregate-put-text
 slice-aggregate-put-text c = search needs
 
 put-text-requires : tie.Need-put-text-requires
-put-text-requires c κs = field-room (c .before .before .before .before .before .args .buffer .now) (c .before .before .before .before .before .args .at) (c .before .before .before .before .before .args .n) _ _ (c .before .before .before .before .before .fits .n .fits) (c .before .before .decimal .ensures .1 .0) (c .before .before .decimal .ensures .1 .1) (c .before .before .before .before .before .pre)
+put-text-requires c κs =
+    let c₂ = c .before .before in
+    let c₅ = c₂ .before .before .before in
+    field-room (c₅ .args .buffer .now) (c₅ .args .at) (c₅ .args .n) _ _ (c₅ .fits .n .fits) (c₂ .decimal .ensures .1 .0)
+    (c₂ .decimal .ensures .1 .1) (c₅ .pre)
 
 same-length : tie.Need-same-length
-same-length c = c .before .before .put-text .kept .0 ∙ length-set (c .before .before .before .before .before .before .before .before .args .buffer .now) (c .before .before .before .before .before .before .before .before .args .at) 32
+same-length c =
+    let c₂ = c .before .before in
+    let c₈ = c₂ .before .before .before .before .before .before in
+    c₂ .put-text .kept .0 ∙ length-set (c₈ .args .buffer .now) (c₈ .args .at) 32
 
 returns : tie.Need-returns
-returns c = field-written (c .before .before .before .before .before .before .before .before .args .buffer .now) (c .before .before .before .before .before .before .before .before .args .at) (c .before .before .before .before .before .before .before .before .args .n) _ _ (c .before .before .before .before .before .before .before .before .fits .n .fits) (c .before .before .before .before .before .decimal .ensures .1 .0) (c .before .before .before .before .before .decimal .ensures .1 .1) (c .before .before .before .before .before .before .before .before .pre) _ _ (c .before .before .put-text .ensures)
+returns c =
+    let c₂ = c .before .before in
+    let c₅ = c₂ .before .before .before in
+    let c₈ = c₅ .before .before .before in
+    field-written (c₈ .args .buffer .now) (c₈ .args .at) (c₈ .args .n) _ _ (c₈ .fits .n .fits) (c₅ .decimal .ensures .1 .0)
+    (c₅ .decimal .ensures .1 .1) (c₈ .pre) _ _ (c₂ .put-text .ensures)
 
 pub put-field-spec : {M : Type 1} → statement M
 put-field-spec =

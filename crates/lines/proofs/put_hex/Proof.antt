@@ -1,13 +1,9 @@
 use borrow.Author.Needs.{needs}
-use mathlib.Core.Path.{_≡_, ap, _∙_}
-use lib.ListN.{length, take, set, getD, length-set, length-map, List·getD-map}
+use mathlib.Core.Path.{_∙_}
+use lib.ListN.{length-set}
 use Rattle.lines.proofs.Texts.{hex-room, hex-written}
 use Rattle.lines.proofs.put_hex.Statement.{statement}
 use Rattle.lines.proofs.put_hex.Tie as tie
-use Rattle.lines.proofs.put_hex.Reads as reads
-use Rattle.lines.proofs.put_hex.Lts as lts
-use Rattle.io.proofs.hex.Reads as hex-reads
-use Rattle.lines.proofs.put_capitals.Reads as put-capitals-reads
 
 slice-write-buffer : tie.Need-slice-write-buffer
 slice-write-buffer c = search needs
@@ -25,13 +21,25 @@ slice-aggregate-put-capitals : tie.Need-slice-aggregate-put-capitals
 slice-aggregate-put-capitals c = search needs
 
 put-capitals-requires : tie.Need-put-capitals-requires
-put-capitals-requires c κs = hex-room (c .before .before .before .before .before .args .buffer .now) (c .before .before .before .before .before .args .at) (c .before .before .before .before .before .args .n) _ _ (c .before .before .before .before .before .fits .n .fits) (c .before .before .hex .ensures .1 .0) (c .before .before .hex .ensures .1 .1) (c .before .before .before .before .before .pre)
+put-capitals-requires c κs =
+    let c₂ = c .before .before in
+    let c₅ = c₂ .before .before .before in
+    hex-room (c₅ .args .buffer .now) (c₅ .args .at) (c₅ .args .n) _ _ (c₅ .fits .n .fits) (c₂ .hex .ensures .1 .0) (c₂ .hex .ensures .1 .1)
+    (c₅ .pre)
 
 same-length : tie.Need-same-length
-same-length c = c .before .before .put-capitals .kept .0 ∙ length-set (c .before .before .before .before .before .before .before .before .args .buffer .now) (c .before .before .before .before .before .before .before .before .args .at) 32
+same-length c =
+    let c₂ = c .before .before in
+    let c₈ = c₂ .before .before .before .before .before .before in
+    c₂ .put-capitals .kept .0 ∙ length-set (c₈ .args .buffer .now) (c₈ .args .at) 32
 
 returns : tie.Need-returns
-returns c = hex-written (c .before .before .before .before .before .before .before .before .args .buffer .now) (c .before .before .before .before .before .before .before .before .args .at) (c .before .before .before .before .before .before .before .before .args .n) _ _ (c .before .before .before .before .before .before .before .before .fits .n .fits) (c .before .before .before .before .before .hex .ensures .1 .0) (c .before .before .before .before .before .hex .ensures .1 .1) (c .before .before .before .before .before .before .before .before .pre) _ _ (c .before .before .put-capitals .ensures)
+returns c =
+    let c₂ = c .before .before in
+    let c₅ = c₂ .before .before .before in
+    let c₈ = c₅ .before .before .before in
+    hex-written (c₈ .args .buffer .now) (c₈ .args .at) (c₈ .args .n) _ _ (c₈ .fits .n .fits) (c₅ .hex .ensures .1 .0) (c₅ .hex .ensures .1 .1)
+    (c₈ .pre) _ _ (c₂ .put-capitals .ensures)
 
 pub put-hex-spec : {M : Type 1} → statement M
 put-hex-spec =

@@ -1,15 +1,13 @@
 use native.Mathlib.Omega.{arith}
 use mathlib.Core.Path.{_≡_, ap, _∙_}
-use mathlib.Core.List.{List, map}
+use mathlib.Core.List.{List}
 use Prim.Native.Nat.{ℕ, _+_, _-_, _≤_}
-use lib.ListN.{length, take, set, getD, length-set, length-map, List·getD-map}
+use lib.ListN.{length, take, set, getD, length-set}
 use lib.Seq.{take-all}
 use Rattle.lines.proofs.Texts.{byte-more, none-yet}
 use Rattle.words.specs.Written.{written}
 use Rattle.lines.proofs.put_text.Statement.{statement}
 use Rattle.lines.proofs.put_text.Tie as tie
-use Rattle.lines.proofs.put_text.Reads as reads
-use Rattle.lines.proofs.put_text.Lts as lts
 
 abbrev Inv-loop : tie.InvT-loop
 Inv-loop buffer₀ at text i₀ buffer i = (i ≤ length text) × (length buffer ≡ length buffer₀) × (buffer ≡ written at (take i text) buffer₀)
@@ -36,7 +34,15 @@ loop-less : tie.Need-loop-less Inv-loop μ-loop
 loop-less c = omega arith
 
 loop-again : tie.Need-loop-again Inv-loop μ-loop
-loop-again c = (omega arith, simp length-set (omega arith), ap (λ (b : List ℕ). set b (c .before .before .before .args .at + c .before .before .loop .i) (getD (c .before .before .before .args .text .now) (c .before .before .loop .i) 0)) (c .before .before .loop .inv .2) ∙ byte-more (c .before .before .before .args .buffer .now) (c .before .before .before .args .text .now) (c .before .before .before .args .at) (c .before .before .loop .i) (c .before .before .before .pre) (c .before .loop-test .taken))
+loop-again c =
+    let c₂ = c .before .before in
+    let c₃ = c₂ .before in (
+      omega arith,
+      simp length-set (omega arith),
+      ap
+          (λ (b : List ℕ). set b (c₃ .args .at + c₂ .loop .i) (getD (c₃ .args .text .now) (c₂ .loop .i) 0)) (c₂ .loop .inv .2) ∙ byte-more
+          (c₃ .args .buffer .now) (c₃ .args .text .now) (c₃ .args .at) (c₂ .loop .i) (c₃ .pre) (c .before .loop-test .taken),
+    )
 
 add-result : tie.Need-add-result Inv-loop μ-loop
 add-result c = omega arith
@@ -45,7 +51,12 @@ same-length : tie.Need-same-length Inv-loop μ-loop
 same-length c = omega arith
 
 returns : tie.Need-returns Inv-loop μ-loop
-returns c = (omega arith, c .before .loop .inv .2 ∙ ap (λ (x : List ℕ). written (c .before .before .args .at) x (c .before .before .args .buffer .now)) (take-all (c .before .loop .i) (c .before .before .args .text .now) (c .loop-test .left)))
+returns c =
+    let c₂ = c .before .before in (
+      omega arith,
+      c .before .loop .inv .2 ∙ ap (λ (x : List ℕ). written (c₂ .args .at) x (c₂ .args .buffer .now))
+          (take-all (c .before .loop .i) (c₂ .args .text .now) (c .loop-test .left)),
+    )
 
 pub put-text-spec : {M : Type 1} → statement M
 put-text-spec =

@@ -5,11 +5,6 @@ use Rattle.lines.proofs.Texts.{line-of-four, length-hex}
 use Rattle.lines.specs.Lines.{fields, hexIn, sampleLine}
 use Rattle.lines.proofs.sample_line.Statement.{statement}
 use Rattle.lines.proofs.sample_line.Tie as tie
-use Rattle.lines.proofs.sample_line.Reads as reads
-use Rattle.lines.proofs.sample_line.Lts as lts
-use Rattle.lines.proofs.put_fields.Reads as put-fields-reads
-use Rattle.lines.proofs.put_hex.Reads as put-hex-reads
-use Rattle.lines.proofs.put_text.Reads as put-text-reads
 
 cast-t9 : tie.Need-cast-t9
 cast-t9 c = search needs
@@ -54,14 +49,42 @@ slice-aggregate-put-text-2 : tie.Need-slice-aggregate-put-text-2
 slice-aggregate-put-text-2 c = search needs
 
 put-text-requires-2 : tie.Need-put-text-requires-2
-put-text-requires-2 c κs = omega (arith, c .before .before .before .before .put-hex .ensures .0, c .before .before .before .before .put-hex .kept .0, c .before .before .before .before .before .before .before .before .put-fields .ensures .1, c .before .before .before .before .before .before .before .before .put-fields .kept .0, c .before .before .before .before .before .before .before .before .before .before .before .before .before .put-text .ensures .0, c .before .before .before .before .before .before .before .before .before .before .before .before .before .put-text .kept .0, c .before .before .before .before .before .before .before .before .before .before .before .before .before .before .before .before .before .before .before .before .before .before .before .before .before .pre)
+put-text-requires-2 c κs =
+    let c₄ = c .before .before .before .before in
+    let c₈ = c₄ .before .before .before .before in
+    let c₁₃ = c₈ .before .before .before .before .before in
+    let c₂₅ = c₁₃ .before .before .before .before .before .before .before .before .before .before .before .before in
+    omega (
+      arith,
+      c₄ .put-hex .ensures .0,
+      c₄ .put-hex .kept .0,
+      c₈ .put-fields .ensures .1,
+      c₈ .put-fields .kept .0,
+      c₁₃ .put-text .ensures .0,
+      c₁₃ .put-text .kept .0,
+      c₂₅ .pre,
+    )
 
 same-length : tie.Need-same-length
 same-length c = search needs
 
 returns : tie.Need-returns
 unfolding sampleLine
-returns c = line-of-four (115 ∷ 97 ∷ 109 ∷ 112 ∷ 108 ∷ 101 ∷ []) (fields (c .before .before .before .before .before .before .before .before .before .before .before .before .before .before .before .before .before .before .before .before .before .before .before .before .before .before .before .before .args .h .width ∷ c .before .before .before .before .before .before .before .before .before .before .before .before .before .before .before .before .before .before .before .before .before .before .before .before .before .before .before .before .args .h .height ∷ c .before .before .before .before .before .before .before .before .before .before .before .before .before .before .before .before .before .before .before .before .before .before .before .before .before .before .before .before .args .h .time ∷ c .before .before .before .before .before .before .before .before .before .before .before .before .before .before .before .before .before .before .before .before .before .before .before .before .before .before .before .before .args .h .pid ∷ c .before .before .before .before .before .before .before .before .before .before .before .before .before .before .before .before .before .before .before .before .before .before .before .before .before .before .before .before .args .h .pictures ∷ c .before .before .before .before .before .before .before .before .before .before .before .before .before .before .before .before .before .before .before .before .before .before .before .before .before .before .before .before .args .h .frames ∷ c .before .before .before .before .before .before .before .before .before .before .before .before .before .before .before .before .before .before .before .before .before .before .before .before .before .before .before .before .args .h .skipped ∷ c .before .before .before .before .before .before .before .before .before .before .before .before .before .before .before .before .before .before .before .before .before .before .before .before .before .before .before .before .args .h .bad ∷ [])) (32 ∷ hexIn 16 (c .before .before .before .before .before .before .before .before .before .before .before .before .before .before .before .before .before .before .before .before .before .before .before .before .before .before .before .before .args .h .index)) (10 ∷ []) (c .before .before .before .before .before .before .before .before .before .before .before .before .before .before .before .before .before .before .before .before .before .before .before .before .before .before .before .before .args .buffer .now) (c .before .before .before .before .before .before .before .before .before .before .before .before .before .before .before .before .put-text .last .0) (c .before .before .before .before .before .before .before .before .before .before .before .put-fields .last .0) (c .before .before .before .before .before .before .before .put-hex .last .0) (c .before .before .put-text2 .last .0) (c .before .before .before .before .before .before .before .before .before .before .before .before .before .before .before .before .put-text .result) (c .before .before .before .before .before .before .before .before .before .before .before .put-fields .result) (c .before .before .before .before .before .before .before .put-hex .result) (c .before .before .put-text2 .result) (omega (arith, c .before .before .before .before .before .before .before .before .before .before .before .before .before .before .before .before .put-text .ensures .0, c .before .before .before .before .before .before .before .before .before .before .before .before .before .before .before .before .before .before .before .before .before .before .before .before .before .before .before .before .pre)) (omega (arith, c .before .before .before .before .before .before .before .before .before .before .before .before .before .before .before .before .put-text .ensures .0, c .before .before .before .before .before .before .before .before .before .before .before .put-fields .ensures .1, c .before .before .before .before .before .before .before .before .before .before .before .before .before .before .before .before .before .before .before .before .before .before .before .before .before .before .before .before .pre)) (omega (arith, c .before .before .before .before .before .before .before .before .before .before .before .before .before .before .before .before .put-text .ensures .0, c .before .before .before .before .before .before .before .before .before .before .before .put-fields .ensures .1, c .before .before .before .before .before .before .before .put-hex .ensures .0, c .before .before .before .before .before .before .before .before .before .before .before .before .before .before .before .before .before .before .before .before .before .before .before .before .before .before .before .before .pre)) (c .before .before .before .before .before .before .before .before .before .before .before .before .before .before .before .before .put-text .ensures) (c .before .before .before .before .before .before .before .before .before .before .before .put-fields .ensures .0) (c .before .before .before .before .before .before .before .before .before .before .before .put-fields .ensures .2) (omega (arith, c .before .before .before .before .before .before .before .put-hex .ensures .0, length-hex 16 (c .before .before .before .before .before .before .before .before .before .before .before .before .before .before .before .before .before .before .before .before .before .before .before .before .before .before .before .before .args .h .index))) (c .before .before .before .before .before .before .before .put-hex .ensures .1) (c .before .before .put-text2 .ensures)
+returns c =
+    let c₂ = c .before .before in
+    let c₇ = c₂ .before .before .before .before .before in
+    let c₁₁ = c₇ .before .before .before .before in
+    let c₁₆ = c₁₁ .before .before .before .before .before in
+    let c₂₈ = c₁₆ .before .before .before .before .before .before .before .before .before .before .before .before in
+    line-of-four (115 ∷ 97 ∷ 109 ∷ 112 ∷ 108 ∷ 101 ∷ []) (fields (c₂₈ .args .h .width ∷ c₂₈ .args .h .height ∷ c₂₈ .args .h .time ∷
+    c₂₈ .args .h .pid ∷ c₂₈ .args .h .pictures ∷ c₂₈ .args .h .frames ∷ c₂₈ .args .h .skipped ∷ c₂₈ .args .h .bad ∷ []))
+    (32 ∷ hexIn 16 (c₂₈ .args .h .index)) (10 ∷ []) (c₂₈ .args .buffer .now) (c₁₆ .put-text .last .0) (c₁₁ .put-fields .last .0)
+    (c₇ .put-hex .last .0) (c₂ .put-text2 .last .0) (c₁₆ .put-text .result) (c₁₁ .put-fields .result) (c₇ .put-hex .result)
+    (c₂ .put-text2 .result) (omega (arith, c₁₆ .put-text .ensures .0, c₂₈ .pre))
+    (omega (arith, c₁₆ .put-text .ensures .0, c₁₁ .put-fields .ensures .1, c₂₈ .pre))
+    (omega (arith, c₁₆ .put-text .ensures .0, c₁₁ .put-fields .ensures .1, c₇ .put-hex .ensures .0, c₂₈ .pre)) (c₁₆ .put-text .ensures)
+    (c₁₁ .put-fields .ensures .0) (c₁₁ .put-fields .ensures .2) (omega (arith, c₇ .put-hex .ensures .0, length-hex 16 (c₂₈ .args .h .index)))
+    (c₇ .put-hex .ensures .1) (c₂ .put-text2 .ensures)
 
 pub sample-line-spec : {M : Type 1} → statement M
 sample-line-spec =

@@ -2,13 +2,9 @@ use borrow.Author.Needs.{needs}
 use native.Mathlib.Omega.{arith}
 use mathlib.Core.List.{[], _∷_}
 use Rattle.lines.proofs.Texts.{line-of-three}
-use Rattle.lines.specs.Lines.{field, fields, sceneLine}
+use Rattle.lines.specs.Lines.{fields, sceneLine}
 use Rattle.lines.proofs.scene_line.Statement.{statement}
 use Rattle.lines.proofs.scene_line.Tie as tie
-use Rattle.lines.proofs.scene_line.Reads as reads
-use Rattle.lines.proofs.scene_line.Lts as lts
-use Rattle.lines.proofs.put_fields.Reads as put-fields-reads
-use Rattle.lines.proofs.put_text.Reads as put-text-reads
 
 cast-t9 : tie.Need-cast-t9
 cast-t9 c = search needs
@@ -54,7 +50,17 @@ same-length c = search needs
 
 returns : tie.Need-returns
 unfolding sceneLine
-returns c = line-of-three (115 ∷ 99 ∷ 101 ∷ 110 ∷ 101 ∷ []) (fields (c .before .before .before .before .before .before .before .before .before .before .before .before .before .before .before .before .before .before .before .before .before .before .before .args .j ∷ c .before .before .before .before .before .before .before .before .before .before .before .before .before .before .before .before .before .before .before .before .before .before .before .args .s .first ∷ c .before .before .before .before .before .before .before .before .before .before .before .before .before .before .before .before .before .before .before .before .before .before .before .args .s .pictures ∷ c .before .before .before .before .before .before .before .before .before .before .before .before .before .before .before .before .before .before .before .before .before .before .before .args .s .repeated ∷ c .before .before .before .before .before .before .before .before .before .before .before .before .before .before .before .before .before .before .before .before .before .before .before .args .s .longest ∷ c .before .before .before .before .before .before .before .before .before .before .before .before .before .before .before .before .before .before .before .before .before .before .before .args .s .score ∷ c .before .before .before .before .before .before .before .before .before .before .before .before .before .before .before .before .before .before .before .before .before .before .before .args .s .peak ∷ c .before .before .before .before .before .before .before .before .before .before .before .before .before .before .before .before .before .before .before .before .before .before .before .args .s .change ∷ [])) (10 ∷ []) (c .before .before .before .before .before .before .before .before .before .before .before .before .before .before .before .before .before .before .before .before .before .before .before .args .buffer .now) (c .before .before .before .before .before .before .before .before .before .before .before .before .put-text .last .0) (c .before .before .before .before .before .before .before .put-fields .last .0) (c .before .before .put-text2 .last .0) (c .before .before .before .before .before .before .before .before .before .before .before .before .put-text .result) (c .before .before .before .before .before .before .before .put-fields .result) (c .before .before .put-text2 .result) (omega (arith, c .before .before .before .before .before .before .before .before .before .before .before .before .put-text .ensures .0, c .before .before .before .before .before .before .before .before .before .before .before .before .before .before .before .before .before .before .before .before .before .before .before .pre)) (omega (arith, c .before .before .before .before .before .before .before .before .before .before .before .before .put-text .ensures .0, c .before .before .before .before .before .before .before .put-fields .ensures .1, c .before .before .before .before .before .before .before .before .before .before .before .before .before .before .before .before .before .before .before .before .before .before .before .pre)) (c .before .before .before .before .before .before .before .before .before .before .before .before .put-text .ensures) (c .before .before .before .before .before .before .before .put-fields .ensures .0) (c .before .before .before .before .before .before .before .put-fields .ensures .2) (c .before .before .put-text2 .ensures)
+returns c =
+    let c₂ = c .before .before in
+    let c₇ = c₂ .before .before .before .before .before in
+    let c₁₂ = c₇ .before .before .before .before .before in
+    let c₂₃ = c₁₂ .before .before .before .before .before .before .before .before .before .before .before in
+    line-of-three (115 ∷ 99 ∷ 101 ∷ 110 ∷ 101 ∷ []) (fields (c₂₃ .args .j ∷ c₂₃ .args .s .first ∷ c₂₃ .args .s .pictures ∷
+    c₂₃ .args .s .repeated ∷ c₂₃ .args .s .longest ∷ c₂₃ .args .s .score ∷ c₂₃ .args .s .peak ∷ c₂₃ .args .s .change ∷ [])) (10 ∷ [])
+    (c₂₃ .args .buffer .now) (c₁₂ .put-text .last .0) (c₇ .put-fields .last .0) (c₂ .put-text2 .last .0) (c₁₂ .put-text .result)
+    (c₇ .put-fields .result) (c₂ .put-text2 .result) (omega (arith, c₁₂ .put-text .ensures .0, c₂₃ .pre))
+    (omega (arith, c₁₂ .put-text .ensures .0, c₇ .put-fields .ensures .1, c₂₃ .pre)) (c₁₂ .put-text .ensures) (c₇ .put-fields .ensures .0)
+    (c₇ .put-fields .ensures .2) (c₂ .put-text2 .ensures)
 
 pub scene-line-spec : {M : Type 1} → statement M
 scene-line-spec =

@@ -2,13 +2,9 @@ use borrow.Author.Needs.{needs}
 use native.Mathlib.Omega.{arith}
 use mathlib.Core.List.{[], _∷_}
 use Rattle.lines.proofs.Texts.{line-of-three}
-use Rattle.lines.specs.Lines.{field, fields, unitLine}
+use Rattle.lines.specs.Lines.{fields, unitLine}
 use Rattle.lines.proofs.unit_line.Statement.{statement}
 use Rattle.lines.proofs.unit_line.Tie as tie
-use Rattle.lines.proofs.unit_line.Reads as reads
-use Rattle.lines.proofs.unit_line.Lts as lts
-use Rattle.lines.proofs.put_fields.Reads as put-fields-reads
-use Rattle.lines.proofs.put_text.Reads as put-text-reads
 
 cast-t9 : tie.Need-cast-t9
 cast-t9 c = search needs
@@ -42,7 +38,17 @@ same-length c = search needs
 
 returns : tie.Need-returns
 unfolding unitLine
-returns c = line-of-three (117 ∷ 110 ∷ 105 ∷ 116 ∷ []) (fields (c .before .before .before .before .before .before .before .before .before .before .before .before .before .before .before .before .before .before .before .args .j ∷ c .before .before .before .before .before .before .before .before .before .before .before .before .before .before .before .before .before .before .before .args .u .least ∷ c .before .before .before .before .before .before .before .before .before .before .before .before .before .before .before .before .before .before .before .args .u .greatest ∷ c .before .before .before .before .before .before .before .before .before .before .before .before .before .before .before .before .before .before .before .args .u .size ∷ c .before .before .before .before .before .before .before .before .before .before .before .before .before .before .before .before .before .before .before .args .u .packets ∷ c .before .before .before .before .before .before .before .before .before .before .before .before .before .before .before .before .before .before .before .args .u .lost ∷ [])) (10 ∷ []) (c .before .before .before .before .before .before .before .before .before .before .before .before .before .before .before .before .before .before .before .args .buffer .now) (c .before .before .before .before .before .before .before .before .before .before .before .before .put-text .last .0) (c .before .before .before .before .before .before .before .put-fields .last .0) (c .before .before .put-text2 .last .0) (c .before .before .before .before .before .before .before .before .before .before .before .before .put-text .result) (c .before .before .before .before .before .before .before .put-fields .result) (c .before .before .put-text2 .result) (omega (arith, c .before .before .before .before .before .before .before .before .before .before .before .before .put-text .ensures .0, c .before .before .before .before .before .before .before .before .before .before .before .before .before .before .before .before .before .before .before .pre)) (omega (arith, c .before .before .before .before .before .before .before .before .before .before .before .before .put-text .ensures .0, c .before .before .before .before .before .before .before .put-fields .ensures .1, c .before .before .before .before .before .before .before .before .before .before .before .before .before .before .before .before .before .before .before .pre)) (c .before .before .before .before .before .before .before .before .before .before .before .before .put-text .ensures) (c .before .before .before .before .before .before .before .put-fields .ensures .0) (c .before .before .before .before .before .before .before .put-fields .ensures .2) (c .before .before .put-text2 .ensures)
+returns c =
+    let c₂ = c .before .before in
+    let c₇ = c₂ .before .before .before .before .before in
+    let c₁₂ = c₇ .before .before .before .before .before in
+    let c₁₉ = c₁₂ .before .before .before .before .before .before .before in
+    line-of-three (117 ∷ 110 ∷ 105 ∷ 116 ∷ []) (fields
+    (c₁₉ .args .j ∷ c₁₉ .args .u .least ∷ c₁₉ .args .u .greatest ∷ c₁₉ .args .u .size ∷ c₁₉ .args .u .packets ∷ c₁₉ .args .u .lost ∷ []))
+    (10 ∷ []) (c₁₉ .args .buffer .now) (c₁₂ .put-text .last .0) (c₇ .put-fields .last .0) (c₂ .put-text2 .last .0) (c₁₂ .put-text .result)
+    (c₇ .put-fields .result) (c₂ .put-text2 .result) (omega (arith, c₁₂ .put-text .ensures .0, c₁₉ .pre))
+    (omega (arith, c₁₂ .put-text .ensures .0, c₇ .put-fields .ensures .1, c₁₉ .pre)) (c₁₂ .put-text .ensures) (c₇ .put-fields .ensures .0)
+    (c₇ .put-fields .ensures .2) (c₂ .put-text2 .ensures)
 
 pub unit-line-spec : {M : Type 1} → statement M
 unit-line-spec =

@@ -5,8 +5,8 @@ use native.Mathlib.Nat.{add-zero}
 use mathlib.Core.Path.{_≡_, refl, sym, ap, _∙_}
 use mathlib.Core.Bool.{Bool, true, false, _&&_}
 use mathlib.Core.List.{List, [], _∷_, _++_, map, append-assoc, append-nil}
-use lib.ListN.{length, getD, take, drop, length-append, length-drop}
-use lib.Seq.{drop-append-add, drop-drop, drop-length, drop-at, getD-drop}
+use lib.ListN.{length, drop, length-append, length-drop}
+use lib.Seq.{drop-drop, drop-length, drop-at, getD-drop}
 use lib.Dec.{leb, eqb}
 use borrow.Author.Tests.{eq-eqb, eqb-true, leb-true}
 use Rattle.rules.specs.declared.Header.{Header}
@@ -16,9 +16,9 @@ use Rattle.rules.specs.Bytes.{pick, within, word32, word64, bytesOf, joi
 use Rattle.rules.specs.Opening.{goodSize, goodTime, goodPid}
 use Rattle.rules.specs.Record.{recordLength, sceneOffset, headerBytes, unitBytes, sceneBytes, recordBytes}
 use Rattle.rules.specs.Reading.{headerOf, unitPlace, scenePlace, unitAt, sceneAt, allowedHeader, allowedUnit, allowedUnits, allowedScene, allowedScenes, allowedRows, allowed}
-use Rattle.rules.proofs.Laws.Words.{Bytes, word32-bytes, word64-bytes, bytes-word32, bytes-word64, word32-fits, word64-fits}
+use Rattle.rules.proofs.Laws.Words.{Bytes, word32-bytes, bytes-word32, bytes-word64, word32-fits, word64-fits}
 use Rattle.rules.proofs.Laws.Lists.{length-table}
-use Rattle.rules.proofs.Laws.Record.{HeaderFits, UnitFits, SceneFits, Each, Figures, unitIn, sceneIn, unit-back, scene-back, unit-zero, scene-zero, length-header, length-unit, length-scene, length-rows, drop-rows, length-record, header-back, parts-of}
+use Rattle.rules.proofs.Laws.Record.{HeaderFits, UnitFits, SceneFits, Each, Figures, unitIn, sceneIn, unit-back, scene-back, unit-zero, scene-zero, length-header, length-unit, length-scene, length-rows, length-record, header-back, parts-of}
 
 -- ---- tests
 

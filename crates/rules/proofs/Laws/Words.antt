@@ -5,7 +5,7 @@ use native.Mathlib.Nat.{pow-suc, div-lt-iff-lt-mul, add-assoc, add-zero}
 use native.Mathlib.Numerals.{add-one}
 use mathlib.Core.Path.{_≡_, refl, sym, ap, _∙_}
 use mathlib.Core.List.{List, [], _∷_, _++_, append-assoc}
-use lib.ListN.{length, getD, take, drop}
+use lib.ListN.{length, drop}
 use lib.Seq.{drop-cons, getD-append-add, getD-drop}
 use Rattle.rules.specs.Bytes.{byte, word32, word64, bytesOf}
 

@@ -4,15 +4,6 @@ use Rattle.record.proofs.Answers.{accepted}
 use Rattle.show.proofs.Shown.{within-buffer, whole-line}
 use Rattle.show.proofs.show.Statement.{statement}
 use Rattle.show.proofs.show.Tie as tie
-use Rattle.show.proofs.show.Reads as reads
-use Rattle.show.proofs.show.Lts as lts
-use Rattle.io.proofs.write_all.Reads as write-all-reads
-use Rattle.lines.proofs.refused_line.Reads as refused-line-reads
-use Rattle.lines.proofs.sample_line.Reads as sample-line-reads
-use Rattle.record.proofs.header_figures.Reads as header-figures-reads
-use Rattle.record.proofs.open.Reads as open-reads
-use Rattle.show.proofs.show_scenes.Reads as show-scenes-reads
-use Rattle.show.proofs.show_units.Reads as show-units-reads
 
 open-requires : tie.Need-open-requires
 open-requires c κs = search needs
@@ -24,7 +15,11 @@ slice-aggregate-sample-line : tie.Need-slice-aggregate-sample-line
 slice-aggregate-sample-line c = search needs
 
 header-figures-requires : tie.Need-header-figures-requires
-header-figures-requires c κs = omega (arith, (accepted (c .before .before .before .before .before .before .args .bytes .now) _ (c .before .before .before .before .«open» .ensures) _ _ (c .before .before .units .given .1)) .size)
+header-figures-requires c κs =
+    let c₂ = c .before .before in
+    let c₄ = c₂ .before .before in
+    let c₆ = c₄ .before .before in
+    omega (arith, (accepted (c₆ .args .bytes .now) _ (c₄ .«open» .ensures) _ _ (c₂ .units .given .1)) .size)
 
 sample-line-requires : tie.Need-sample-line-requires
 sample-line-requires c κs = search needs
@@ -33,16 +28,29 @@ array-share-prefix-text : tie.Need-array-share-prefix-text
 array-share-prefix-text c = within-buffer _ _ _ _ (c .before .sample-line .ensures)
 
 slice-aggregate-write-all : tie.Need-slice-aggregate-write-all
-slice-aggregate-write-all c = whole-line _ _ _ _ (c .before .before .sample-line .ensures)
+slice-aggregate-write-all c =
+    let c₂ = c .before .before in
+    whole-line _ _ _ _ (c₂ .sample-line .ensures)
 
 write-all-requires : tie.Need-write-all-requires
 write-all-requires c κs = search needs
 
 show-units-requires : tie.Need-show-units-requires
-show-units-requires c κs = omega (arith, (accepted (c .before .before .before .before .before .before .before .before .before .before .before .args .bytes .now) _ (c .before .before .before .before .before .before .before .before .before .«open» .ensures) _ _ (c .before .before .before .before .before .before .before .units .given .1)) .size)
+show-units-requires c κs =
+    let c₇ = c .before .before .before .before .before .before .before in
+    let c₉ = c₇ .before .before in
+    let c₁₁ = c₉ .before .before in
+    omega (arith, (accepted (c₁₁ .args .bytes .now) _ (c₉ .«open» .ensures) _ _ (c₇ .units .given .1)) .size)
 
 show-scenes-requires : tie.Need-show-scenes-requires
-show-scenes-requires c κs = ((accepted (c .before .before .before .before .before .before .before .before .before .before .before .before .args .bytes .now) _ (c .before .before .before .before .before .before .before .before .before .before .«open» .ensures) _ _ (c .before .before .before .before .before .before .before .before .units .given .1)) .units, omega (arith, (accepted (c .before .before .before .before .before .before .before .before .before .before .before .before .args .bytes .now) _ (c .before .before .before .before .before .before .before .before .before .before .«open» .ensures) _ _ (c .before .before .before .before .before .before .before .before .units .given .1)) .size))
+show-scenes-requires c κs =
+    let c₈ = c .before .before .before .before .before .before .before .before in
+    let c₁₀ = c₈ .before .before in
+    let c₁₂ = c₁₀ .before .before in (
+      (accepted (c₁₂ .args .bytes .now) _ (c₁₀ .«open» .ensures) _ _ (c₈ .units .given .1)) .units,
+      omega
+          (arith, (accepted (c₁₂ .args .bytes .now) _ (c₁₀ .«open» .ensures) _ _ (c₈ .units .given .1)) .size),
+    )
 
 enum-known-number : tie.Need-enum-known-number
 enum-known-number c = search needs
@@ -57,7 +65,9 @@ array-share-prefix-text-2 : tie.Need-array-share-prefix-text-2
 array-share-prefix-text-2 c = within-buffer _ _ _ _ (c .before .refused-line .ensures)
 
 slice-aggregate-write-all-2 : tie.Need-slice-aggregate-write-all-2
-slice-aggregate-write-all-2 c = whole-line _ _ _ _ (c .before .before .refused-line .ensures)
+slice-aggregate-write-all-2 c =
+    let c₂ = c .before .before in
+    whole-line _ _ _ _ (c₂ .refused-line .ensures)
 
 write-all-requires-2 : tie.Need-write-all-requires-2
 write-all-requires-2 c κs = search needs

@@ -7,11 +7,6 @@ use Rattle.show.proofs.Shown.{within-buffer, whole-line}
 use Rattle.rules.specs.Record.{sceneOffset}
 use Rattle.show.proofs.show_scenes.Statement.{statement}
 use Rattle.show.proofs.show_scenes.Tie as tie
-use Rattle.show.proofs.show_scenes.Reads as reads
-use Rattle.show.proofs.show_scenes.Lts as lts
-use Rattle.io.proofs.write_all.Reads as write-all-reads
-use Rattle.lines.proofs.scene_line.Reads as scene-line-reads
-use Rattle.record.proofs.scene_row.Reads as scene-row-reads
 
 abbrev Inv-loop : tie.InvT-loop
 Inv-loop bytes units scenes text₀ j₀ text j = (j ≤ scenes) × (length text ≡ 200)
@@ -24,7 +19,9 @@ loop-holds c = (omega arith, refl)
 
 scene-row-requires : tie.Need-scene-row-requires Inv-loop μ-loop
 unfolding sceneOffset
-scene-row-requires c κs = (c .before .before .before .pre .0, omega arith)
+scene-row-requires c κs =
+    let c₃ = c .before .before .before in
+    (c₃ .pre .0, omega arith)
 
 slice-aggregate-scene-line : tie.Need-slice-aggregate-scene-line Inv-loop μ-loop
 slice-aggregate-scene-line c = omega arith
@@ -36,7 +33,9 @@ array-share-prefix-text : tie.Need-array-share-prefix-text Inv-loop μ-loop
 array-share-prefix-text c = within-buffer _ _ _ _ (c .before .scene-line .ensures)
 
 slice-aggregate-write-all : tie.Need-slice-aggregate-write-all Inv-loop μ-loop
-slice-aggregate-write-all c = whole-line _ _ _ _ (c .before .before .scene-line .ensures)
+slice-aggregate-write-all c =
+    let c₂ = c .before .before in
+    whole-line _ _ _ _ (c₂ .scene-line .ensures)
 
 write-all-requires : tie.Need-write-all-requires Inv-loop μ-loop
 write-all-requires c κs = search needs
@@ -48,7 +47,9 @@ loop-less : tie.Need-loop-less Inv-loop μ-loop
 loop-less c = omega arith
 
 loop-again : tie.Need-loop-again Inv-loop μ-loop
-loop-again c = (omega arith, omega (arith, c .before .before .before .scene-line .kept .0))
+loop-again c =
+    let c₃ = c .before .before .before in
+    (omega arith, omega (arith, c₃ .scene-line .kept .0))
 
 returns : tie.Need-returns Inv-loop μ-loop
 returns c = search needs

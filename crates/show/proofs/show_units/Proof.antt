@@ -7,11 +7,6 @@ use Rattle.show.proofs.Shown.{within-buffer, whole-line}
 use Rattle.rules.specs.Reading.{unitPlace}
 use Rattle.show.proofs.show_units.Statement.{statement}
 use Rattle.show.proofs.show_units.Tie as tie
-use Rattle.show.proofs.show_units.Reads as reads
-use Rattle.show.proofs.show_units.Lts as lts
-use Rattle.io.proofs.write_all.Reads as write-all-reads
-use Rattle.lines.proofs.unit_line.Reads as unit-line-reads
-use Rattle.record.proofs.unit_row.Reads as unit-row-reads
 
 abbrev Inv-loop : tie.InvT-loop
 Inv-loop bytes units text₀ j₀ text j = (j ≤ units) × (length text ≡ 200)
@@ -36,7 +31,9 @@ array-share-prefix-text : tie.Need-array-share-prefix-text Inv-loop μ-loop
 array-share-prefix-text c = within-buffer _ _ _ _ (c .before .unit-line .ensures)
 
 slice-aggregate-write-all : tie.Need-slice-aggregate-write-all Inv-loop μ-loop
-slice-aggregate-write-all c = whole-line _ _ _ _ (c .before .before .unit-line .ensures)
+slice-aggregate-write-all c =
+    let c₂ = c .before .before in
+    whole-line _ _ _ _ (c₂ .unit-line .ensures)
 
 write-all-requires : tie.Need-write-all-requires Inv-loop μ-loop
 write-all-requires c κs = search needs
@@ -48,7 +45,9 @@ loop-less : tie.Need-loop-less Inv-loop μ-loop
 loop-less c = omega arith
 
 loop-again : tie.Need-loop-again Inv-loop μ-loop
-loop-again c = (omega arith, omega (arith, c .before .before .before .unit-line .kept .0))
+loop-again c =
+    let c₃ = c .before .before .before in
+    (omega arith, omega (arith, c₃ .unit-line .kept .0))
 
 returns : tie.Need-returns Inv-loop μ-loop
 returns c = search needs

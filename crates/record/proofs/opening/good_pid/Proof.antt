@@ -2,8 +2,6 @@ use borrow.Author.Needs.{needs}
 use Rattle.rules.specs.Opening.{goodPid}
 use Rattle.record.proofs.opening.good_pid.Statement.{statement}
 use Rattle.record.proofs.opening.good_pid.Tie as tie
-use Rattle.record.proofs.opening.good_pid.Reads as reads
-use Rattle.record.proofs.opening.good_pid.Lts as lts
 
 -- src/opening.rt:23:1
 returns : tie.Need-returns

@@ -2,8 +2,6 @@ use borrow.Author.Needs.{needs}
 use Rattle.rules.specs.Opening.{goodSize}
 use Rattle.record.proofs.opening.good_size.Statement.{statement}
 use Rattle.record.proofs.opening.good_size.Tie as tie
-use Rattle.record.proofs.opening.good_size.Reads as reads
-use Rattle.record.proofs.opening.good_size.Lts as lts
 
 -- src/opening.rt:12:67
 mul-result : tie.Need-mul-result

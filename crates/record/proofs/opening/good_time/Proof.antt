@@ -2,8 +2,6 @@ use borrow.Author.Needs.{needs}
 use Rattle.rules.specs.Opening.{goodTime}
 use Rattle.record.proofs.opening.good_time.Statement.{statement}
 use Rattle.record.proofs.opening.good_time.Tie as tie
-use Rattle.record.proofs.opening.good_time.Reads as reads
-use Rattle.record.proofs.opening.good_time.Lts as lts
 
 -- src/opening.rt:16:1
 returns : tie.Need-returns

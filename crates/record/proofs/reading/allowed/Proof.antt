@@ -5,19 +5,14 @@ use borrow.Author.Tests.{not-true, not-false}
 use Rattle.record.proofs.Answers.{no-header, long, no-units, all-rows}
 use Rattle.record.proofs.reading.allowed.Statement.{statement}
 use Rattle.record.proofs.reading.allowed.Tie as tie
-use Rattle.record.proofs.reading.allowed.Reads as reads
-use Rattle.record.proofs.reading.allowed.Lts as lts
-use Rattle.record.proofs.reading.allowed_header.Reads as allowed-header-reads
-use Rattle.record.proofs.reading.allowed_scenes.Reads as allowed-scenes-reads
-use Rattle.record.proofs.reading.allowed_units.Reads as allowed-units-reads
-use Rattle.record.proofs.reading.word.Reads as word-reads
-use Rattle.words.proofs.word32.Reads as word32-reads
 
 allowed-header-requires : tie.Need-allowed-header-requires
 allowed-header-requires c κs = search needs
 
 returns : tie.Need-returns
-returns c = no-header (c .before .before .before .args .bytes .now) _ (c .before .allowed-header .ensures) (not-true _ (c .if1 .taken))
+returns c =
+    let c₃ = c .before .before .before in
+    no-header (c₃ .args .bytes .now) _ (c .before .allowed-header .ensures) (not-true _ (c .if1 .taken))
 
 word32-requires : tie.Need-word32-requires
 word32-requires c κs = search needs
@@ -32,10 +27,21 @@ cast-scenes : tie.Need-cast-scenes
 cast-scenes c = search needs
 
 allowed-units-requires : tie.Need-allowed-units-requires
-allowed-units-requires c κs = omega (arith, long (c .before .before .before .before .before .args .bytes .now) _ (c .before .before .before .allowed-header .ensures) (not-false _ (c .before .before .if1 .left)), c .before .word32 .ensures)
+allowed-units-requires c κs =
+    let c₂ = c .before .before in
+    let c₃ = c₂ .before in
+    let c₅ = c₃ .before .before in
+    omega (arith, long (c₅ .args .bytes .now) _ (c₃ .allowed-header .ensures) (not-false _ (c₂ .if1 .left)), c .before .word32 .ensures)
 
 returns-2 : tie.Need-returns-2
-returns-2 c = no-units (c .before .before .before .before .before .before .before .args .bytes .now) _ (c .before .before .before .before .before .allowed-header .ensures) (not-false _ (c .before .before .before .before .if1 .left)) _ _ _ (c .before .before .before .word32 .ensures) (c .before .before .word322 .ensures) refl _ (c .before .allowed-units .ensures) (not-true _ (c .if2 .taken))
+returns-2 c =
+    let c₂ = c .before .before in
+    let c₃ = c₂ .before in
+    let c₄ = c₃ .before in
+    let c₅ = c₄ .before in
+    let c₇ = c₅ .before .before in
+    no-units (c₇ .args .bytes .now) _ (c₅ .allowed-header .ensures) (not-false _ (c₄ .if1 .left)) _ _ _ (c₃ .word32 .ensures)
+    (c₂ .word322 .ensures) refl _ (c .before .allowed-units .ensures) (not-true _ (c .if2 .taken))
 
 mul-allowed-scenes : tie.Need-mul-allowed-scenes
 mul-allowed-scenes c = search needs
@@ -47,10 +53,31 @@ word-requires : tie.Need-word-requires
 word-requires c κs = search needs
 
 allowed-scenes-requires : tie.Need-allowed-scenes-requires
-allowed-scenes-requires c κs = omega (arith, long (c .before .before .before .before .before .before .before .before .args .bytes .now) _ (c .before .before .before .before .before .before .allowed-header .ensures) (not-false _ (c .before .before .before .before .before .if1 .left)), c .before .before .before .before .word32 .ensures, c .before .before .before .word322 .ensures)
+allowed-scenes-requires c κs =
+    let c₃ = c .before .before .before in
+    let c₄ = c₃ .before in
+    let c₅ = c₄ .before in
+    let c₆ = c₅ .before in
+    let c₈ = c₆ .before .before in
+    omega (
+      arith,
+      long (c₈ .args .bytes .now) _ (c₆ .allowed-header .ensures) (not-false _ (c₅ .if1 .left)),
+      c₄ .word32 .ensures,
+      c₃ .word322 .ensures,
+    )
 
 returns-3 : tie.Need-returns-3
-returns-3 c = all-rows (c .before .before .before .before .before .before .before .before .before .args .bytes .now) _ (c .before .before .before .before .before .before .before .allowed-header .ensures) (not-false _ (c .before .before .before .before .before .before .if1 .left)) _ _ _ (c .before .before .before .before .before .word32 .ensures) (c .before .before .before .before .word322 .ensures) (c .before .word .ensures .0) _ _ (c .before .before .before .allowed-units .ensures) (not-false _ (c .before .before .if2 .left)) (c .allowed-scenes .ensures)
+returns-3 c =
+    let c₂ = c .before .before in
+    let c₃ = c₂ .before in
+    let c₄ = c₃ .before in
+    let c₅ = c₄ .before in
+    let c₆ = c₅ .before in
+    let c₇ = c₆ .before in
+    let c₉ = c₇ .before .before in
+    all-rows (c₉ .args .bytes .now) _ (c₇ .allowed-header .ensures) (not-false _ (c₆ .if1 .left)) _ _ _ (c₅ .word32 .ensures)
+    (c₄ .word322 .ensures) (c .before .word .ensures .0) _ _ (c₃ .allowed-units .ensures) (not-false _ (c₂ .if2 .left))
+    (c .allowed-scenes .ensures)
 
 pub allowed-spec : {M : Type 1} → statement M
 allowed-spec =

@@ -3,13 +3,6 @@ use Rattle.rules.specs.Record.{recordLength, sceneOffset}
 use Rattle.rules.specs.Reading.{allowedHeader}
 use Rattle.record.proofs.reading.allowed_header.Statement.{statement}
 use Rattle.record.proofs.reading.allowed_header.Tie as tie
-use Rattle.record.proofs.reading.allowed_header.Reads as reads
-use Rattle.record.proofs.reading.allowed_header.Lts as lts
-use Rattle.record.proofs.opening.good_pid.Reads as good-pid-reads
-use Rattle.record.proofs.opening.good_size.Reads as good-size-reads
-use Rattle.record.proofs.opening.good_time.Reads as good-time-reads
-use Rattle.record.proofs.reading.word.Reads as word-reads
-use Rattle.words.proofs.word32.Reads as word32-reads
 
 word-requires : tie.Need-word-requires
 word-requires c κs = search needs
@@ -76,7 +69,39 @@ word-requires-9 c κs = search needs
 
 returns : tie.Need-returns
 unfolding allowedHeader recordLength sceneOffset
-returns c = simp (c .before .before .before .before .before .before .before .before .before .before .before .before .before .before .before .word .ensures .0, c .before .before .before .before .before .before .before .before .before .before .before .before .before .before .word2 .ensures .0, c .before .before .before .before .before .before .before .before .before .before .before .before .before .word3 .ensures .0, c .before .before .before .before .before .before .before .before .before .before .before .before .word4 .ensures .0, c .before .before .before .before .before .before .before .before .before .before .before .word5 .ensures .0, c .before .before .before .before .before .before .before .before .before .before .word6 .ensures .0, c .before .before .before .before .before .before .before .before .before .word7 .ensures .0, c .before .before .before .before .before .before .before .before .word32 .ensures, c .before .before .before .before .before .before .before .word322 .ensures, c .before .before .before .before .before .before .good-size .ensures, c .before .before .before .before .before .word323 .ensures, c .before .before .before .before .good-time .ensures, c .before .before .before .word324 .ensures, c .before .before .good-pid .ensures, c .before .word8 .ensures .0, c .word9 .ensures .0)
+returns c =
+    let c₂ = c .before .before in
+    let c₃ = c₂ .before in
+    let c₄ = c₃ .before in
+    let c₅ = c₄ .before in
+    let c₆ = c₅ .before in
+    let c₇ = c₆ .before in
+    let c₈ = c₇ .before in
+    let c₉ = c₈ .before in
+    let c₁₀ = c₉ .before in
+    let c₁₁ = c₁₀ .before in
+    let c₁₂ = c₁₁ .before in
+    let c₁₃ = c₁₂ .before in
+    let c₁₄ = c₁₃ .before in
+    let c₁₅ = c₁₄ .before in
+    simp (
+      c₁₅ .word .ensures .0,
+      c₁₄ .word2 .ensures .0,
+      c₁₃ .word3 .ensures .0,
+      c₁₂ .word4 .ensures .0,
+      c₁₁ .word5 .ensures .0,
+      c₁₀ .word6 .ensures .0,
+      c₉ .word7 .ensures .0,
+      c₈ .word32 .ensures,
+      c₇ .word322 .ensures,
+      c₆ .good-size .ensures,
+      c₅ .word323 .ensures,
+      c₄ .good-time .ensures,
+      c₃ .word324 .ensures,
+      c₂ .good-pid .ensures,
+      c .before .word8 .ensures .0,
+      c .word9 .ensures .0,
+    )
 
 pub allowed-header-spec : {M : Type 1} → statement M
 allowed-header-spec =

@@ -2,9 +2,6 @@ use borrow.Author.Needs.{needs}
 use Rattle.rules.specs.Reading.{allowedScene}
 use Rattle.record.proofs.reading.allowed_scene.Statement.{statement}
 use Rattle.record.proofs.reading.allowed_scene.Tie as tie
-use Rattle.record.proofs.reading.allowed_scene.Reads as reads
-use Rattle.record.proofs.reading.allowed_scene.Lts as lts
-use Rattle.record.proofs.reading.word.Reads as word-reads
 
 word-requires : tie.Need-word-requires
 word-requires c κs = search needs
@@ -17,7 +14,9 @@ word-requires-3 c κs = search needs
 
 returns : tie.Need-returns
 unfolding allowedScene
-returns c = simp (c .before .before .word .ensures .0, c .before .word2 .ensures .0, c .word3 .ensures .0)
+returns c =
+    let c₂ = c .before .before in
+    simp (c₂ .word .ensures .0, c .before .word2 .ensures .0, c .word3 .ensures .0)
 
 pub allowed-scene-spec : {M : Type 1} → statement M
 allowed-scene-spec = tie.close (tie.spec word-requires word-requires-2 word-requires-3 returns)

@@ -2,10 +2,6 @@ use borrow.Author.Needs.{needs}
 use Rattle.rules.specs.Reading.{allowedUnit}
 use Rattle.record.proofs.reading.allowed_unit.Statement.{statement}
 use Rattle.record.proofs.reading.allowed_unit.Tie as tie
-use Rattle.record.proofs.reading.allowed_unit.Reads as reads
-use Rattle.record.proofs.reading.allowed_unit.Lts as lts
-use Rattle.record.proofs.reading.word.Reads as word-reads
-use Rattle.words.proofs.word64.Reads as word64-reads
 
 word-requires : tie.Need-word-requires
 word-requires c κs = search needs
@@ -27,7 +23,11 @@ word-requires-3 c κs = search needs
 
 returns : tie.Need-returns
 unfolding allowedUnit
-returns c = simp (c .before .before .before .before .word .ensures .0, c .before .before .before .word64 .ensures, c .before .before .word642 .ensures, c .before .word2 .ensures .0, c .word3 .ensures .0)
+returns c =
+    let c₂ = c .before .before in
+    let c₃ = c₂ .before in
+    let c₄ = c₃ .before in
+    simp (c₄ .word .ensures .0, c₃ .word64 .ensures, c₂ .word642 .ensures, c .before .word2 .ensures .0, c .word3 .ensures .0)
 
 pub allowed-unit-spec : {M : Type 1} → statement M
 allowed-unit-spec =

@@ -1,16 +1,13 @@
 use native.Mathlib.Omega.{arith}
 use Prim.Native.Nat.{_+_, _-_, _*_, _≤_}
-use mathlib.Core.Path.{_≡_, ap, _∙_}
-use lib.ListN.{length, drop, length-take, length-drop}
+use mathlib.Core.Path.{_≡_}
+use lib.ListN.{drop, length-take, length-drop}
 use borrow.Author.Tests.{not-true, not-false}
 use native.Mathlib.Nat.{sub-zero}
 use Rattle.record.proofs.Rows.{units-more, units-stop, units-end}
 use Rattle.rules.specs.Reading.{allowedUnits}
 use Rattle.record.proofs.reading.allowed_units.Statement.{statement}
 use Rattle.record.proofs.reading.allowed_units.Tie as tie
-use Rattle.record.proofs.reading.allowed_units.Reads as reads
-use Rattle.record.proofs.reading.allowed_units.Lts as lts
-use Rattle.record.proofs.reading.allowed_unit.Reads as allowed-unit-reads
 
 abbrev Inv-loop : tie.InvT-loop
 Inv-loop bytes n j₀ j = (j ≤ n) × (allowedUnits n (drop 64 bytes) ≡ allowedUnits (n - j) (drop (64 + 32 * j) bytes))
@@ -40,7 +37,12 @@ allowed-unit-requires : tie.Need-allowed-unit-requires Inv-loop μ-loop
 allowed-unit-requires c κs = simp (length-take, length-drop) (omega arith)
 
 returns : tie.Need-returns Inv-loop μ-loop
-returns c = units-stop (c .before .before .before .before .before .before .args .bytes .now) (c .before .before .before .before .before .before .args .n) (c .before .before .before .before .loop .j) (c .before .before .before .loop-test .taken) (c .before .allowed-unit .result) _ (c .before .before .before .before .loop .inv .1) (c .before .allowed-unit .ensures) (not-true _ (c .if1 .taken))
+returns c =
+    let c₃ = c .before .before .before in
+    let c₄ = c₃ .before in
+    let c₆ = c₄ .before .before in
+    units-stop (c₆ .args .bytes .now) (c₆ .args .n) (c₄ .loop .j) (c₃ .loop-test .taken) (c .before .allowed-unit .result) _ (c₄ .loop .inv .1)
+    (c .before .allowed-unit .ensures) (not-true _ (c .if1 .taken))
 
 add-j : tie.Need-add-j Inv-loop μ-loop
 add-j c = omega arith
@@ -49,10 +51,19 @@ loop-less : tie.Need-loop-less Inv-loop μ-loop
 loop-less c = omega arith
 
 loop-again : tie.Need-loop-again Inv-loop μ-loop
-loop-again c = (omega arith, units-more (c .before .before .before .before .before .before .args .bytes .now) (c .before .before .before .before .before .before .args .n) (c .before .before .before .before .loop .j) (c .before .before .before .loop-test .taken) (c .before .allowed-unit .result) _ (c .before .before .before .before .loop .inv .1) (c .before .allowed-unit .ensures) (not-false _ (c .if1 .left)))
+loop-again c =
+    let c₃ = c .before .before .before in
+    let c₄ = c₃ .before in
+    let c₆ = c₄ .before .before in (
+      omega arith,
+      units-more (c₆ .args .bytes .now) (c₆ .args .n) (c₄ .loop .j) (c₃ .loop-test .taken) (c .before .allowed-unit .result) _
+          (c₄ .loop .inv .1) (c .before .allowed-unit .ensures) (not-false _ (c .if1 .left)),
+    )
 
 returns-2 : tie.Need-returns-2 Inv-loop μ-loop
-returns-2 c = units-end (c .before .before .before .args .n) (c .before .loop .j) _ _ (c .loop-test .left) (c .before .loop .inv .1)
+returns-2 c =
+    let c₃ = c .before .before .before in
+    units-end (c₃ .args .n) (c .before .loop .j) _ _ (c .loop-test .left) (c .before .loop .inv .1)
 
 pub allowed-units-spec : {M : Type 1} → statement M
 allowed-units-spec =

@@ -2,10 +2,6 @@ use borrow.Author.Needs.{needs}
 use Rattle.rules.specs.Reading.{headerOf}
 use Rattle.record.proofs.reading.header_figures.Statement.{statement}
 use Rattle.record.proofs.reading.header_figures.Tie as tie
-use Rattle.record.proofs.reading.header_figures.Reads as reads
-use Rattle.record.proofs.reading.header_figures.Lts as lts
-use Rattle.words.proofs.word32.Reads as word32-reads
-use Rattle.words.proofs.word64.Reads as word64-reads
 
 word32-requires : tie.Need-word32-requires
 word32-requires c κs = search needs
@@ -42,7 +38,29 @@ word64-requires c κs = search needs
 
 returns : tie.Need-returns
 unfolding headerOf
-returns c = simp (c .before .before .before .before .before .before .before .before .before .before .word32 .ensures, c .before .before .before .before .before .before .before .before .before .word322 .ensures, c .before .before .before .before .before .before .before .before .word323 .ensures, c .before .before .before .before .before .before .before .word324 .ensures, c .before .before .before .before .before .before .word325 .ensures, c .before .before .before .before .before .word326 .ensures, c .before .before .before .before .word327 .ensures, c .before .before .before .word328 .ensures, c .before .before .word329 .ensures, c .before .word3210 .ensures, c .word64 .ensures)
+returns c =
+    let c₂ = c .before .before in
+    let c₃ = c₂ .before in
+    let c₄ = c₃ .before in
+    let c₅ = c₄ .before in
+    let c₆ = c₅ .before in
+    let c₇ = c₆ .before in
+    let c₈ = c₇ .before in
+    let c₉ = c₈ .before in
+    let c₁₀ = c₉ .before in
+    simp (
+      c₁₀ .word32 .ensures,
+      c₉ .word322 .ensures,
+      c₈ .word323 .ensures,
+      c₇ .word324 .ensures,
+      c₆ .word325 .ensures,
+      c₅ .word326 .ensures,
+      c₄ .word327 .ensures,
+      c₃ .word328 .ensures,
+      c₂ .word329 .ensures,
+      c .before .word3210 .ensures,
+      c .word64 .ensures,
+    )
 
 pub header-figures-spec : {M : Type 1} → statement M
 header-figures-spec =

@@ -2,9 +2,6 @@ use borrow.Author.Needs.{needs}
 use Rattle.rules.proofs.Laws.Record.{sceneIn}
 use Rattle.record.proofs.reading.scene_in.Statement.{statement}
 use Rattle.record.proofs.reading.scene_in.Tie as tie
-use Rattle.record.proofs.reading.scene_in.Reads as reads
-use Rattle.record.proofs.reading.scene_in.Lts as lts
-use Rattle.words.proofs.word32.Reads as word32-reads
 
 word32-requires : tie.Need-word32-requires
 word32-requires c κs = search needs
@@ -29,7 +26,21 @@ word32-requires-7 c κs = search needs
 
 returns : tie.Need-returns
 unfolding sceneIn
-returns c = simp (c .before .before .before .before .before .before .word32 .ensures, c .before .before .before .before .before .word322 .ensures, c .before .before .before .before .word323 .ensures, c .before .before .before .word324 .ensures, c .before .before .word325 .ensures, c .before .word326 .ensures, c .word327 .ensures)
+returns c =
+    let c₂ = c .before .before in
+    let c₃ = c₂ .before in
+    let c₄ = c₃ .before in
+    let c₅ = c₄ .before in
+    let c₆ = c₅ .before in
+    simp (
+      c₆ .word32 .ensures,
+      c₅ .word322 .ensures,
+      c₄ .word323 .ensures,
+      c₃ .word324 .ensures,
+      c₂ .word325 .ensures,
+      c .before .word326 .ensures,
+      c .word327 .ensures,
+    )
 
 pub scene-in-spec : {M : Type 1} → statement M
 scene-in-spec =

@@ -1,8 +1,8 @@
 use borrow.Author.Needs.{needs}
 use native.Mathlib.Omega.{arith}
-use Prim.Native.Nat.{_+_, _-_, _*_, _≤_}
-use mathlib.Core.Path.{_≡_, ap, _∙_}
-use lib.ListN.{length, drop, length-take, length-drop}
+use Prim.Native.Nat.{_+_, _*_}
+use mathlib.Core.Path.{ap, _∙_}
+use lib.ListN.{drop, length-take, length-drop}
 use Prim.Native.Nat.{ℕ}
 use Rattle.record.proofs.Rows.{part}
 use Rattle.rules.proofs.Laws.Record.{sceneIn}
@@ -10,9 +10,6 @@ use Rattle.rules.specs.Record.{sceneOffset}
 use Rattle.rules.specs.Reading.{sceneAt, scenePlace}
 use Rattle.record.proofs.reading.scene_row.Statement.{statement}
 use Rattle.record.proofs.reading.scene_row.Tie as tie
-use Rattle.record.proofs.reading.scene_row.Reads as reads
-use Rattle.record.proofs.reading.scene_row.Lts as lts
-use Rattle.record.proofs.reading.scene_in.Reads as scene-in-reads
 
 mul-at : tie.Need-mul-at
 unfolding sceneOffset
@@ -46,7 +43,10 @@ scene-in-requires c κs = simp (length-take, length-drop) (omega arith)
 
 returns : tie.Need-returns
 unfolding sceneAt scenePlace sceneOffset sceneIn
-returns c = c .scene-in .ensures ∙ (ap sceneIn (part (64 + 32 * c .before .before .before .args .units + 32 * c .before .before .before .args .j) (c .before .before .before .args .bytes .now)) ∙ ap (λ (u : ℕ). sceneIn (drop (64 + 32 * u + 32 * c .before .before .before .args .j) (c .before .before .before .args .bytes .now))) (c .before .before .before .pre .0))
+returns c =
+    let c₃ = c .before .before .before in
+    c .scene-in .ensures
+    ∙ (ap sceneIn (part (64 + 32 * c₃ .args .units + 32 * c₃ .args .j) (c₃ .args .bytes .now)) ∙ ap (λ (u : ℕ). sceneIn (drop (64 + 32 * u + 32 * c₃ .args .j) (c₃ .args .bytes .now))) (c₃ .pre .0))
 
 pub scene-row-spec : {M : Type 1} → statement M
 scene-row-spec =

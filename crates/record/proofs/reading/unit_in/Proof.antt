@@ -2,10 +2,6 @@ use borrow.Author.Needs.{needs}
 use Rattle.rules.proofs.Laws.Record.{unitIn}
 use Rattle.record.proofs.reading.unit_in.Statement.{statement}
 use Rattle.record.proofs.reading.unit_in.Tie as tie
-use Rattle.record.proofs.reading.unit_in.Reads as reads
-use Rattle.record.proofs.reading.unit_in.Lts as lts
-use Rattle.words.proofs.word32.Reads as word32-reads
-use Rattle.words.proofs.word64.Reads as word64-reads
 
 word64-requires : tie.Need-word64-requires
 word64-requires c κs = search needs
@@ -24,7 +20,11 @@ word32-requires-3 c κs = search needs
 
 returns : tie.Need-returns
 unfolding unitIn
-returns c = simp (c .before .before .before .before .word64 .ensures, c .before .before .before .word642 .ensures, c .before .before .word32 .ensures, c .before .word322 .ensures, c .word323 .ensures)
+returns c =
+    let c₂ = c .before .before in
+    let c₃ = c₂ .before in
+    let c₄ = c₃ .before in
+    simp (c₄ .word64 .ensures, c₃ .word642 .ensures, c₂ .word32 .ensures, c .before .word322 .ensures, c .word323 .ensures)
 
 pub unit-in-spec : {M : Type 1} → statement M
 unit-in-spec =

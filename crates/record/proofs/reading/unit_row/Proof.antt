@@ -1,16 +1,13 @@
 use borrow.Author.Needs.{needs}
 use native.Mathlib.Omega.{arith}
-use Prim.Native.Nat.{_+_, _-_, _*_, _≤_}
-use mathlib.Core.Path.{_≡_, ap, _∙_}
-use lib.ListN.{length, drop, length-take, length-drop}
+use Prim.Native.Nat.{_+_, _*_}
+use mathlib.Core.Path.{ap, _∙_}
+use lib.ListN.{length-take, length-drop}
 use Rattle.record.proofs.Rows.{part}
 use Rattle.rules.proofs.Laws.Record.{unitIn}
 use Rattle.rules.specs.Reading.{unitPlace, unitAt}
 use Rattle.record.proofs.reading.unit_row.Statement.{statement}
 use Rattle.record.proofs.reading.unit_row.Tie as tie
-use Rattle.record.proofs.reading.unit_row.Reads as reads
-use Rattle.record.proofs.reading.unit_row.Lts as lts
-use Rattle.record.proofs.reading.unit_in.Reads as unit-in-reads
 
 mul-at : tie.Need-mul-at
 unfolding unitPlace
@@ -37,7 +34,9 @@ unit-in-requires c κs = simp (length-take, length-drop) (omega arith)
 
 returns : tie.Need-returns
 unfolding unitPlace unitAt unitIn
-returns c = c .unit-in .ensures ∙ ap unitIn (part (64 + 32 * c .before .before .before .args .j) (c .before .before .before .args .bytes .now))
+returns c =
+    let c₃ = c .before .before .before in
+    c .unit-in .ensures ∙ ap unitIn (part (64 + 32 * c₃ .args .j) (c₃ .args .bytes .now))
 
 pub unit-row-spec : {M : Type 1} → statement M
 unit-row-spec =

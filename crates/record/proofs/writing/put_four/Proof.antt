@@ -2,9 +2,6 @@ use borrow.Author.Needs.{needs}
 use Rattle.record.proofs.Buffers.{four-written}
 use Rattle.record.proofs.writing.put_four.Statement.{statement}
 use Rattle.record.proofs.writing.put_four.Tie as tie
-use Rattle.record.proofs.writing.put_four.Reads as reads
-use Rattle.record.proofs.writing.put_four.Lts as lts
-use Rattle.words.proofs.put32.Reads as put32-reads
 
 put32-requires : tie.Need-put32-requires
 put32-requires c κs = search needs
@@ -31,7 +28,14 @@ same-length : tie.Need-same-length
 same-length c = search needs
 
 returns : tie.Need-returns
-returns c = four-written (c .before .before .before .before .before .before .before .before .before .before .before .before .before .before .before .before .before .args .at) (c .before .before .before .before .before .before .before .before .before .before .before .before .before .before .before .before .before .args .a) (c .before .before .before .before .before .before .before .before .before .before .before .before .before .before .before .before .before .args .b) (c .before .before .before .before .before .before .before .before .before .before .before .before .before .before .before .before .before .args .c) (c .before .before .before .before .before .before .before .before .before .before .before .before .before .before .before .before .before .args .d) (c .before .before .before .before .before .before .before .before .before .before .before .before .before .before .before .before .before .args .s .now) (c .before .before .before .before .before .before .before .before .before .before .before .before .before .before .before .before .before .pre) (c .before .before .before .before .before .before .before .before .before .before .before .before .before .before .put32 .ensures) (c .before .before .before .before .before .before .before .before .before .before .put322 .ensures) (c .before .before .before .before .before .before .put323 .ensures) (c .before .before .put324 .ensures)
+returns c =
+    let c₂ = c .before .before in
+    let c₆ = c₂ .before .before .before .before in
+    let c₁₀ = c₆ .before .before .before .before in
+    let c₁₄ = c₁₀ .before .before .before .before in
+    let c₁₇ = c₁₄ .before .before .before in
+    four-written (c₁₇ .args .at) (c₁₇ .args .a) (c₁₇ .args .b) (c₁₇ .args .c) (c₁₇ .args .d) (c₁₇ .args .s .now) (c₁₇ .pre)
+    (c₁₄ .put32 .ensures) (c₁₀ .put322 .ensures) (c₆ .put323 .ensures) (c₂ .put324 .ensures)
 
 pub put-four-spec : {M : Type 1} → statement M
 put-four-spec =

@@ -4,11 +4,6 @@ use Rattle.record.proofs.Buffers.{header-written}
 use Rattle.rules.specs.Record.{recordLength, sceneOffset}
 use Rattle.record.proofs.writing.write_header.Statement.{statement}
 use Rattle.record.proofs.writing.write_header.Tie as tie
-use Rattle.record.proofs.writing.write_header.Reads as reads
-use Rattle.record.proofs.writing.write_header.Lts as lts
-use Rattle.record.proofs.writing.put_four.Reads as put-four-reads
-use Rattle.words.proofs.put32.Reads as put32-reads
-use Rattle.words.proofs.put64.Reads as put64-reads
 
 mul-scenes : tie.Need-mul-scenes
 unfolding recordLength
@@ -53,7 +48,16 @@ same-length c = search needs
 
 returns : tie.Need-returns
 unfolding recordLength sceneOffset
-returns c = header-written (c .before .before .before .before .before .before .before .before .before .before .before .before .before .before .before .before .before .before .before .before .before .before .before .before .before .before .before .args .h) (c .before .before .before .before .before .before .before .before .before .before .before .before .before .before .before .before .before .before .before .before .before .before .before .before .before .before .before .args .buffer .now) (c .before .before .before .before .before .before .before .before .before .before .before .before .before .before .before .before .before .before .before .before .before .before .before .before .before .before .before .pre .0) (c .before .before .before .before .before .before .before .before .before .before .before .before .before .before .before .before .before .before .before .before .before .before .put-four .ensures) (c .before .before .before .before .before .before .before .before .before .before .before .before .before .before .before .before .before .before .put-four2 .ensures) (c .before .before .before .before .before .before .before .before .before .before .before .before .before .before .put-four3 .ensures) (c .before .before .before .before .before .before .before .before .before .before .put32 .ensures) (c .before .before .before .before .before .before .put322 .ensures) (c .before .before .put64 .ensures)
+returns c =
+    let c₂ = c .before .before in
+    let c₆ = c₂ .before .before .before .before in
+    let c₁₀ = c₆ .before .before .before .before in
+    let c₁₄ = c₁₀ .before .before .before .before in
+    let c₁₈ = c₁₄ .before .before .before .before in
+    let c₂₂ = c₁₈ .before .before .before .before in
+    let c₂₇ = c₂₂ .before .before .before .before .before in
+    header-written (c₂₇ .args .h) (c₂₇ .args .buffer .now) (c₂₇ .pre .0) (c₂₂ .put-four .ensures) (c₁₈ .put-four2 .ensures)
+    (c₁₄ .put-four3 .ensures) (c₁₀ .put32 .ensures) (c₆ .put322 .ensures) (c₂ .put64 .ensures)
 
 pub write-header-spec : {M : Type 1} → statement M
 write-header-spec =

@@ -5,9 +5,6 @@ use Rattle.record.proofs.Buffers.{scene-written}
 use Rattle.rules.specs.Record.{sceneOffset}
 use Rattle.record.proofs.writing.write_scene.Statement.{statement}
 use Rattle.record.proofs.writing.write_scene.Tie as tie
-use Rattle.record.proofs.writing.write_scene.Reads as reads
-use Rattle.record.proofs.writing.write_scene.Lts as lts
-use Rattle.record.proofs.writing.put_four.Reads as put-four-reads
 
 mul-at : tie.Need-mul-at
 unfolding sceneOffset
@@ -41,7 +38,12 @@ same-length c = search needs
 
 returns : tie.Need-returns
 unfolding sceneOffset
-returns c = scene-written (64 + 32 * c .before .before .before .before .before .before .before .before .before .args .units + 32 * c .before .before .before .before .before .before .before .before .before .args .j) (c .before .before .before .before .before .before .before .before .before .args .row) (c .before .before .before .before .before .before .before .before .before .args .buffer .now) (c .before .before .before .before .before .before .before .before .before .pre) (c .before .before .before .before .before .before .put-four .ensures) (c .before .before .put-four2 .ensures)
+returns c =
+    let c₂ = c .before .before in
+    let c₆ = c₂ .before .before .before .before in
+    let c₉ = c₆ .before .before .before in
+    scene-written (64 + 32 * c₉ .args .units + 32 * c₉ .args .j) (c₉ .args .row) (c₉ .args .buffer .now) (c₉ .pre) (c₆ .put-four .ensures)
+    (c₂ .put-four2 .ensures)
 
 pub write-scene-spec : {M : Type 1} → statement M
 write-scene-spec =

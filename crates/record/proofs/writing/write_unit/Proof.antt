@@ -5,10 +5,6 @@ use Rattle.record.proofs.Buffers.{unit-written}
 use Rattle.rules.specs.Reading.{unitPlace}
 use Rattle.record.proofs.writing.write_unit.Statement.{statement}
 use Rattle.record.proofs.writing.write_unit.Tie as tie
-use Rattle.record.proofs.writing.write_unit.Reads as reads
-use Rattle.record.proofs.writing.write_unit.Lts as lts
-use Rattle.record.proofs.writing.put_four.Reads as put-four-reads
-use Rattle.words.proofs.put64.Reads as put64-reads
 
 mul-at : tie.Need-mul-at
 unfolding unitPlace
@@ -43,7 +39,13 @@ same-length c = search needs
 
 returns : tie.Need-returns
 unfolding unitPlace
-returns c = unit-written (64 + 32 * c .before .before .before .before .before .before .before .before .before .before .before .before .before .args .j) (c .before .before .before .before .before .before .before .before .before .before .before .before .before .args .row) (c .before .before .before .before .before .before .before .before .before .before .before .before .before .args .buffer .now) (c .before .before .before .before .before .before .before .before .before .before .before .before .before .pre) (c .before .before .before .before .before .before .before .before .before .before .put64 .ensures) (c .before .before .before .before .before .before .put642 .ensures) (c .before .before .put-four .ensures)
+returns c =
+    let c₂ = c .before .before in
+    let c₆ = c₂ .before .before .before .before in
+    let c₁₀ = c₆ .before .before .before .before in
+    let c₁₃ = c₁₀ .before .before .before in
+    unit-written (64 + 32 * c₁₃ .args .j) (c₁₃ .args .row) (c₁₃ .args .buffer .now) (c₁₃ .pre) (c₁₀ .put64 .ensures) (c₆ .put642 .ensures)
+    (c₂ .put-four .ensures)
 
 pub write-unit-spec : {M : Type 1} → statement M
 write-unit-spec =

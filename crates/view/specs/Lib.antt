@@ -1,0 +1,2 @@
+-- What a view answers.
+pub mod Seen
