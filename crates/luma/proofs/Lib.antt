@@ -1,5 +1,3 @@
-pub mod Notes
-pub mod Ends
 pub mod Pieces
 pub mod Posts
 pub mod Opens

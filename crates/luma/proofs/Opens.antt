@@ -27,7 +27,7 @@ use Rattle.drawing.specs.declared.Progress.{Progress}
 use Rattle.drawing.specs.State.{loaded, openingIn, gridOf, slot, Words, Drawn, Place, drawing, Live, Sane, Stands, refused, live, Means}
 use Rattle.drawing.specs.Contract.{Fits}
 use Rattle.luma.specs.Contract.{OpenPost}
-use Rattle.luma.proofs.Ends.{still}
+use Rattle.ending.proofs.Ends.{still}
 use Rattle.luma.proofs.Posts.{fits-of}
 
 -- a list of zeros, read anywhere

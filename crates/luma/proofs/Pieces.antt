@@ -20,7 +20,8 @@ use Rattle.drawing.specs.declared.Taken.{Taken}
 use Rattle.drawing.specs.State.{gridOf, Drawn, Place, passing, Live, Sane, Stands, refused, live}
 use Rattle.drawing.specs.Contract.{Fits, passedOn, Goes, Loose, Took, Taking}
 use Rattle.drawing.proofs.Rows.{at-passing, bytes-of}
-use Rattle.luma.specs.Contract.{againOf, nextPicture, AtPictureEnd, PictureEnded, Finishing, Finished, Passed, Stepped, Ran, stoppedAt}
+use Rattle.ending.specs.Contract.{PictureEnded}
+use Rattle.luma.specs.Contract.{Finishing, Finished, Passed, Stepped, Ran, stoppedAt}
 
 -- ---- bytes of the surplus rows
 

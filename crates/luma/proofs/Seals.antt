@@ -26,8 +26,8 @@ use Rattle.drawing.specs.State.{loaded, gridOf, slot, Words, Place, drawing, pa
 use Rattle.drawing.specs.Contract.{Fits}
 use Rattle.luma.specs.declared.Summary.{Summary}
 use Rattle.luma.specs.Contract.{insideOf, Known, Summarised, SummaryPost}
-use Rattle.luma.proofs.Notes.{each-px, tiles-are}
-use Rattle.luma.proofs.Ends.{bytes-left}
+use Rattle.ending.proofs.Notes.{each-px, tiles-are}
+use Rattle.ending.proofs.Ends.{bytes-left}
 use Rattle.luma.proofs.Posts.{fits-of, short, not-past, no-fault, Alive, alive}
 
 -- ---- inside a picture or not

@@ -32,7 +32,7 @@ use Rattle.moves.proofs.Whole.{Exact, exact, spread-of, same-of}
 use Rattle.drawing.specs.declared.Grid.{Grid}
 use Rattle.drawing.specs.declared.Progress.{Progress}
 use Rattle.drawing.specs.State.{slot, movesIn, Words}
-use Rattle.luma.specs.Contract.{againOf, ChangeOf, ScoreOf, bitOf, withBit, noted}
+use Rattle.ending.specs.Contract.{againOf, ChangeOf, ScoreOf, bitOf, withBit, noted}
 
 -- ---- the whole pictures
 

@@ -1,7 +1,7 @@
 use native.Mathlib.Omega.{arith}
 use borrow.Author.Needs.{needs}
-use Rattle.luma.proofs.change_of.Statement.{statement}
-use Rattle.luma.proofs.change_of.Tie as tie
+use Rattle.ending.proofs.change_of.Statement.{statement}
+use Rattle.ending.proofs.change_of.Tie as tie
 
 returns : tie.Need-returns
 returns c = search needs

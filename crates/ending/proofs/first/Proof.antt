@@ -1,7 +1,7 @@
 use native.Mathlib.Omega.{arith}
 use borrow.Author.Needs.{needs}
-use Rattle.luma.proofs.first.Statement.{statement}
-use Rattle.luma.proofs.first.Tie as tie
+use Rattle.ending.proofs.first.Statement.{statement}
+use Rattle.ending.proofs.first.Tie as tie
 
 shared-slice-read-result : tie.Need-shared-slice-read-result
 shared-slice-read-result c = search needs

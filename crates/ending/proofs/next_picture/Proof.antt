@@ -1,6 +1,6 @@
 use borrow.Author.Needs.{needs}
-use Rattle.luma.proofs.next_picture.Statement.{statement}
-use Rattle.luma.proofs.next_picture.Tie as tie
+use Rattle.ending.proofs.next_picture.Statement.{statement}
+use Rattle.ending.proofs.next_picture.Tie as tie
 
 sub-wrapping-add-u64 : tie.Need-sub-wrapping-add-u64
 sub-wrapping-add-u64 c = search needs

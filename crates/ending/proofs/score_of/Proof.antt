@@ -1,8 +1,8 @@
 use native.Mathlib.Omega.{arith}
 use mathlib.Core.Path.{_∙_, ap}
 use borrow.Author.Needs.{needs}
-use Rattle.luma.proofs.score_of.Statement.{statement}
-use Rattle.luma.proofs.score_of.Tie as tie
+use Rattle.ending.proofs.score_of.Statement.{statement}
+use Rattle.ending.proofs.score_of.Tie as tie
 
 first-requires : tie.Need-first-requires
 first-requires c κs = search needs

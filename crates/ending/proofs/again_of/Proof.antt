@@ -1,6 +1,6 @@
 use borrow.Author.Tests.{eq-eqb, ne-eqb}
-use Rattle.luma.proofs.again_of.Statement.{statement}
-use Rattle.luma.proofs.again_of.Tie as tie
+use Rattle.ending.proofs.again_of.Statement.{statement}
+use Rattle.ending.proofs.again_of.Tie as tie
 
 returns : tie.Need-returns
 returns c = rw (eq-eqb _ 0 (c .if1 .taken))

@@ -1,6 +1,6 @@
 use borrow.Author.Needs.{needs}
-use Rattle.luma.proofs.note.Statement.{statement}
-use Rattle.luma.proofs.note.Tie as tie
+use Rattle.ending.proofs.note.Statement.{statement}
+use Rattle.ending.proofs.note.Tie as tie
 
 add-luma : tie.Need-add-luma
 add-luma c = search needs

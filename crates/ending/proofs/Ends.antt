@@ -30,8 +30,8 @@ use Rattle.drawing.specs.declared.Progress.{Progress}
 use Rattle.drawing.specs.State.{gridOf, slot, movesIn, Words, Ring, Drawn, Place, drawing, Live}
 use Rattle.drawing.specs.Contract.{Fits}
 use Rattle.drawing.proofs.Rows.{bytes-right, at-passing, elsewhere, apart}
-use Rattle.luma.specs.Contract.{againOf, ChangeOf, ScoreOf, noted, nextPicture, AtPictureEnd, PictureEnded}
-use Rattle.luma.proofs.Notes.{Whole, each-px, score-is, change-is, again-is, words-more}
+use Rattle.ending.specs.Contract.{againOf, ChangeOf, ScoreOf, noted, nextPicture, AtPictureEnd, PictureEnded}
+use Rattle.ending.proofs.Notes.{Whole, each-px, score-is, change-is, again-is, words-more}
 
 pub bytes-left : (s t : List ℕ) → Bytes (s ++ t) → Bytes s
 bytes-left [] t h = none

@@ -1,9 +1,9 @@
 use mathlib.Core.Path.{refl, _∙_, ap}
 use native.Mathlib.Omega.{arith}
-use Rattle.luma.proofs.Ends.{picture-ended, again-small}
+use Rattle.ending.proofs.Ends.{picture-ended, again-small}
 use borrow.Author.Needs.{needs}
-use Rattle.luma.proofs.end_picture.Statement.{statement}
-use Rattle.luma.proofs.end_picture.Tie as tie
+use Rattle.ending.proofs.end_picture.Statement.{statement}
+use Rattle.ending.proofs.end_picture.Tie as tie
 
 again-of-requires : tie.Need-again-of-requires
 again-of-requires c κs = search needs
