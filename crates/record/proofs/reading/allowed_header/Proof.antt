@@ -84,7 +84,7 @@ returns c =
     let c₁₃ = c₁₂ .before in
     let c₁₄ = c₁₃ .before in
     let c₁₅ = c₁₄ .before in
-    simp (
+    rw (
       c₁₅ .word .ensures .0,
       c₁₄ .word2 .ensures .0,
       c₁₃ .word3 .ensures .0,
@@ -92,13 +92,13 @@ returns c =
       c₁₁ .word5 .ensures .0,
       c₁₀ .word6 .ensures .0,
       c₉ .word7 .ensures .0,
+      c₆ .good-size .ensures,
       c₈ .word32 .ensures,
       c₇ .word322 .ensures,
-      c₆ .good-size .ensures,
-      c₅ .word323 .ensures,
       c₄ .good-time .ensures,
-      c₃ .word324 .ensures,
+      c₅ .word323 .ensures,
       c₂ .good-pid .ensures,
+      c₃ .word324 .ensures,
       c .before .word8 .ensures .0,
       c .word9 .ensures .0,
     )

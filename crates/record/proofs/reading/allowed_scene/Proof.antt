@@ -16,7 +16,7 @@ returns : tie.Need-returns
 unfolding allowedScene
 returns c =
     let c₂ = c .before .before in
-    simp (c₂ .word .ensures .0, c .before .word2 .ensures .0, c .word3 .ensures .0)
+    rw (c₂ .word .ensures .0, c .before .word2 .ensures .0, c .word3 .ensures .0)
 
 pub allowed-scene-spec : {M : Type 1} → statement M
 allowed-scene-spec = tie.close (tie.spec word-requires word-requires-2 word-requires-3 returns)

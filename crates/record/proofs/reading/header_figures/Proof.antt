@@ -48,7 +48,7 @@ returns c =
     let c₈ = c₇ .before in
     let c₉ = c₈ .before in
     let c₁₀ = c₉ .before in
-    simp (
+    rw (
       c₁₀ .word32 .ensures,
       c₉ .word322 .ensures,
       c₈ .word323 .ensures,

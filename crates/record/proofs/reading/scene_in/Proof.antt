@@ -32,7 +32,7 @@ returns c =
     let c₄ = c₃ .before in
     let c₅ = c₄ .before in
     let c₆ = c₅ .before in
-    simp (
+    rw (
       c₆ .word32 .ensures,
       c₅ .word322 .ensures,
       c₄ .word323 .ensures,

@@ -24,7 +24,7 @@ returns c =
     let c₂ = c .before .before in
     let c₃ = c₂ .before in
     let c₄ = c₃ .before in
-    simp (c₄ .word64 .ensures, c₃ .word642 .ensures, c₂ .word32 .ensures, c .before .word322 .ensures, c .word323 .ensures)
+    rw (c₄ .word64 .ensures, c₃ .word642 .ensures, c₂ .word32 .ensures, c .before .word322 .ensures, c .word323 .ensures)
 
 pub unit-in-spec : {M : Type 1} → statement M
 unit-in-spec =
