@@ -1,33 +1,29 @@
 -- A block row of the current picture, and its end. No code.
 use Prim.Native.Nat.{ℕ, zero, suc, _+_, _-_, _*_, _/_, _%_, _^_, _≤_, _<_}
 use native.Mathlib.Omega.{arith}
-use native.Mathlib.Nat.{add-mul, mul-le-mul, mul-le-mul-right, mul-pos, le-trans, lt-of-not-le, add-zero, zero-mul, div-add-mod', div-lt-iff-lt-mul, mod-lt}
+use native.Mathlib.Nat.{add-mul, mul-le-mul-right, mul-pos, lt-of-not-le, add-zero, div-add-mod', div-lt-iff-lt-mul, mod-lt}
 use native.Mathlib.Decide.{decLe}
 use mathlib.Core.Path.{_≡_, refl, sym, ap, _∙_}
 use mathlib.Core.Logic.{_⊎_, inl, inr}
 use mathlib.Core.List.{List, [], _∷_, _++_, append-nil, append-assoc}
-use lib.ListN.{length, getD, take, drop, set, length-append, length-set, length-drop}
-use lib.Seq.{getD-set-same, getD-set-other, take-add, length-take-le, getD-take, getD-drop, ext-getD, take-append-le}
+use lib.ListN.{length, getD, take, drop, set, length-append, length-set}
+use lib.Seq.{getD-set-same, getD-set-other, take-add, length-take-le, getD-take, ext-getD}
 use borrow.Author.Count.{below-more}
 use Rattle.rules.specs.declared.Opening.{Opening}
-use Rattle.rules.specs.Bytes.{tally}
-use Rattle.rules.specs.Pictures.{pictureSize}
-use Rattle.rules.proofs.Laws.Histograms.{All, none, and}
+use Rattle.rules.proofs.Laws.Histograms.{none, and}
 use Rattle.rules.proofs.Laws.Pictures.{Bytes, bytes-append, bytes-take}
-use Rattle.rules.proofs.Laws.Blocks.{blockTally, earlier}
+use Rattle.rules.proofs.Laws.Blocks.{earlier}
 use Rattle.history.specs.Past.{previous}
 use Rattle.blocks.specs.declared.Spot.{Spot}
-use Rattle.blocks.specs.Sums.{run}
-use Rattle.blocks.specs.Rows.{SumsOf, Going, FedRows}
+use Rattle.blocks.specs.Rows.{SumsOf, FedRows}
 use Rattle.blocks.specs.Pixels.{RowsOf, RowDone}
 use Rattle.tiles.specs.Bins.{Counts, Kept, CountedRow}
 use Rattle.moves.specs.declared.Moves.{Moves}
 use Rattle.moves.specs.Figures.{Figures, Compared}
 use Rattle.drawing.specs.declared.Grid.{Grid}
 use Rattle.drawing.specs.declared.Progress.{Progress}
-use Rattle.drawing.specs.declared.Taken.{Taken}
-use Rattle.drawing.specs.State.{gridOf, movesIn, slot, Ring, Drawn, Place, drawing, passing, Live, Sane}
-use Rattle.drawing.specs.Contract.{Fits, Keeps, movedTo, nextRow, AtRowEnd, RowEnded, Loose, Took, Taking}
+use Rattle.drawing.specs.State.{movesIn, slot, Drawn, Place, drawing, passing, Live}
+use Rattle.drawing.specs.Contract.{Fits, Keeps, movedTo, nextRow, AtRowEnd, RowEnded, Took, Taking}
 
 -- ---- the old pixels
 

@@ -1,5 +1,5 @@
 -- What each function promises.
-use Prim.Native.Nat.{ℕ, _+_, _-_, _*_, _/_, _%_, _^_, _≤_, _<_}
+use Prim.Native.Nat.{ℕ, _+_, _-_, _*_, _%_, _^_, _≤_, _<_}
 use mathlib.Core.Path.{_≡_}
 use mathlib.Core.List.{List, [], _++_}
 use lib.ListN.{length, getD, take}
@@ -8,7 +8,7 @@ use Rattle.moves.specs.declared.Moves.{Moves}
 use Rattle.drawing.specs.declared.Grid.{Grid}
 use Rattle.drawing.specs.declared.Progress.{Progress}
 use Rattle.drawing.specs.declared.Taken.{Taken}
-use Rattle.drawing.specs.State.{Live, Sane, movesIn}
+use Rattle.drawing.specs.State.{Live, Sane}
 
 -- what a grid's numbers may be: those of every opening that is not refused are such
 pub record Fits (g : Grid) : Type 0 where

@@ -1,14 +1,14 @@
 -- What the lent arrays of the luma side stand for. The luma words' scalars are `Progress` and the opening; the other words hold what is known of the whole
 -- pictures. `sums` are the block sums of the current block row, `bins` a ring of five pictures' histograms, `picture` the pixels: those of the block rows that
 -- are done are the current picture's, the others the previous one's.
-use Prim.Native.Nat.{ℕ, _+_, _*_, _/_, _%_, _^_, _≤_, _<_}
+use Prim.Native.Nat.{ℕ, _+_, _*_, _%_, _^_, _≤_, _<_}
 use mathlib.Core.Path.{_≡_}
-use mathlib.Core.List.{List, [], _∷_, _++_, map}
+use mathlib.Core.List.{List, [], _++_, map}
 use mathlib.Core.Bool.{not}
 use lib.ListN.{length, getD, take}
 use Rattle.rules.specs.declared.Opening.{Opening}
 use Rattle.rules.specs.Bytes.{count, parts}
-use Rattle.rules.specs.Refusals.{Fault, none, fault, _orElse_}
+use Rattle.rules.specs.Refusals.{none, fault, _orElse_}
 use Rattle.rules.specs.Opening.{openingFault, side, columns, lines}
 use Rattle.rules.specs.Pictures.{pictureSize, lumaFault, pixels}
 use Rattle.rules.specs.Histograms.{histograms}
@@ -26,6 +26,8 @@ use Rattle.drawing.specs.declared.Progress.{Progress}
 
 -- ---- the scalars
 
+-- words 0 to 11: the number of the refusal that stands (0: none) and its place; bytes fed; whole pictures, and those of them that are not repeated; of the current
+-- picture the block rows that are done, the row in the current one, the column, the bytes left of the surplus rows, and the sums of its pixels' rises, falls and squares
 abbrev pub loaded : List ℕ → Progress
 loaded w =
     record {
@@ -53,9 +55,11 @@ openingIn w =
       pid = getD w 15 0 % 2 ^ 32;
     }
 
+-- W, 2^k, w, h, and a picture's bytes
 abbrev pub gridOf : Opening → Grid
 gridOf o = record { width = o .width; side = side o; columns = columns o; lines = lines o; bytes = pictureSize o }
 
+-- how the pixels of the block rows that are done moved against the previous picture's
 abbrev pub movesIn : Progress → Moves
 movesIn s = record { up = s .ups; down = s .downs; squares = s .squares }
 

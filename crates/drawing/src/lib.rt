@@ -1,10 +1,7 @@
 // The current picture of the luma side: bytes of its block rows are taken in, and at the end of each its pixels are made, counted and compared.
 ghost use mathlib.Core.Path.{_≡_};
-ghost use mathlib.Core.List.{List, []};
-ghost use Prim.Native.Nat.{ℕ, _+_, _-_, _*_, _/_, _%_, _^_, _≤_, _<_};
-ghost use lib.ListN.{length, getD};
-ghost use Rattle.drawing.specs.State.{loaded, movesIn};
-ghost use Rattle.drawing.specs.Contract.{Fits, Keeps, movedTo, nextRow, passedOn, AtRowEnd, RowEnded, Took, Taking};
+ghost use Prim.Native.Nat.{_+_, _-_, _*_, _%_, _^_, _≤_, _<_};
+ghost use Rattle.drawing.specs.Contract.{Fits, Keeps, movedTo, nextRow, AtRowEnd, RowEnded, Took, Taking};
 use moves::Moves;
 
 // The sizes of a sample's pictures: rows of `width` bytes, blocks of `side` by `side` of them, `columns` by `lines` pixels, `bytes` in all.

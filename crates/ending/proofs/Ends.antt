@@ -1,34 +1,31 @@
 -- The end of a picture. No code.
-use Prim.Native.Nat.{ℕ, zero, suc, _+_, _-_, _*_, _/_, _%_, _^_, _≤_, _<_}
+use Prim.Native.Nat.{ℕ, _+_, _-_, _*_, _%_, _^_, _≤_, _<_}
 use native.Mathlib.Omega.{arith}
-use native.Mathlib.Nat.{lt-of-not-le, mul-comm, add-mul, zero-mul, mul-pos, one-le-mul}
-use native.Mathlib.Decide.{decLe, ℕ-discrete}
+use native.Mathlib.Nat.{mul-comm, add-mul, zero-mul, one-le-mul}
+use native.Mathlib.Decide.{ℕ-discrete}
 use mathlib.Core.Path.{_≡_, refl, sym, ap, _∙_}
-use mathlib.Core.Logic.{_⊎_, inl, inr}
+use mathlib.Core.Logic.{_⊎_}
 use mathlib.Core.List.{List, [], _∷_, _++_, map, append-nil}
 use mathlib.Core.Bool.{Bool, true, false, not}
-use lib.ListN.{length, getD, take, drop, length-append, List·getD-append}
-use lib.Seq.{getD-take, length-take-le}
+use lib.ListN.{length, getD, take, length-append}
+use lib.Seq.{getD-take}
 use lib.Dec.{eqb}
 use Rattle.rules.specs.declared.Opening.{Opening}
 use Rattle.rules.specs.Bytes.{pick, tally, parts, count}
 use Rattle.rules.specs.Opening.{side, columns, lines}
 use Rattle.rules.specs.Pictures.{pictureSize, pixels}
-use Rattle.rules.specs.Histograms.{histograms}
 use Rattle.rules.specs.Changes.{repeats}
-use Rattle.rules.proofs.Laws.Histograms.{All, none, and}
+use Rattle.rules.proofs.Laws.Histograms.{none, and}
 use Rattle.rules.proofs.Laws.Pictures.{Bytes, pixels-small, pixels-length}
-use Rattle.history.specs.Past.{previous, nextChange, nextRepeat, nextScore}
+use Rattle.history.specs.Past.{previous, nextRepeat}
 use Rattle.history.proofs.Laws.{getD-last, getD-other, reduced-more, previous-more, previous-at, fresh-more}
-use Rattle.blocks.specs.Rows.{SumsOf}
 use Rattle.blocks.specs.Pixels.{RowsOf}
 use Rattle.blocks.proofs.Drawn.{picture-whole}
-use Rattle.tiles.specs.Bins.{Counts, Kept, Cleared}
+use Rattle.tiles.specs.Bins.{Counts, Cleared}
 use Rattle.moves.specs.Figures.{Figures}
 use Rattle.drawing.specs.declared.Grid.{Grid}
 use Rattle.drawing.specs.declared.Progress.{Progress}
-use Rattle.drawing.specs.State.{gridOf, slot, movesIn, Words, Ring, Drawn, Place, drawing, Live}
-use Rattle.drawing.specs.Contract.{Fits}
+use Rattle.drawing.specs.State.{slot, movesIn, Words, Ring, Drawn, drawing, Live}
 use Rattle.drawing.proofs.Rows.{bytes-right, at-passing, elsewhere, apart}
 use Rattle.ending.specs.Contract.{againOf, ChangeOf, ScoreOf, noted, nextPicture, AtPictureEnd, PictureEnded}
 use Rattle.ending.proofs.Notes.{Whole, each-px, score-is, change-is, again-is, words-more}

@@ -1,14 +1,12 @@
 -- What the words hold of one picture more. No code.
-use Prim.Native.Nat.{ℕ, zero, suc, _+_, _-_, _*_, _/_, _%_, _^_, _≤_, _<_}
+use Prim.Native.Nat.{ℕ, _+_, _-_, _*_, _/_, _%_, _^_, _≤_, _<_}
 use native.Mathlib.Omega.{arith}
-use native.Mathlib.Nat.{lt-of-not-le, mul-comm, mod-eq-of-lt}
+use native.Mathlib.Nat.{lt-of-not-le, mul-comm}
 use native.Mathlib.Decide.{decLe, ℕ-discrete}
-use mathlib.Core.Path.{_≡_, refl, sym, ap, _∙_}
+use mathlib.Core.Path.{_≡_, sym, ap, _∙_}
 use mathlib.Core.List.{List, [], _∷_, _++_, map}
-use mathlib.Core.Bool.{Bool, true, false}
-use lib.ListN.{length, getD, drop, set, length-append, length-set, length-map}
+use lib.ListN.{length, getD, drop, set, length-set, length-map}
 use lib.Seq.{getD-set-same, getD-set-other}
-use lib.Dec.{eqb}
 use borrow.Author.Tests.{eq-eqb, ne-eqb}
 use Rattle.rules.specs.declared.Opening.{Opening}
 use Rattle.rules.specs.Bytes.{pick}
@@ -16,15 +14,15 @@ use Rattle.rules.specs.Opening.{columns, lines}
 use Rattle.rules.specs.Pictures.{pictureSize, pixels}
 use Rattle.rules.specs.Histograms.{histograms}
 use Rattle.rules.specs.Cuts.{at, cutScore}
-use Rattle.rules.specs.Changes.{same, spread, root, change, repeats, changes}
+use Rattle.rules.specs.Changes.{change, repeats, changes}
 use Rattle.rules.specs.Bytes.{parts}
 use Rattle.rules.proofs.Laws.Pictures.{Bytes, bytes-take, bytes-drop, pixels-small, pixels-length}
 use Rattle.rules.proofs.Laws.Tables.{getD-mapped}
 use Rattle.rules.proofs.Laws.Moves.{squared-most}
 use Rattle.history.specs.Past.{previous, nextChange, nextRepeat, nextScore, mapWord}
-use Rattle.history.proofs.Laws.{getD-last, getD-other, map-append, length-parts, part-at, score-other, score-next, next-some, next-none, repeats-more, changes-more, length-repeats, length-changes, previous-at, word-more, word-other, word-small}
-use Rattle.figures.specs.Changes.{spreadOf, Changed}
-use Rattle.cuts.specs.Counts.{binsAt, tilesAt, leastAt}
+use Rattle.history.proofs.Laws.{getD-last, getD-other, map-append, length-parts, part-at, score-other, score-next, next-some, next-none, repeats-more, changes-more, length-repeats, length-changes, word-more, word-other, word-small}
+use Rattle.figures.specs.Changes.{spreadOf}
+use Rattle.cuts.specs.Counts.{binsAt, tilesAt}
 use Rattle.tiles.specs.Bins.{Counts}
 use Rattle.tiles.proofs.Whole.{counts-are}
 use Rattle.moves.specs.Figures.{Figures}

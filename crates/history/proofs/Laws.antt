@@ -1,19 +1,18 @@
 -- A picture more.
 use Prim.Native.Nat.{ℕ, zero, suc, _+_, _-_, _*_, _/_, _%_, _^_, _≤_, _<_}
 use native.Mathlib.Omega.{arith}
-use native.Mathlib.Nat.{suc-mul, zero-mul, pow-le-pow-right, add-zero, pow-suc, zero-div, div-one, lt-of-not-le, mul-left-comm, mul-comm, div-eq-of-lt-le, div-div-eq-div-mul, add-mul}
-use native.Mathlib.Decide.{decLe, ℕ-discrete}
+use native.Mathlib.Nat.{suc-mul, zero-mul, pow-le-pow-right, pow-suc, zero-div, div-one, lt-of-not-le, mul-comm, div-eq-of-lt-le, div-div-eq-div-mul, add-mul}
+use native.Mathlib.Decide.{decLe}
 use mathlib.Core.Path.{_≡_, refl, sym, ap, _∙_}
-use mathlib.Core.List.{List, [], _∷_, _++_, map, append-nil, append-assoc}
-use mathlib.Core.Bool.{Bool, true, false, not, _&&_}
-use lib.ListN.{length, getD, take, drop, length-append, length-drop, length-take, length-map, List·getD-append, List·getD-eq-default}
-use lib.Seq.{drop-drop, getD-take, getD-drop, take-all, take-append-le, drop-append-le, getD-append-seam, drop-nil, take-nil, length-take-le}
-use lib.Dec.{leb, ltb}
+use mathlib.Core.List.{List, [], _∷_, _++_, map}
+use mathlib.Core.Bool.{Bool, true, false, not}
+use lib.ListN.{length, getD, take, drop, length-append, length-drop, length-take, List·getD-append, List·getD-eq-default}
+use lib.Seq.{drop-drop, getD-take, getD-drop, take-all, take-append-le, drop-append-le, getD-append-seam}
 use borrow.Author.Tests.{le-leb, lt-leb, lt-ltb, le-ltb}
 use Rattle.rules.specs.declared.Opening.{Opening}
 use Rattle.rules.specs.Bytes.{pick, smaller, count, parts}
 use Rattle.rules.specs.Opening.{openingFault}
-use Rattle.rules.specs.Refusals.{Fault, none, fault}
+use Rattle.rules.specs.Refusals.{none}
 use Rattle.rules.specs.Pictures.{pictureSize, pictureCount, pictures, pixels}
 use Rattle.rules.specs.Cuts.{at, leastOfSix, cutScore}
 use Rattle.rules.specs.Changes.{same, change, repeats, repeatsAfter, changes, changesAfter}

@@ -1,7 +1,7 @@
 -- Words for a run of pictures that goes on.
 use Prim.Native.Nat.{ℕ, _+_, _-_, _*_}
 use mathlib.Core.List.{List, [], _∷_}
-use mathlib.Core.Bool.{Bool, true, false}
+use mathlib.Core.Bool.{Bool, false}
 use lib.ListN.{length, take, drop}
 use Rattle.rules.specs.Bytes.{pick}
 use Rattle.rules.specs.Cuts.{at, leastOfSix}

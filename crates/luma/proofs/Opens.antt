@@ -1,30 +1,28 @@
 -- The opening. No code.
-use Prim.Native.Nat.{ℕ, zero, suc, _+_, _-_, _*_, _/_, _%_, _^_, _≤_, _<_}
+use Prim.Native.Nat.{ℕ, zero, suc, _+_, _-_, _*_, _^_, _≤_, _<_}
 use native.Mathlib.Omega.{arith}
 use native.Mathlib.Nat.{zero-mul, mod-eq-of-lt, lt-of-not-le}
 use native.Mathlib.Decide.{decLe}
 use borrow.Author.Tests.{le-leb, lt-leb, le-ltb}
 use mathlib.Core.Path.{_≡_, refl, sym, ap, _∙_}
-use mathlib.Core.List.{List, [], _∷_, _++_, map}
-use mathlib.Core.Bool.{Bool, not}
-use lib.ListN.{length, getD, take, drop, set, replicate, length-set, length-replicate}
+use mathlib.Core.List.{List, [], map}
+use mathlib.Core.Bool.{Bool}
+use lib.ListN.{length, getD, set, replicate, length-set, length-replicate}
 use lib.Seq.{getD-set-other, drop-nil}
 use Rattle.rules.specs.declared.Opening.{Opening}
-use Rattle.rules.specs.declared.Answer.{Answer}
 use Rattle.rules.specs.declared.Answer.the-variants.{Done, Refused}
-use Rattle.rules.specs.Bytes.{pick, tally, parts, count}
-use Rattle.rules.specs.Refusals.{Fault, none, fault, _orElse_, answer}
-use Rattle.rules.specs.Opening.{openingFault, openAnswer, side, columns, lines}
-use Rattle.rules.specs.Pictures.{pictureSize, lumaFault, pixels}
+use Rattle.rules.specs.Bytes.{tally, parts, count}
+use Rattle.rules.specs.Refusals.{none, answer}
+use Rattle.rules.specs.Opening.{openingFault, openAnswer, side, columns}
+use Rattle.rules.specs.Pictures.{pictureSize}
 use Rattle.rules.specs.Histograms.{histograms}
 use Rattle.rules.specs.Cuts.{cutScore}
 use Rattle.rules.specs.Changes.{repeats, changes}
 use Rattle.rules.proofs.Laws.Histograms.{All}
 use Rattle.history.specs.Past.{previous, lastFrom, ones, mapWord}
 use Rattle.figures.specs.Opening.{numbered, OpeningFault}
-use Rattle.drawing.specs.declared.Grid.{Grid}
 use Rattle.drawing.specs.declared.Progress.{Progress}
-use Rattle.drawing.specs.State.{loaded, openingIn, gridOf, slot, Words, Drawn, Place, drawing, Live, Sane, Stands, refused, live, Means}
+use Rattle.drawing.specs.State.{openingIn, gridOf, slot, Words, drawing, Live, refused, live}
 use Rattle.drawing.specs.Contract.{Fits}
 use Rattle.luma.specs.Contract.{OpenPost}
 use Rattle.ending.proofs.Ends.{still}

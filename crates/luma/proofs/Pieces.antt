@@ -1,24 +1,19 @@
 -- From step to step through a piece. No code.
-use Prim.Native.Nat.{ℕ, zero, suc, _+_, _-_, _*_, _/_, _%_, _^_, _≤_, _<_}
+use Prim.Native.Nat.{ℕ, _+_, _-_, _*_, _≤_, _<_}
 use native.Mathlib.Omega.{arith}
-use native.Mathlib.Nat.{lt-of-not-le, add-mul, mul-le-mul-right, mul-comm, mul-assoc}
-use native.Mathlib.Decide.{decLe}
 use mathlib.Core.Path.{_≡_, refl, sym, ap, _∙_}
-use mathlib.Core.List.{List, [], _∷_, _++_, append-nil, append-assoc}
-use mathlib.Core.Bool.{Bool, true, false}
+use mathlib.Core.List.{List, [], _++_, append-nil, append-assoc}
 use lib.ListN.{length, getD, take, drop, length-append, length-drop, take-append-drop}
 use lib.Seq.{take-add, take-all, length-take-le}
-use borrow.Author.Tests.{lt-ltb, le-ltb}
+use borrow.Author.Tests.{lt-ltb}
 use Rattle.rules.specs.declared.Opening.{Opening}
-use Rattle.rules.specs.Refusals.{Fault, none, fault, _orElse_}
-use Rattle.rules.specs.Opening.{openingFault}
 use Rattle.rules.specs.Pictures.{pictureSize, lumaFault}
 use Rattle.rules.proofs.Laws.Pictures.{Bytes, bytes-append, bytes-take}
 use Rattle.drawing.specs.declared.Grid.{Grid}
 use Rattle.drawing.specs.declared.Progress.{Progress}
 use Rattle.drawing.specs.declared.Taken.{Taken}
-use Rattle.drawing.specs.State.{gridOf, Drawn, Place, passing, Live, Sane, Stands, refused, live}
-use Rattle.drawing.specs.Contract.{Fits, passedOn, Goes, Loose, Took, Taking}
+use Rattle.drawing.specs.State.{passing, Live, Sane, refused, live}
+use Rattle.drawing.specs.Contract.{Fits, passedOn, Goes, Took, Taking}
 use Rattle.drawing.proofs.Rows.{at-passing, bytes-of}
 use Rattle.ending.specs.Contract.{PictureEnded}
 use Rattle.luma.specs.Contract.{Finishing, Finished, Passed, Stepped, Ran, stoppedAt}

@@ -1,5 +1,5 @@
 -- What the functions within promise makes what the calls promise. No code.
-use Prim.Native.Nat.{ℕ, zero, suc, _+_, _-_, _*_, _/_, _%_, _^_, _≤_, _<_}
+use Prim.Native.Nat.{ℕ, zero, suc, _+_, _-_, _*_, _/_, _≤_, _<_}
 use native.Mathlib.Omega.{arith}
 use native.Mathlib.Nat.{lt-of-not-le, add-mul, mul-le-mul, mul-le-mul-right, mul-comm, div-mul-le-self}
 use native.Mathlib.Decide.{decLe}
@@ -19,7 +19,7 @@ use Rattle.rules.specs.Seal.{lumaAnswer}
 use Rattle.rules.proofs.Laws.Pictures.{luma-kept}
 use Rattle.rules.proofs.Laws.Blocks.{side-some}
 use Rattle.rules.proofs.Laws.Sizes.{good, sizes}
-use Rattle.figures.specs.Opening.{numbered, OpeningFault}
+use Rattle.figures.specs.Opening.{OpeningFault}
 use Rattle.drawing.specs.declared.Grid.{Grid}
 use Rattle.drawing.specs.declared.Progress.{Progress}
 use Rattle.drawing.specs.State.{loaded, openingIn, gridOf, Words, Place, drawing, passing, Live, Sane, Stands, refused, live, Means}

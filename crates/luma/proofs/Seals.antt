@@ -1,19 +1,19 @@
 -- What a seal needs of the luma side: every figure is the rule's. No code.
-use Prim.Native.Nat.{ℕ, zero, suc, _+_, _-_, _*_, _/_, _%_, _^_, _≤_, _<_}
+use Prim.Native.Nat.{ℕ, _+_, _-_, _*_, _%_, _^_, _≤_, _<_}
 use native.Mathlib.Omega.{arith}
-use native.Mathlib.Nat.{zero-mul, mul-pos, mul-le-mul-left, mod-eq-of-lt, mul-add-mod-self-right}
+use native.Mathlib.Nat.{zero-mul, mul-pos, mod-eq-of-lt, mul-add-mod-self-right}
 use native.Mathlib.Decide.{ℕ-discrete}
-use mathlib.Core.Path.{_≡_, refl, sym, ap, _∙_}
-use mathlib.Core.List.{List, [], _∷_, _++_, map}
-use mathlib.Core.Bool.{Bool, true, false, not}
+use mathlib.Core.Path.{_≡_, sym, ap, _∙_}
+use mathlib.Core.List.{List, []}
+use mathlib.Core.Bool.{not}
 use lib.ListN.{length, getD, length-append}
 use lib.Dec.{eqb}
 use borrow.Author.Tests.{eq-eqb, ne-eqb}
 use Rattle.rules.specs.declared.Opening.{Opening}
-use Rattle.rules.specs.Bytes.{pick, count}
+use Rattle.rules.specs.Bytes.{pick}
 use Rattle.rules.specs.Refusals.{Fault, none, fault, _orElse_}
-use Rattle.rules.specs.Opening.{openingFault, columns, lines}
-use Rattle.rules.specs.Pictures.{pictureSize, pictureCount, lumaFault, pixels}
+use Rattle.rules.specs.Opening.{openingFault}
+use Rattle.rules.specs.Pictures.{pictureSize, pictureCount, lumaFault}
 use Rattle.rules.specs.Histograms.{histograms}
 use Rattle.rules.specs.Changes.{repeats}
 use Rattle.rules.specs.Seal.{reduced, unrepeated, lumaOpen}
@@ -22,10 +22,10 @@ use Rattle.history.proofs.Laws.{count-whole, reduced-whole, count-most, length-
 use Rattle.cuts.specs.Counts.{tilesAt}
 use Rattle.drawing.specs.declared.Grid.{Grid}
 use Rattle.drawing.specs.declared.Progress.{Progress}
-use Rattle.drawing.specs.State.{loaded, gridOf, slot, Words, Place, drawing, passing, Live, Sane, Stands, refused, live, Means}
+use Rattle.drawing.specs.State.{loaded, slot, Place, drawing, passing, Stands, refused, live}
 use Rattle.drawing.specs.Contract.{Fits}
 use Rattle.luma.specs.declared.Summary.{Summary}
-use Rattle.luma.specs.Contract.{insideOf, Known, Summarised, SummaryPost}
+use Rattle.luma.specs.Contract.{insideOf, Known, SummaryPost}
 use Rattle.ending.proofs.Notes.{each-px, tiles-are}
 use Rattle.ending.proofs.Ends.{bytes-left}
 use Rattle.luma.proofs.Posts.{fits-of, short, not-past, no-fault, Alive, alive}

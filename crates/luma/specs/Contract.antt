@@ -1,5 +1,5 @@
 -- What each function of the luma side promises. What the arrays stand for is `Means`, in the crate `drawing`.
-use Prim.Native.Nat.{ℕ, _+_, _-_, _*_, _/_, _%_, _^_, _≤_, _<_}
+use Prim.Native.Nat.{ℕ, _+_, _*_, _≤_, _<_}
 use mathlib.Core.Path.{_≡_}
 use mathlib.Core.List.{List, [], _++_}
 use mathlib.Core.Bool.{Bool, true, false}
@@ -9,7 +9,7 @@ use Rattle.rules.specs.declared.Opening.{Opening}
 use Rattle.rules.specs.declared.Answer.{Answer}
 use Rattle.rules.specs.Bytes.{pick}
 use Rattle.rules.specs.Opening.{openingFault, openAnswer}
-use Rattle.rules.specs.Refusals.{Fault, none, fault, _orElse_}
+use Rattle.rules.specs.Refusals.{none, fault, _orElse_}
 use Rattle.rules.specs.Pictures.{pictureCount, lumaFault}
 use Rattle.rules.proofs.Laws.Pictures.{Bytes}
 use Rattle.rules.specs.Seal.{reduced, unrepeated, lumaOpen, lumaAnswer}
@@ -18,7 +18,7 @@ use Rattle.drawing.specs.declared.Progress.{Progress}
 use Rattle.drawing.specs.declared.Taken.{Taken}
 use Rattle.luma.specs.declared.Summary.{Summary}
 use Rattle.drawing.specs.State.{loaded, openingIn, gridOf, Words, Live, Sane, Stands, Means}
-use Rattle.drawing.specs.Contract.{Fits, Goes, Loose, Took, Taking}
+use Rattle.drawing.specs.Contract.{Fits, Goes, Loose, Took}
 
 -- ---- the calls
 

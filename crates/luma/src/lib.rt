@@ -1,10 +1,8 @@
 // The luma side: pictures that come in pieces, cut anywhere, over memory that the caller lends. Whatever stands in that memory, every call is safe.
 ghost use mathlib.Core.Path.{_≡_};
-ghost use mathlib.Core.List.{List, []};
-ghost use Prim.Native.Nat.{ℕ, _+_, _-_, _*_, _/_, _%_, _^_, _≤_, _<_};
-ghost use lib.ListN.{length, getD};
+ghost use Prim.Native.Nat.{_+_, _-_, _*_, _%_, _^_, _≤_, _<_};
 ghost use Rattle.drawing.specs.State.{loaded, openingIn, gridOf, Sane};
-ghost use Rattle.drawing.specs.Contract.{Fits, passedOn, Took, Taking};
+ghost use Rattle.drawing.specs.Contract.{Fits, passedOn, Taking};
 ghost use Rattle.luma.specs.Contract.{Finishing, Finished, Passed, Stepped, Ran, stoppedAt, Stored, Placed, Replied, insideOf, OpenPost, FeedPost, SummaryPost};
 use drawing::Grid;
 use drawing::Progress;

@@ -1,6 +1,4 @@
 use Rattle.drawing.proofs.Rows.{at-row-end}
-use Prim.Native.Nat.{ℕ, _+_, _*_, _≤_, _<_}
-use mathlib.Core.Path.{_≡_, refl, ap}
 use native.Mathlib.Omega.{arith}
 use Rattle.drawing.proofs.Rows.{within-row, to-row-end}
 use borrow.Author.Needs.{needs}
@@ -8,19 +6,43 @@ use Rattle.drawing.proofs.draw.Statement.{statement}
 use Rattle.drawing.proofs.draw.Tie as tie
 
 feed-rows-requires : tie.Need-feed-rows-requires
-feed-rows-requires c κs = let p = c .before .before .pre in record { some = p .0 .fits .some; few = omega (arith, p .0 .fits .few); room = omega (arith, p .0 .fits .narrow); wide = p .0 .fits .most; above = p .0 .sane .row (p .1); left = p .0 .sane .col (p .1) }
+feed-rows-requires c κs =
+    let p = c .before .before .pre in
+    record {
+      some = p .0 .fits .some;
+      few = omega (arith, p .0 .fits .few);
+      room = omega (arith, p .0 .fits .narrow);
+      wide = p .0 .fits .most;
+      above = p .0 .sane .row (p .1);
+      left = p .0 .sane .col (p .1);
+    }
 
 moved-to-requires : tie.Need-moved-to-requires
 moved-to-requires c κs = search needs
 
 end-row-requires : tie.Need-end-row-requires
-end-row-requires c κs = let p = c .before .before .before .before .before .before .before .before .before .before .pre in let a = c .before .before .before .before .before .before .before .before .before .before .args in at-row-end (a .g) (a .s) (p .0) (p .1) (c .before .before .before .before .before .before .before .feed-rows .ensures) _ (c .before .before .before .before .before .before .moved-to .ensures) (c .before .before .before .if1 .taken)
+end-row-requires c κs =
+    let p = c .before .before .before .before .before .before .before .before .before .before .pre in
+    let a = c .before .before .before .before .before .before .before .before .before .before .args in
+    at-row-end (a .g) (a .s) (p .0) (p .1) (c .before .before .before .before .before .before .before .feed-rows .ensures) _
+    (c .before .before .before .before .before .before .moved-to .ensures) (c .before .before .before .if1 .taken)
 
 returns : tie.Need-returns
-returns c = let p = c .before .before .before .before .before .before .before .before .before .before .before .pre in let a = c .before .before .before .before .before .before .before .before .before .before .before .args in to-row-end (a .g) (a .s) (p .0) (p .1) (λ i. omega (arith, c .before .before .before .before .before .before .before .before .before .before .shared-slice-known .given i)) (c .before .before .before .before .before .before .before .before .feed-rows .ensures) _ (c .before .before .before .before .before .before .before .moved-to .ensures) (c .end-row .ensures)
+returns c =
+    let p = c .before .before .before .before .before .before .before .before .before .before .before .pre in
+    let a = c .before .before .before .before .before .before .before .before .before .before .before .args in
+    to-row-end (a .g) (a .s) (p .0) (p .1)
+    (λ i. omega (arith, c .before .before .before .before .before .before .before .before .before .before .shared-slice-known .given i))
+    (c .before .before .before .before .before .before .before .before .feed-rows .ensures) _
+    (c .before .before .before .before .before .before .before .moved-to .ensures) (c .end-row .ensures)
 
 returns-2 : tie.Need-returns-2
-returns-2 c = let p = c .before .before .before .before .before .before .before .pre in let a = c .before .before .before .before .before .before .before .args in within-row (a .g) (a .s) (p .0) (p .1) (λ i. omega (arith, c .before .before .before .before .before .before .shared-slice-known .given i)) (c .before .before .before .before .feed-rows .ensures) _ (c .before .before .before .moved-to .ensures) (c .if1 .left)
+returns-2 c =
+    let p = c .before .before .before .before .before .before .before .pre in
+    let a = c .before .before .before .before .before .before .before .args in
+    within-row (a .g) (a .s) (p .0) (p .1)
+    (λ i. omega (arith, c .before .before .before .before .before .before .shared-slice-known .given i))
+    (c .before .before .before .before .feed-rows .ensures) _ (c .before .before .before .moved-to .ensures) (c .if1 .left)
 
 pub draw-spec : {M : Type 1} → statement M
 draw-spec =

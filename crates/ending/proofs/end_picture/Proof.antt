@@ -1,5 +1,3 @@
-use mathlib.Core.Path.{refl, _∙_, ap}
-use native.Mathlib.Omega.{arith}
 use Rattle.ending.proofs.Ends.{picture-ended, again-small}
 use borrow.Author.Needs.{needs}
 use Rattle.ending.proofs.end_picture.Statement.{statement}
@@ -27,10 +25,20 @@ clear-requires : tie.Need-clear-requires
 clear-requires c κs = search needs
 
 next-picture-requires : tie.Need-next-picture-requires
-next-picture-requires c κs = let p = c .before .before .before .before .before .before .before .before .before .pre in let a = c .before .before .before .before .before .before .before .before .before .args in (p .more, rw (c .before .before .before .before .before .before .before .before .again-of .ensures) (again-small (a .s)))
+next-picture-requires c κs =
+    let p = c .before .before .before .before .before .before .before .before .before .pre in
+    let a = c .before .before .before .before .before .before .before .before .before .args in
+    (p .more, rw (c .before .before .before .before .before .before .before .before .again-of .ensures) (again-small (a .s)))
 
 returns : tie.Need-returns
-returns c = let p = c .before .before .before .before .before .before .before .before .before .before .pre in let a = c .before .before .before .before .before .before .before .before .before .before .args in let again = c .before .before .before .before .before .before .before .before .before .again-of .ensures in picture-ended (a .g) (a .s) p (c .before .before .before .before .before .before .change-of .ensures) (c .before .before .before .before .before .before .before .score-of .ensures) (rw again at (c .before .before .before .before .note .ensures)) (rw (c .before .before .before .slot-of .ensures .0) at (c .before .clear .ensures)) (rw again at (c .next-picture .ensures))
+returns c =
+    let p = c .before .before .before .before .before .before .before .before .before .before .pre in
+    let a = c .before .before .before .before .before .before .before .before .before .before .args in
+    let again = c .before .before .before .before .before .before .before .before .before .again-of .ensures in
+    picture-ended (a .g) (a .s) p (c .before .before .before .before .before .before .change-of .ensures)
+    (c .before .before .before .before .before .before .before .score-of .ensures)
+    (rw again at (c .before .before .before .before .note .ensures))
+    (rw (c .before .before .before .slot-of .ensures .0) at (c .before .clear .ensures)) (rw again at (c .next-picture .ensures))
 
 pub end-picture-spec : {M : Type 1} → statement M
 end-picture-spec =

@@ -1,5 +1,4 @@
 use native.Mathlib.Omega.{arith}
-use mathlib.Core.Path.{_∙_, ap}
 use borrow.Author.Needs.{needs}
 use Rattle.ending.proofs.score_of.Statement.{statement}
 use Rattle.ending.proofs.score_of.Tie as tie
@@ -38,7 +37,12 @@ least-of-six-requires : tie.Need-least-of-six-requires
 least-of-six-requires c κs = search needs
 
 returns-2 : tie.Need-returns-2
-returns-2 c = record { early = λ h. absurd (omega arith); later = λ h. rw (← c .before .before .before .before .before .slot-of .ensures .0, ← c .before .before .before .before .slot-of2 .ensures .0, ← c .before .before .before .slot-of3 .ensures .0, ← c .before .before .slot-of4 .ensures .0, ← c .before .slot-of5 .ensures .0) (c .least-of-six .ensures); small = c .before .before .before .before .before .before .before .first .ensures }
+returns-2 c =
+    record {
+      early = λ h. absurd (omega arith);
+      later = λ h. rw (← c .before .before .before .before .before .slot-of .ensures .0, ← c .before .before .before .before .slot-of2 .ensures .0, ← c .before .before .before .slot-of3 .ensures .0, ← c .before .before .slot-of4 .ensures .0, ← c .before .slot-of5 .ensures .0) (c .least-of-six .ensures);
+      small = c .before .before .before .before .before .before .before .first .ensures;
+    }
 
 pub score-of-spec : {M : Type 1} → statement M
 score-of-spec =

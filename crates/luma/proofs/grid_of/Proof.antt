@@ -1,4 +1,3 @@
-use mathlib.Core.Path.{refl}
 use borrow.Author.Needs.{needs}
 use Rattle.luma.proofs.grid_of.Statement.{statement}
 use Rattle.luma.proofs.grid_of.Tie as tie

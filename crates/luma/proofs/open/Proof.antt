@@ -35,10 +35,18 @@ element-write-luma-5 : tie.Need-element-write-luma-5
 element-write-luma-5 c = search needs
 
 returns : tie.Need-returns
-returns c = let o = c .before .before .before .before .before .before .before .before .before .before .args .o in refused-post o (c .before .before .before .before .before .opening-fault .result) (record { width = omega arith; height = omega arith; time = omega arith; pid = omega arith }) (c .before .before .before .before .before .opening-fault .ensures) (c .if1 .taken)
+returns c =
+    let o = c .before .before .before .before .before .before .before .before .before .before .args .o in
+    refused-post o (c .before .before .before .before .before .opening-fault .result)
+    (record { width = omega arith; height = omega arith; time = omega arith; pid = omega arith })
+    (c .before .before .before .before .before .opening-fault .ensures) (c .if1 .taken)
 
 returns-2 : tie.Need-returns-2
-returns-2 c = let o = c .before .before .before .before .before .before .before .before .before .before .args .o in opened-post o (c .before .before .before .before .before .opening-fault .result) (record { width = omega arith; height = omega arith; time = omega arith; pid = omega arith }) (c .before .before .before .before .before .opening-fault .ensures) (c .if1 .left)
+returns-2 c =
+    let o = c .before .before .before .before .before .before .before .before .before .before .args .o in
+    opened-post o (c .before .before .before .before .before .opening-fault .result)
+    (record { width = omega arith; height = omega arith; time = omega arith; pid = omega arith })
+    (c .before .before .before .before .before .opening-fault .ensures) (c .if1 .left)
 
 pub open-spec : {M : Type 1} → statement M
 open-spec =

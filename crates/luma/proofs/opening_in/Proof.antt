@@ -27,7 +27,9 @@ half-requires-4 : tie.Need-half-requires-4
 half-requires-4 c κs = search needs
 
 returns : tie.Need-returns
-returns c = rw (c .before .before .before .before .before .before .half .ensures, c .before .before .before .before .half2 .ensures, c .before .before .half3 .ensures, c .half4 .ensures)
+returns c =
+    rw
+    (c .before .before .before .before .before .before .half .ensures, c .before .before .before .before .half2 .ensures, c .before .before .half3 .ensures, c .half4 .ensures)
 
 pub opening-in-spec : {M : Type 1} → statement M
 opening-in-spec =

@@ -11,7 +11,9 @@ inside-of-requires : tie.Need-inside-of-requires
 inside-of-requires c κs = search needs
 
 returns : tie.Need-returns
-returns c = summarised (c .before .before .args .luma .now) (c .before .load .result) _ (c .before .load .ensures) refl refl refl (c .inside-of .ensures) refl refl
+returns c =
+    summarised (c .before .before .args .luma .now) (c .before .load .result) _ (c .before .load .ensures) refl refl refl
+    (c .inside-of .ensures) refl refl
 
 pub summarise-spec : {M : Type 1} → statement M
 summarise-spec = tie.close (tie.spec load-requires inside-of-requires returns)
