@@ -5,8 +5,8 @@ use native.Mathlib.Decide.{decLt}
 use mathlib.Core.Path.{_≡_, refl, sym, ap, _∙_}
 use mathlib.Core.List.{List, [], _∷_, _++_}
 use mathlib.Core.Bool.{Bool, true, false}
-use lib.ListN.{length, getD, set, length-append, length-drop, length-set, List·getD-append}
-use lib.Seq.{getD-set-other, getD-at, drop-append-le}
+use lib.ListN.{length, getD, length-append, length-drop, List·getD-append}
+use lib.Seq.{getD-append-add, drop-append-le}
 use lib.Dec.{ltb}
 use Rattle.rules.specs.declared.Opening.{Opening}
 use Rattle.rules.specs.Bytes.{pick, byte}
@@ -23,13 +23,14 @@ use Rattle.rules.proofs.Laws.Bounds.{bad-few}
 use Rattle.units.specs.declared.Arriving.{Arriving}
 use Rattle.units.specs.State as table
 use Rattle.units.specs.Contract.{Full}
+use Rattle.units.proofs.Steps.{stands-kept}
 use Rattle.carried.specs.Carried.{Holds, wantedIn, arrivingIn}
-use Rattle.carried.proofs.Held.{Bytes, First, held-new, held-old, held-kept, time-held, wanted-held, start-held}
+use Rattle.carried.proofs.Held.{First, held-kept, time-held, wanted-held, start-held}
 use Rattle.capture.specs.declared.Meter.{Meter}
 use Rattle.capture.specs.State.{Under, Core, Stands}
 use Rattle.capture.specs.Contract.{Taken, Shows, Counted, Accounts}
-use Rattle.capture.proofs.Fits.{longer, fits-byte, fits-skip, size-is, stored-more, fine-skip}
-use Rattle.capture.proofs.Steps.{refuse, units-same, bad-same, wanted-same, table-set}
+use Rattle.capture.proofs.Fits.{fits-skip, size-is, stored-more, fine-skip}
+use Rattle.capture.proofs.Steps.{refuse, units-same, bad-same, wanted-same, Placed}
 use Rattle.capture.proofs.Ends.{goes-on}
 
 as-suc : {r : List ℕ} {k m : ℕ} → 0 < m → Split r k m → Split r k (suc (m - 1))
@@ -154,77 +155,84 @@ module _ {w : List ℕ} {s : Meter} {o : Opening} {joined : List ℕ} (start : 2
           first = λ h i x y. absurd (omega arith);
         })
 
-  -- ---- one of a packet's first four bytes
+  -- ---- bytes that do not pass the end of the packet under way
 
-  module _ (w′ : List ℕ) (r : Meter) (b : ℕ) (small : b < 256) (put : w′ ≡ set w (64 + (58 + s .got)) b) (room : s .fed < 268435456) (some : 0 < s .left) (early : s .got < 4) where
-    fits-one : length (unfinished joined) + length (b ∷ []) ≤ frameSize (unfinished joined)
-    fits-one = let i = inside some in let g = v .going some in omega arith
+  module _ (t : List ℕ) (some : 0 < s .left) (within : s .got + length t ≤ 188) where
+    fits-t : length (unfinished joined) + length t ≤ frameSize (unfinished joined)
+    fits-t = let i = inside some in let g = v .going some in omega arith
 
-    room-one : s .fed + length (b ∷ []) ≤ 268435456
-    room-one = omega arith
+    fits-on : length (unfinished joined ++ t) ≤ frameSize (unfinished joined ++ t)
+    fits-on = fits-skip (unfinished joined) t (omega (arith, there)) fits-t
 
-    fits-b : length (unfinished joined ++ b ∷ []) ≤ frameSize (unfinished joined ++ b ∷ [])
-    fits-b = fits-byte joined b
+    cur-t : length (cur ++ t) ≡ s .got + length t
+    cur-t = let l = length-append cur t in let c = cur-length some in omega arith
 
-    cur-one : length (cur ++ b ∷ []) ≡ s .got + 1
-    cur-one = let l = longer cur b in let c = cur-length some in omega arith
+  -- ---- bytes of a packet's first four
 
-    stays : reached 188 (joined ++ b ∷ []) ≡ reached 188 joined
+  module _ (w′ : List ℕ) (r : Meter) (t : List ℕ) (any : 0 < length t) (pl : Placed w (58 + s .got) t w′) (room : s .fed + length t ≤ 268435456) (some : 0 < s .left)
+      (early : s .got + length t ≤ 4) where
+    less : s .got + length t ≤ 188
+    less = omega arith
+
+    stays : reached 188 (joined ++ t) ≡ reached 188 joined
     stays =
-        more-short 188 (omega arith) (omega arith) joined start k (s .left) (v .split) (b ∷ []) fits-b (omega (arith, cur-one))
+        more-short 188 (omega arith) (omega arith) joined start k (s .left) (v .split) t (fits-on t some less) (omega (arith, (cur-t t some less)))
         ∙ sym (now-short 188 (omega arith) (omega arith) joined start k (s .left) (v .split) (omega (arith, cur-length some)))
 
     stood : length w′ ≡ 3840
-    stood = ap length put ∙ length-set w (64 + (58 + s .got)) b ∙ u .table .size
+    stood = pl .size ∙ u .table .size
 
     table-now : table.Stands w′ (s .units) (wholeWanted o joined)
-    table-now = rw put (table-set (58 + s .got) b (omega arith) (u .table))
+    table-now = stands-kept (pl .size) (λ i h. pl .above i (omega arith)) (u .table)
 
-    held : (i : ℕ) → i < s .got + 1 → i < 4 → Holds w′ (58 + i) (byte (cur ++ b ∷ []) i)
-    held i h x = rw put (go (decLt i (s .got)))
+    held : (i : ℕ) → i < s .got + length t → i < 4 → Holds w′ (58 + i) (byte (cur ++ t) i)
+    held i h x = go (decLt i (s .got))
       where
-        go : Dec (i < s .got) → Holds (set w (64 + (58 + s .got)) b) (58 + i) (byte (cur ++ b ∷ []) i)
+        go : Dec (i < s .got) → Holds w′ (58 + i) (byte (cur ++ t) i)
         go (yes d) =
-            rw (List·getD-append cur (b ∷ []) 0 i (omega (arith, cur-length some)))
-            (held-old (58 + s .got) b (λ e. omega arith) (v .first some i d x))
+            rw (List·getD-append cur t 0 i (omega (arith, cur-length some))) (held-kept w′ (pl .below (64 + (58 + i)) (omega arith)) (v .first some i d x))
         go (no d) =
-            let e : s .got ≡ i = omega arith in
-            rw (getD-at cur b [] 0 i (cur-length some ∙ e), e) (held-new w (58 + i) b (omega (arith, u .table .size)) small)
+            let j : ℕ = i - s .got in
+            let c = cur-length some in
+            let e : i ≡ length cur + j = omega arith in
+            let f : 58 + s .got + j ≡ 58 + i = omega arith in
+            let g : byte (cur ++ t) i ≡ byte t j = ap (byte (cur ++ t)) e ∙ getD-append-add cur t j 0 in
+            rw g (rw f at (pl .new j (omega arith)))
 
-    byte-taken : tooManyUnits o (joined ++ b ∷ []) ≡ none → r .status ≡ s .status → r .pid ≡ s .pid → r .fed ≡ s .fed + 1 → r .at ≡ s .at + 1 → r .size ≡ s .size →
-        r .got ≡ s .got + 1 → r .left ≡ s .left → r .frames ≡ s .frames → r .skipped ≡ s .skipped → r .bad ≡ s .bad → r .units ≡ s .units → Stands w′ r o (joined ++ b ∷ [])
-    byte-taken n rs rp rf ra rz rg rl rn rk rb ru =
+    bytes-taken : tooManyUnits o (joined ++ t) ≡ none → r .status ≡ s .status → r .pid ≡ s .pid → r .fed ≡ s .fed + length t → r .at ≡ s .at + length t → r .size ≡ s .size →
+        r .got ≡ s .got + length t → r .left ≡ s .left → r .frames ≡ s .frames → r .skipped ≡ s .skipped → r .bad ≡ s .bad → r .units ≡ s .units → Stands w′ r o (joined ++ t)
+    bytes-taken n rs rp rf ra rz rg rl rn rk rb ru =
         goes-on
-        (taken (b ∷ []) w′ r room-one fits-one rs rp rf ra rz rn rk (λ i x. rw put (getD-set-other w (64 + (58 + s .got)) (64 + i) b 0 (λ e. omega arith))) n
-        (rb ∙ u .bad ∙ sym (bad-same o joined (b ∷ []) stays))
-        (rw (ru, wanted-same o joined (b ∷ []) stays) table-now)
+        (taken t w′ r room (fits-t t some less) rs rp rf ra rz rn rk (λ i x. pl .below (64 + i) (omega arith)) n
+        (rb ∙ u .bad ∙ sym (bad-same o joined t stays))
+        (rw (ru, wanted-same o joined t stays) table-now)
         (record {
           behind = k;
-          split = rw rl (split-more (b ∷ []) w r room-one fits-one);
-          going = λ h. let l = longer (unfinished joined) b in let g = v .going some in omega arith;
+          split = rw rl (split-more t w r room (fits-t t some less));
+          going = λ h. let l = length-append (unfinished joined) t in let g = v .going some in omega arith;
           part = λ h. omega arith;
-          first = λ h i x y. rw (cur-more (b ∷ []) w r room-one fits-one) (held i (omega arith) y);
+          first = λ h i x y. rw (cur-more t w r room (fits-t t some less)) (held i (omega arith) y);
         }))
-        (let e = inside some in let g = v .going some in let l = longer (unfinished joined) b in let z = size-append (unfinished joined) (b ∷ []) (omega (arith, there)) in omega arith)
+        (let e = inside some in let g = v .going some in let l = length-append (unfinished joined) t in let z = size-append (unfinished joined) t (omega (arith, there)) in omega arith)
 
     -- before its byte 3
-    pub packet-early : (s .got ≡ 3 → ⊥) → r .status ≡ s .status → r .pid ≡ s .pid → r .fed ≡ s .fed + 1 → r .at ≡ s .at + 1 → r .size ≡ s .size →
-        r .got ≡ s .got + 1 → r .left ≡ s .left → r .frames ≡ s .frames → r .skipped ≡ s .skipped → r .bad ≡ s .bad → r .units ≡ s .units → Stands w′ r o (joined ++ b ∷ [])
+    pub packet-early : (s .got + length t ≡ 4 → ⊥) → r .status ≡ s .status → r .pid ≡ s .pid → r .fed ≡ s .fed + length t → r .at ≡ s .at + length t → r .size ≡ s .size →
+        r .got ≡ s .got + length t → r .left ≡ s .left → r .frames ≡ s .frames → r .skipped ≡ s .skipped → r .bad ≡ s .bad → r .units ≡ s .units → Stands w′ r o (joined ++ t)
     packet-early ne =
-        byte-taken
-        (units-same o joined (b ∷ [])
-        (more-short 4 (omega arith) (omega arith) joined start k (s .left) (v .split) (b ∷ []) fits-b (omega (arith, cur-one, ne))
+        bytes-taken
+        (units-same o joined t
+        (more-short 4 (omega arith) (omega arith) joined start k (s .left) (v .split) t (fits-on t some less) (omega (arith, (cur-t t some less), ne))
         ∙ sym (now-short 4 (omega arith) (omega arith) joined start k (s .left) (v .split) (omega (arith, cur-length some))))
         (clear .units))
 
-    module _ (three : s .got ≡ 3) where
+    module _ (four : s .got + length t ≡ 4) where
       q : Packet
-      q = packetAt joined k (cur ++ b ∷ [])
+      q = packetAt joined k (cur ++ t)
 
-      shown-now : reached 4 (joined ++ b ∷ []) ≡ passed joined k ++ q ∷ []
+      shown-now : reached 4 (joined ++ t) ≡ passed joined k ++ q ∷ []
       unfolding q
       shown-now =
-          more-first 4 (omega arith) (omega arith) joined start k (s .left - 1) (as-suc some (v .split)) (b ∷ []) fits-b (omega (arith, cur-one)) (omega (arith, cur-one))
+          more-first 4 (omega arith) (omega arith) joined start k (s .left - 1) (as-suc some (v .split)) t (fits-on t some less) (omega (arith, (cur-t t some less))) (omega (arith, (cur-t t some less)))
 
       passed-4 : reached 4 joined ≡ passed joined k
       passed-4 = now-short 4 (omega arith) (omega arith) joined start k (s .left) (v .split) (omega (arith, cur-length some))
@@ -235,39 +243,39 @@ module _ {w : List ℕ} {s : Meter} {o : Opening} {joined : List ℕ} (start : 2
       nine-passed : nine o (passed joined k) ≡ none
       nine-passed = ap (nine o) (sym passed-4) ∙ sym (nine-of o joined) ∙ clear .units
 
-      units-next : tooManyUnits o (joined ++ b ∷ []) ≡ nine o (passed joined k ++ q ∷ [])
-      units-next = nine-of o (joined ++ b ∷ []) ∙ ap (nine o) shown-now
+      units-next : tooManyUnits o (joined ++ t) ≡ nine o (passed joined k ++ q ∷ [])
+      units-next = nine-of o (joined ++ t) ∙ ap (nine o) shown-now
 
-      first-four : First w′ (cur ++ b ∷ [])
+      first-four : First w′ (cur ++ t)
       first-four = record { held = λ i h. held i (omega arith) h }
 
-      wanted-is : {t : Bool} → t ≡ wantedIn w′ (s .pid) → t ≡ isWanted (kind o (q .bytes))
+      wanted-is : {b : Bool} → b ≡ wantedIn w′ (s .pid) → b ≡ isWanted (kind o (q .bytes))
       unfolding q
       wanted-is e = e ∙ wanted-held first-four o (s .pid) (u .pid)
 
       -- it is not of PID
-      pub packet-other : {t : Bool} → t ≡ wantedIn w′ (s .pid) → t ≡ false → r .status ≡ s .status → r .pid ≡ s .pid → r .fed ≡ s .fed + 1 → r .at ≡ s .at + 1 → r .size ≡ s .size →
-          r .got ≡ s .got + 1 → r .left ≡ s .left → r .frames ≡ s .frames → r .skipped ≡ s .skipped → r .bad ≡ s .bad → r .units ≡ s .units → Stands w′ r o (joined ++ b ∷ [])
-      packet-other e f = byte-taken (units-next ∙ nine-no o (passed joined k) q (sym (wanted-is e) ∙ f) ∙ nine-passed)
+      pub packet-other : {b : Bool} → b ≡ wantedIn w′ (s .pid) → b ≡ false → r .status ≡ s .status → r .pid ≡ s .pid → r .fed ≡ s .fed + length t → r .at ≡ s .at + length t → r .size ≡ s .size →
+          r .got ≡ s .got + length t → r .left ≡ s .left → r .frames ≡ s .frames → r .skipped ≡ s .skipped → r .bad ≡ s .bad → r .units ≡ s .units → Stands w′ r o (joined ++ t)
+      packet-other e f = bytes-taken (units-next ∙ nine-no o (passed joined k) q (sym (wanted-is e) ∙ f) ∙ nine-passed)
 
-      module _ {t g : Bool} {p : Arriving} (e : t ≡ wantedIn w′ (s .pid)) (f : t ≡ true) (a : p ≡ arrivingIn w′) (full : Full (s .units) (p .start) g) where
+      module _ {b g : Bool} {p : Arriving} (e : b ≡ wantedIn w′ (s .pid)) (f : b ≡ true) (a : p ≡ arrivingIn w′) (full : Full (s .units) (p .start) g) where
         asked : g ≡ ltb 750 (length (beginnings (wantedOf o (passed joined k) ++ q ∷ [])))
         unfolding q
         asked =
             full w′ (wantedOf o (passed joined k)) q (rw a (start-held first-four)) (rw (← passed-188, ← wanted-of o joined) table-now)
 
-        nine-is : tooManyUnits o (joined ++ b ∷ []) ≡ pick g (fault 9 (q .place + 3)) none
+        nine-is : tooManyUnits o (joined ++ t) ≡ pick g (fault 9 (q .place + 3)) none
         nine-is = units-next ∙ nine-yes o (passed joined k) q (sym (wanted-is e) ∙ f) nine-passed ∙ rw (← asked)
 
-        pub packet-room : g ≡ false → r .status ≡ s .status → r .pid ≡ s .pid → r .fed ≡ s .fed + 1 → r .at ≡ s .at + 1 → r .size ≡ s .size →
-            r .got ≡ s .got + 1 → r .left ≡ s .left → r .frames ≡ s .frames → r .skipped ≡ s .skipped → r .bad ≡ s .bad → r .units ≡ s .units → Stands w′ r o (joined ++ b ∷ [])
-        packet-room n = byte-taken (nine-is ∙ rw n)
+        pub packet-room : g ≡ false → r .status ≡ s .status → r .pid ≡ s .pid → r .fed ≡ s .fed + length t → r .at ≡ s .at + length t → r .size ≡ s .size →
+            r .got ≡ s .got + length t → r .left ≡ s .left → r .frames ≡ s .frames → r .skipped ≡ s .skipped → r .bad ≡ s .bad → r .units ≡ s .units → Stands w′ r o (joined ++ t)
+        packet-room n = bytes-taken (nine-is ∙ rw n)
 
-        pub packet-full : g ≡ true → r .status ≡ 9 → r .place ≡ s .fed → Stands w′ r o (joined ++ b ∷ [])
+        pub packet-full : g ≡ true → r .status ≡ 9 → r .place ≡ s .fed + (length t - 1) → Stands w′ r o (joined ++ t)
         unfolding q
         packet-full n rs rp =
             refuse 9 (q .place + 3) stood (u .good)
-            (next-units o joined (b ∷ []) start fits-b (few (b ∷ []) w r room-one fits-one) clear (fine-more (b ∷ []) w r room-one fits-one) ∙ nine-is ∙ rw n)
+            (next-units o joined t start (fits-on t some less) (few t w r room (fits-t t some less)) clear (fine-more t w r room (fits-t t some less)) ∙ nine-is ∙ rw n)
             (omega arith)
             rs
             (rp ∙ omega (arith, place-now, v .going some))
@@ -275,19 +283,10 @@ module _ {w : List ℕ} {s : Meter} {o : Opening} {joined : List ℕ} (start : 2
   -- ---- bytes behind a packet's first four
 
   module _ (t : List ℕ) (room : s .fed + length t ≤ 268435456) (some : 0 < s .left) (late : 4 ≤ s .got) (within : s .got + length t ≤ 188) where
-    fits-t : length (unfinished joined) + length t ≤ frameSize (unfinished joined)
-    fits-t = let i = inside some in let g = v .going some in omega arith
-
-    fits-on : length (unfinished joined ++ t) ≤ frameSize (unfinished joined ++ t)
-    fits-on = fits-skip (unfinished joined) t (omega (arith, there)) fits-t
-
-    cur-t : length (cur ++ t) ≡ s .got + length t
-    cur-t = let l = length-append cur t in let c = cur-length some in omega arith
-
     -- the packet shows what it showed
     shown-t : reached 4 (joined ++ t) ≡ passed joined k ++ packetAt joined k (cur ++ t) ∷ []
     shown-t =
-        more-first 4 (omega arith) (omega arith) joined start k (s .left - 1) (as-suc some (v .split)) t fits-on (omega (arith, cur-t)) (omega (arith, cur-t))
+        more-first 4 (omega arith) (omega arith) joined start k (s .left - 1) (as-suc some (v .split)) t (fits-on t some within) (omega (arith, (cur-t t some within))) (omega (arith, (cur-t t some within)))
 
     shown-old : reached 4 joined ≡ passed joined k ++ packetAt joined k cur ∷ []
     shown-old =
@@ -310,22 +309,22 @@ module _ {w : List ℕ} {s : Meter} {o : Opening} {joined : List ℕ} (start : 2
         r .got ≡ s .got + length t → r .left ≡ s .left → r .frames ≡ s .frames → r .skipped ≡ s .skipped → r .bad ≡ s .bad → r .units ≡ s .units → Stands w r o (joined ++ t)
     packet-on r less rs rp rf ra rz rg rl rn rk rb ru =
         goes-on
-        (taken t w r room fits-t rs rp rf ra rz rn rk (λ i x. refl) units-still
+        (taken t w r room (fits-t t some within) rs rp rf ra rz rn rk (λ i x. refl) units-still
         (rb ∙ u .bad ∙ sym (bad-same o joined t same))
         (rw (ru, wanted-same o joined t same) (u .table))
         (record {
           behind = k;
-          split = rw rl (split-more t w r room fits-t);
+          split = rw rl (split-more t w r room (fits-t t some within));
           going = λ h. let l = length-append (unfinished joined) t in let g = v .going some in omega arith;
           part = λ h. omega arith;
           first = λ h i x y.
-              rw (cur-more t w r room fits-t, List·getD-append cur t 0 i (omega (arith, cur-length some))) (v .first some i (omega arith) y);
+              rw (cur-more t w r room (fits-t t some within), List·getD-append cur t 0 i (omega (arith, cur-length some))) (v .first some i (omega arith) y);
         }))
         (let e = inside some in let g = v .going some in let l = length-append (unfinished joined) t in let z = size-append (unfinished joined) t (omega (arith, there)) in omega arith)
       where
         same : reached 188 (joined ++ t) ≡ reached 188 joined
         same =
-            more-short 188 (omega arith) (omega arith) joined start k (s .left) (v .split) t fits-on (omega (arith, cur-t)) ∙ sym passed-now
+            more-short 188 (omega arith) (omega arith) joined start k (s .left) (v .split) t (fits-on t some within) (omega (arith, (cur-t t some within))) ∙ sym passed-now
 
     -- it is whole: a is the state before it is accounted, r the one after
     module _ (full : s .got + length t ≡ 188) (a r : Meter) (w′ : List ℕ) (ac : Accounts w a w′ r) where
@@ -335,7 +334,7 @@ module _ {w : List ℕ} {s : Meter} {o : Opening} {joined : List ℕ} (start : 2
       whole-now : reached 188 (joined ++ t) ≡ passed joined k ++ p ∷ []
       unfolding p
       whole-now =
-          more-first 188 (omega arith) (omega arith) joined start k (s .left - 1) (as-suc some (v .split)) t fits-on (omega (arith, cur-t)) (omega (arith, cur-t))
+          more-first 188 (omega arith) (omega arith) joined start k (s .left - 1) (as-suc some (v .split)) t (fits-on t some within) (omega (arith, (cur-t t some within))) (omega (arith, (cur-t t some within)))
 
       shows : Shows w p
       unfolding p
@@ -370,7 +369,7 @@ module _ {w : List ℕ} {s : Meter} {o : Opening} {joined : List ℕ} (start : 2
       packet-whole ast ap′ af aa az al an ak ab au =
           let e = ac .same in
           let c = counted ap′ ab au in
-          taken t w′ r room fits-t (ap (λ (x : Meter). x .status) e ∙ ast) (ap (λ (x : Meter). x .pid) e ∙ ap′) (ap (λ (x : Meter). x .fed) e ∙ af) (ap (λ (x : Meter). x .at) e ∙ aa)
+          taken t w′ r room (fits-t t some within) (ap (λ (x : Meter). x .status) e ∙ ast) (ap (λ (x : Meter). x .pid) e ∙ ap′) (ap (λ (x : Meter). x .fed) e ∙ af) (ap (λ (x : Meter). x .at) e ∙ aa)
           (ap (λ (x : Meter). x .size) e ∙ az)
           (ap (λ (x : Meter). x .frames) e ∙ an)
           (ap (λ (x : Meter). x .skipped) e ∙ ak)
@@ -388,7 +387,7 @@ module _ {w : List ℕ} {s : Meter} {o : Opening} {joined : List ℕ} (start : 2
         where
           split-next : r .left ≡ s .left - 1 → Split (unfinished joined ++ t) (k + 1) (r .left)
           split-next e =
-              let m = split-more t w r room fits-t in
+              let m = split-more t w r room (fits-t t some within) in
               let c = m .count in
               let l = length-append (unfinished joined) t in
               let g = v .going some in

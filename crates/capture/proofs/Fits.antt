@@ -7,27 +7,12 @@ use mathlib.Core.List.{List, [], _∷_, _++_}
 use lib.ListN.{length, length-append, List·getD-append}
 use Rattle.rules.specs.Bytes.{word32}
 use Rattle.rules.specs.Frames.{microseconds, storedLength, frameSize}
-use Rattle.rules.specs.Capture.{unfinished}
 use Rattle.rules.proofs.Laws.Frames.{size-least, size-append}
-use Rattle.rules.proofs.Laws.Onward.{unfinished-short}
 use Rattle.rules.proofs.Laws.Clear.{Fine}
+use Rattle.capture.specs.Contract.{Within}
 
 pub longer : (r : List ℕ) (b : ℕ) → length (r ++ b ∷ []) ≡ length r + 1
 longer r b = length-append r (b ∷ [])
-
-pub fits-byte : (s : List ℕ) (b : ℕ) → length (unfinished s ++ b ∷ []) ≤ frameSize (unfinished s ++ b ∷ [])
-fits-byte s b = go (decLe 16 (length (unfinished s)))
-  where
-    go : Dec (16 ≤ length (unfinished s)) → length (unfinished s ++ b ∷ []) ≤ frameSize (unfinished s ++ b ∷ [])
-    go (yes g) =
-        let e = size-append (unfinished s) (b ∷ []) g in
-        let l = longer (unfinished s) b in
-        let k = unfinished-short s in
-        omega arith
-    go (no g) =
-        let e = size-least (unfinished s ++ b ∷ []) in
-        let l = longer (unfinished s) b in
-        omega arith
 
 pub fits-skip : (r t : List ℕ) → 16 ≤ length r → length r + length t ≤ frameSize r → length (r ++ t) ≤ frameSize (r ++ t)
 fits-skip r t h k =
@@ -57,32 +42,39 @@ module _ (r t : List ℕ) where
         size = λ k. let e = stored-more h in let g = f .size h in omega arith;
       }
 
-module _ (r : List ℕ) (b : ℕ) (f : Fine r) where
-  fine-time : (length r ≡ 7 → ⊥) → 8 ≤ length (r ++ b ∷ []) → microseconds (r ++ b ∷ []) ≤ 999999
-  fine-time n k =
-      let l = longer r b in
-      let h : 8 ≤ length r = omega (arith, n) in
-      let e = micro-more r (b ∷ []) h in
-      let g = f .time h in
-      omega arith
+-- bytes up to the end of a field
+module _ (r t : List ℕ) (size : ℕ) (f : Fine r) (v : Within (length r) size (length t)) where
+  total : length (r ++ t) ≡ length r + length t
+  total = length-append r t
 
-  pub fine-byte : (length r ≡ 7 → ⊥) → (length r ≡ 11 → ⊥) → Fine (r ++ b ∷ [])
-  fine-byte n m =
-      record {
-        time = fine-time n;
-        size = λ k.
-            let l = longer r b in
-            let h : 12 ≤ length r = omega (arith, m) in
-            let e = stored-more r (b ∷ []) h in
-            let g = f .size h in
-            omega arith;
-      }
+  pub fine-run : (length (r ++ t) ≡ 8 → microseconds (r ++ t) ≤ 999999) → (length (r ++ t) ≡ 12 → storedLength (r ++ t) ≤ 65535) → Fine (r ++ t)
+  fine-run a b = record { time = λ k. time k (decLe 8 (length r)); size = λ k. stored k (decLe 12 (length r)) }
+    where
+      time : 8 ≤ length (r ++ t) → Dec (8 ≤ length r) → microseconds (r ++ t) ≤ 999999
+      time k (yes h) = let e = micro-more r t h in let g = f .time h in omega arith
+      time k (no h) = let m = v .time (omega arith) in a (omega (arith, total))
 
-  pub fine-seven : length r ≡ 7 → microseconds (r ++ b ∷ []) ≤ 999999 → Fine (r ++ b ∷ [])
-  fine-seven e h = record { time = λ k. h; size = λ k. absurd (omega (arith, longer r b)) }
+      stored : 12 ≤ length (r ++ t) → Dec (12 ≤ length r) → storedLength (r ++ t) ≤ 65535
+      stored k (yes h) = let e = stored-more r t h in let g = f .size h in omega arith
+      stored k (no h) = let m = v .stored (omega arith) in b (omega (arith, total))
 
-  pub fine-eleven : length r ≡ 11 → storedLength (r ++ b ∷ []) ≤ 65535 → Fine (r ++ b ∷ [])
-  fine-eleven e h = record { time = fine-time (λ k. omega arith); size = λ k. h }
+  -- at the end of L the microseconds are behind
+  pub time-behind : length (r ++ t) ≡ 12 → 0 < length t → microseconds (r ++ t) ≤ 999999
+  time-behind e some = go (decLe 8 (length r))
+    where
+      go : Dec (8 ≤ length r) → microseconds (r ++ t) ≤ 999999
+      go (yes h) = let e = micro-more r t h in let g = f .time h in omega arith
+      go (no h) = let m = v .time (omega arith) in absurd (omega (arith, total))
 
-  pub micro-fine : length r ≡ 11 → microseconds (r ++ b ∷ []) ≤ 999999
-  micro-fine e = fine-time (λ k. omega arith) (omega (arith, longer r b))
+  pub fits-run : length r < frameSize r → (12 ≤ length r → size ≡ storedLength r) → length (r ++ t) ≤ frameSize (r ++ t)
+  fits-run short known = go (decLe 16 (length r))
+    where
+      go : Dec (16 ≤ length r) → length (r ++ t) ≤ frameSize (r ++ t)
+      go (yes h) =
+          let e = size-append r t h in
+          let k = known (omega arith) in
+          let g = f .size (omega arith) in
+          let i = size-is r in
+          let m = v .frame h (omega arith) (omega arith) in
+          omega (arith, total)
+      go (no h) = let m = v .header (omega arith) in let e = size-least (r ++ t) in omega (arith, total)

@@ -20,7 +20,7 @@ use Rattle.carried.specs.Carried.{badIn, wantedIn, arrivingIn}
 use Rattle.carried.proofs.Held.{First, bad-held, wanted-held, start-held, counter-held}
 use Rattle.capture.specs.declared.Meter.{Meter}
 use Rattle.capture.specs.State.{Under, Core, Stands}
-use Rattle.capture.specs.Contract.{Skips, Settles, Accounts, Shows, Counted, recounted, Taken}
+use Rattle.capture.specs.Contract.{Skips, Within, Settles, Accounts, Shows, Counted, recounted, Taken}
 use Rattle.capture.proofs.Fits.{size-is}
 use Rattle.capture.proofs.Steps.{at-live}
 use Rattle.capture.proofs.Body.{known, got-part, behind-packets, packet-on, packet-whole}
@@ -167,11 +167,11 @@ module _ {w : List ℕ} {s : Meter} (r : Meter) where
             };
       }
 
--- ---- of one byte more
+-- ---- of a few bytes more
 
-pub at-more : {w : List ℕ} {s : Meter} {o : Opening} {joined : List ℕ} {x : ℕ} → 24 ≤ length joined → Core w s o (wholeFrames joined) (unfinished joined) joined → 58 ≤ s .at →
-    Under w s (unfinished joined) → x ≡ (s .at + 1) % 2 ^ 64 → x ≡ s .at + 1
-at-more start u far v e =
+pub at-more : {w : List ℕ} {s : Meter} {o : Opening} {joined : List ℕ} {x n : ℕ} → 24 ≤ length joined → Core w s o (wholeFrames joined) (unfinished joined) joined → 58 ≤ s .at →
+    Under w s (unfinished joined) → n ≤ 4 → x ≡ (s .at + n) % 2 ^ 64 → x ≡ s .at + n
+at-more start u far v few e =
     let kn = known start u far v in
     let f = kn .1 in
     let g = kn .2 in
@@ -179,3 +179,14 @@ at-more start u far v e =
 
 pub nonzero : {n : ℕ} → (n ≡ 0 → ⊥) → 0 < n
 nonzero h = omega (arith, h)
+
+-- fewer bytes end no later
+pub within-less : {at size n m : ℕ} → Within at size n → m ≤ n → Within at size m
+within-less v h =
+    record {
+      time = λ k. let e = v .time k in omega arith;
+      stored = λ k. let e = v .stored k in omega arith;
+      header = λ k. let e = v .header k in omega arith;
+      front = let e = v .front in omega arith;
+      frame = λ a b c. let e = v .frame a b c in omega arith;
+    }

@@ -19,7 +19,7 @@ use Rattle.units.proofs.Steps.{stands-kept, none-yet}
 use Rattle.carried.proofs.Held.{held-kept}
 use Rattle.capture.specs.declared.Meter.{Meter}
 use Rattle.capture.specs.State.{loaded, Under, Core, Head, Stands, refused, head, live, Means}
-use Rattle.capture.specs.Contract.{Opened, FeedPost, Goes, Steps, Replies, Stored}
+use Rattle.capture.specs.Contract.{Opened, FeedPost, Goes, Replies, Stored}
 use Rattle.capture.proofs.Steps.{at-live, refuse}
 
 -- ---- a refusal stays
@@ -59,14 +59,10 @@ pub goes-none : (w : List ℕ) (s : Meter) → Goes w s [] w s
 goes-none w s o joined h = rw append-nil h
 
 -- a step that takes the n bytes from i on
-pub goes-more : (w w′ w″ : List ℕ) (s r t : Meter) (piece : List ℕ) (i n : ℕ) → Goes w s (take i piece) w′ r → Steps w′ r (getD piece i 0) n w″ t → 0 < n →
-    i + n ≤ length piece → Goes w s (take (i + n) piece) w″ t
-goes-more w w′ w″ s r t piece i n g f p h o joined k =
-    let size : length (take n (drop i piece)) ≡ n = length-take-le n (drop i piece) (simp length-drop (omega arith)) in
-    let first : getD (take n (drop i piece)) 0 0 ≡ getD piece i 0 =
-    getD-take n (drop i piece) 0 0 p ∙ getD-drop i piece 0 0 ∙ ap (λ (z : ℕ). getD piece z 0) (add-zero i) in
-    rw (take-add i n piece, ← append-assoc joined (take i piece) (take n (drop i piece)))
-    (f (take n (drop i piece)) size first o (joined ++ take i piece) (g o joined k))
+pub goes-more : (w w′ w″ : List ℕ) (s r t : Meter) (piece : List ℕ) (i n : ℕ) → Goes w s (take i piece) w′ r → Goes w′ r (take n (drop i piece)) w″ t →
+    Goes w s (take (i + n) piece) w″ t
+goes-more w w′ w″ s r t piece i n g f o joined k =
+    rw (take-add i n piece, ← append-assoc joined (take i piece) (take n (drop i piece))) (f o (joined ++ take i piece) (g o joined k))
 
 -- nothing is left of the piece
 pub goes-all : (w w′ : List ℕ) (s r : Meter) (piece : List ℕ) (i : ℕ) → Goes w s (take i piece) w′ r → length piece ≤ i → Goes w s piece w′ r
@@ -84,11 +80,19 @@ goes-over w w′ s r t piece i g h k less ts tp o joined x =
     rw (append-assoc joined (take i piece) (drop i piece), take-append-drop i piece) at
     (limit t (drop i piece) h k (simp length-drop (omega arith)) ts tp (g o joined x))
 
--- a string of one byte
-pub single : (chunk : List ℕ) (b : ℕ) → length chunk ≡ 1 → getD chunk 0 0 ≡ b → chunk ≡ b ∷ []
-single [] b p e = absurd (omega arith)
-single (x ∷ []) b p e = ap (λ (z : ℕ). z ∷ []) e
-single (x ∷ y ∷ chunk) b p e = absurd (omega arith)
+-- of the bytes that a step takes: how many they are, and one byte alone
+pub many-taken : (piece : List ℕ) (i n : ℕ) → i + n ≤ length piece → length (take n (drop i piece)) ≡ n
+many-taken piece i n h = length-take-le n (drop i piece) (simp length-drop (omega arith))
+
+pub one-taken : (piece : List ℕ) (i n : ℕ) → n ≡ 1 → i + n ≤ length piece → take n (drop i piece) ≡ getD piece i 0 ∷ []
+one-taken piece i n e h =
+    single (take n (drop i piece)) (getD piece i 0) (many-taken piece i n h ∙ e)
+    (getD-take n (drop i piece) 0 0 (omega arith) ∙ getD-drop i piece 0 0 ∙ ap (λ (z : ℕ). getD piece z 0) (add-zero i))
+  where
+    single : (chunk : List ℕ) (b : ℕ) → length chunk ≡ 1 → getD chunk 0 0 ≡ b → chunk ≡ b ∷ []
+    single [] b p e = absurd (omega arith)
+    single (x ∷ []) b p e = ap (λ (z : ℕ). z ∷ []) e
+    single (x ∷ y ∷ chunk) b p e = absurd (omega arith)
 
 -- ---- the answers
 

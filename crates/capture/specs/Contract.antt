@@ -39,13 +39,18 @@ pub record FeedPost (before : List ℕ) (piece : List ℕ) (a : Answer) (after :
 abbrev pub Goes : List ℕ → Meter → List ℕ → List ℕ → Meter → Type 0
 Goes w s chunk w′ r = (o : Opening) (joined : List ℕ) → Stands w s o joined → Stands w′ r o (joined ++ chunk)
 
--- by any n bytes, of which the first is b
-abbrev pub Steps : List ℕ → Meter → ℕ → ℕ → List ℕ → Meter → Type 0
-Steps w s b n w′ r = (chunk : List ℕ) → length chunk ≡ n → getD chunk 0 0 ≡ b → Goes w s chunk w′ r
-
 -- by any n bytes
 abbrev pub Skips : List ℕ → Meter → ℕ → List ℕ → Meter → Type 0
 Skips w s n w′ r = (chunk : List ℕ) → length chunk ≡ n → Goes w s chunk w′ r
+
+-- n bytes more, of a frame of which at bytes are there, end no later than the field that they are in: microseconds, L, the header, the first 42
+-- bytes, the frame
+pub record Within (at size n : ℕ) : Type 0 where
+  pub time : at < 8 → at + n ≤ 8
+  pub stored : at < 12 → at + n ≤ 12
+  pub header : at < 16 → at + n ≤ 16
+  pub front : at + n ≤ 58
+  pub frame : 16 ≤ at → size ≤ 65535 → at < 16 + size → at + n ≤ 16 + size
 
 -- how many bytes the next step may take, of those that are there
 pub record Span (s : Meter) (left : ℕ) (n : ℕ) : Type 0 where
@@ -53,10 +58,10 @@ pub record Span (s : Meter) (left : ℕ) (n : ℕ) : Type 0 where
   pub fits : n ≤ left
   pub limit : s .fed + n ≤ 268435456
   pub file : s .fed < 24 → n ≡ 1
-  pub front : s .at < 58 → n ≡ 1
-  pub early : 0 < s .left → s .got < 4 → n ≡ 1
-  pub packet : 0 < s .left → 4 ≤ s .got → s .got < 188 → s .got + n ≤ 188
-  pub body : s .left ≡ 0 → 58 ≤ s .at → s .size ≤ 65535 → s .at < 16 + s .size → s .at + n ≤ 16 + s .size
+  pub front : 24 ≤ s .fed → s .at < 58 → Within (s .at) (s .size) n
+  pub early : 24 ≤ s .fed → 58 ≤ s .at → 0 < s .left → s .got < 4 → s .got + n ≤ 4
+  pub packet : 24 ≤ s .fed → 58 ≤ s .at → 0 < s .left → 4 ≤ s .got → s .got < 188 → s .got + n ≤ 188
+  pub body : 24 ≤ s .fed → 58 ≤ s .at → s .left ≡ 0 → s .size ≤ 65535 → s .at < 16 + s .size → s .at + n ≤ 16 + s .size
 
 -- bytes of a frame that are taken in, and do not pass its end
 pub record Taken (w : List ℕ) (s : Meter) (o : Opening) (joined chunk : List ℕ) : Type 0 where

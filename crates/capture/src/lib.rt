@@ -1,14 +1,14 @@
 // The capture side's engine over its lent words. Bytes come in pieces, cut anywhere. Of a frame (document 01: record) the header and the first 42
 // bytes are collected, of a packet (document 01: cell) the first four; all other bytes are skipped at once, as many as there are.
-// A packet is accounted when its last byte is there; refusal 9 stands when its byte 3 is.
+// Collected bytes are taken up to the end of a field at once. A packet is accounted when its last byte is there; refusal 9 stands when its byte 3 is.
 use rules::Answer;
 use units::Units;
 ghost use mathlib.Core.Path.{_≡_};
 ghost use mathlib.Core.List.{List, [], _∷_, _++_};
 ghost use Prim.Native.Nat.{ℕ, _+_, _*_, _%_, _<_, _≤_};
-ghost use lib.ListN.{length, getD, set};
+ghost use lib.ListN.{length, take, drop};
 ghost use Rattle.capture.specs.State.{loaded};
-ghost use Rattle.capture.specs.Contract.{Opened, FeedPost, Goes, Steps, Skips, Span, Settles, Accounts, Replies, refusedAs, Stored};
+ghost use Rattle.capture.specs.Contract.{Opened, FeedPost, Goes, Skips, Within, Span, Settles, Accounts, Replies, refusedAs, Stored};
 
 // The engine's numbers. fed: bytes fed; at: bytes of the frame that are there; size: its stored length L; left: packets of the frame that are not
 // whole yet; got: bytes of the first of these that are there; frames, skipped, bad: counts.
@@ -129,31 +129,32 @@ fn settle(words: &[u64; 3840], s: Meter) -> Meter
     r
 }
 
-// A byte of a frame's header, or of the first 42 behind it.
-fn on_front(words: &mut [u64; 3840], s: Meter, b: u8) -> Meter
-    requires { ⌜ (s .status ≡ 0) × (24 ≤ s .fed) × (s .fed < 268435456) × (s .at < 58) ⌝ }
-    ensures { λ r. ⌜ Goes (now (words .entry)) s (b ∷ []) (now (words .exit)) r ⌝ }
+// Bytes of a frame's header, or of the first 42 behind it: n of them, from byte i of the piece on, up to the end of a field at most.
+fn on_front(words: &mut [u64; 3840], s: Meter, piece: &[u8], i: usize, n: u64) -> Meter
+    requires { ⌜ (s .status ≡ 0) × (24 ≤ s .fed) × (s .fed + n ≤ 268435456) × (0 < n) × Within (s .at) (s .size) n × (i + n ≤ length (now piece)) ⌝ }
+    ensures { λ r. ⌜ Goes (now (words .entry)) s (take n (drop i (now (piece .entry)))) (now (words .exit)) r ⌝ }
 {
     let at = s.at;
-    carried::put(words, at, carried::wide(b));
+    carried::carry(words, at, piece, i, n);
+    let end = at + n;
     let mut r = s;
-    r.fed = s.fed + 1;
-    r.at = at + 1;
-    if at == 7 {
+    r.fed = s.fed + n;
+    r.at = end;
+    if end == 8 {
         if 999999 < carried::word_in(words, 4) {
-            return refused(s, 7, s.fed);
+            return refused(s, 7, s.fed + (n - 1));
         }
         return r;
     }
-    if at == 11 {
+    if end == 12 {
         let size = carried::word_in(words, 8);
         if 65535 < size {
-            return refused(s, 8, s.fed);
+            return refused(s, 8, s.fed + (n - 1));
         }
         r.size = size;
         return r;
     }
-    if at == 57 {
+    if end == 58 {
         r.left = carried::packets_in(words, s.size);
         r.got = 0;
         return settle(words, r);
@@ -161,23 +162,23 @@ fn on_front(words: &mut [u64; 3840], s: Meter, b: u8) -> Meter
     settle(words, r)
 }
 
-// One of a packet's first four bytes.
-fn on_packet(words: &mut [u64; 3840], s: Meter, b: u8) -> Meter
-    requires { ⌜ (s .status ≡ 0) × (24 ≤ s .fed) × (s .fed < 268435456) × (58 ≤ s .at) × (0 < s .left) × (s .got < 4) ⌝ }
-    ensures { λ r. ⌜ Goes (now (words .entry)) s (b ∷ []) (now (words .exit)) r ⌝ }
+// Bytes of a packet's first four: n of them, from byte i of the piece on.
+fn on_packet(words: &mut [u64; 3840], s: Meter, piece: &[u8], i: usize, n: u64) -> Meter
+    requires { ⌜ (s .status ≡ 0) × (24 ≤ s .fed) × (s .fed + n ≤ 268435456) × (0 < n) × (58 ≤ s .at) × (0 < s .left) × (s .got + n ≤ 4) × (i + n ≤ length (now piece)) ⌝ }
+    ensures { λ r. ⌜ Goes (now (words .entry)) s (take n (drop i (now (piece .entry)))) (now (words .exit)) r ⌝ }
 {
     let got = s.got;
-    carried::put(words, 58 + got, carried::wide(b));
+    carried::carry(words, 58 + got, piece, i, n);
     let mut r = s;
-    r.fed = s.fed + 1;
-    r.at = std::num::wrapping_add_u64(s.at, 1);
-    r.got = got + 1;
-    if got == 3 {
+    r.fed = s.fed + n;
+    r.at = std::num::wrapping_add_u64(s.at, n);
+    r.got = got + n;
+    if got + n == 4 {
         if carried::wanted_in(words, s.pid) {
             let p = carried::arriving_in(words);
             let u = s.units;
             if units::is_full(u, p.start) {
-                return refused(s, 9, s.fed);
+                return refused(s, 9, s.fed + (n - 1));
             }
             return r;
         }
@@ -252,6 +253,30 @@ fn least(a: u64, b: u64, c: u64) -> u64
     r
 }
 
+// How many bytes of a frame's first 58 come up to the end of a field: the microseconds, L, the header, the first 42 bytes or the frame.
+fn front_span(at: u64, size: u64) -> u64
+    requires { ⌜ at < 58 ⌝ }
+    ensures { λ r. ⌜ (0 < r) × Within at size r ⌝ }
+{
+    if at < 8 {
+        return 8 - at;
+    }
+    if at < 12 {
+        return 12 - at;
+    }
+    if at < 16 {
+        return 16 - at;
+    }
+    let end = std::num::wrapping_add_u64(16, size);
+    if 58 <= end {
+        return 58 - at;
+    }
+    if end <= at {
+        return 1;
+    }
+    end - at
+}
+
 // How many bytes the next step takes, of those that are left of the piece.
 fn span(s: Meter, left: u64) -> u64
     requires { ⌜ (0 < left) × (s .fed < 268435456) ⌝ }
@@ -260,10 +285,10 @@ fn span(s: Meter, left: u64) -> u64
     if s.fed < 24 {
         return 1;
     }
-    if s.at < 58 {
-        return 1;
-    }
     let room = 268435456 - s.fed;
+    if s.at < 58 {
+        return least(front_span(s.at, s.size), left, room);
+    }
     if s.left == 0 {
         let end = std::num::wrapping_add_u64(16, s.size);
         if end <= s.at {
@@ -272,7 +297,7 @@ fn span(s: Meter, left: u64) -> u64
         return least(end - s.at, left, room);
     }
     if s.got < 4 {
-        return 1;
+        return least(4 - s.got, left, room);
     }
     if 188 <= s.got {
         return 1;
@@ -280,22 +305,22 @@ fn span(s: Meter, left: u64) -> u64
     least(188 - s.got, left, room)
 }
 
-// The next n bytes, of which the first is b.
-fn step(words: &mut [u64; 3840], s: Meter, left: u64, b: u8, n: u64) -> Meter
-    requires { ⌜ (s .status ≡ 0) × (s .fed < 268435456) × Span s left n ⌝ }
-    ensures { λ r. ⌜ Steps (now (words .entry)) s b n (now (words .exit)) r ⌝ }
+// The next n bytes of the piece, from byte i on.
+fn step(words: &mut [u64; 3840], s: Meter, left: u64, piece: &[u8], i: usize, n: u64) -> Meter
+    requires { ⌜ (s .status ≡ 0) × Span s left n × (i + n ≤ length (now piece)) ⌝ }
+    ensures { λ r. ⌜ Goes (now (words .entry)) s (take n (drop i (now (piece .entry)))) (now (words .exit)) r ⌝ }
 {
     if s.fed < 24 {
-        return on_file(words, s, b);
+        return on_file(words, s, piece[i]);
     }
     if s.at < 58 {
-        return on_front(words, s, b);
+        return on_front(words, s, piece, i, n);
     }
     if s.left == 0 {
         return skip_frame(words, s, n);
     }
     if s.got < 4 {
-        return on_packet(words, s, b);
+        return on_packet(words, s, piece, i, n);
     }
     skip_packet(words, s, n)
 }
@@ -315,7 +340,7 @@ fn run(words: &mut [u64; 3840], start: Meter, piece: &[u8]) -> Meter
         }
         let left = (piece.len() - i) as u64;
         let n = span(s, left);
-        s = step(words, s, left, piece[i], n);
+        s = step(words, s, left, piece, i, n);
         i += n as usize;
     }
     s

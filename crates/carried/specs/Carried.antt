@@ -1,9 +1,9 @@
 -- What the carried bytes say, as the words hold them. A word holds one byte; of any other number its lowest eight bits count.
-use Prim.Native.Nat.{ℕ, _+_, _-_, _*_, _/_, _%_, _<_}
+use Prim.Native.Nat.{ℕ, _+_, _-_, _*_, _/_, _%_, _≤_, _<_}
 use mathlib.Core.Path.{_≡_}
 use mathlib.Core.List.{List}
 use mathlib.Core.Bool.{Bool, false, not, _&&_}
-use lib.ListN.{getD}
+use lib.ListN.{length, getD}
 use lib.Dec.{leb, ltb, eqb}
 use Rattle.rules.specs.Bytes.{pick}
 use Rattle.units.specs.declared.Arriving.{Arriving}
@@ -12,6 +12,13 @@ use Rattle.units.specs.declared.Arriving.{Arriving}
 pub record Holds (w : List ℕ) (at x : ℕ) : Type 0 where
   pub is : getD w (64 + at) 0 ≡ x
   pub small : x < 256
+
+-- `carry`: the words before, the first place, the piece, the first byte and how many, the words after
+pub record Carried (w : List ℕ) (at : ℕ) (piece : List ℕ) (from n : ℕ) (w′ : List ℕ) : Type 0 where
+  pub size : length w′ ≡ length w
+  pub new : length w ≡ 3840 → (i : ℕ) → i < n → Holds w′ (at + i) (getD piece (from + i) 0)
+  pub below : (k : ℕ) → k < 64 + at → getD w′ k 0 ≡ getD w k 0
+  pub above : (k : ℕ) → 64 + at + n ≤ k → getD w′ k 0 ≡ getD w k 0
 
 abbrev pub byteIn : List ℕ → ℕ → ℕ
 byteIn w i = getD w (64 + i) 0 % 256

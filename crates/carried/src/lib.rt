@@ -2,9 +2,9 @@
 // first four of a packet (document 01: cell) in 122 to 125. What they say is read off them here; every function is safe on any words.
 use units::Arriving;
 ghost use mathlib.Core.Path.{_≡_};
-ghost use Prim.Native.Nat.{_+_, _<_};
-ghost use lib.ListN.{set};
-ghost use Rattle.carried.specs.Carried.{byteIn, wordIn, networkIn, magicIn, carriesIn, packetsIn, badIn, wantedIn, arrivingIn};
+ghost use Prim.Native.Nat.{_+_, _≤_, _<_};
+ghost use lib.ListN.{length, set};
+ghost use Rattle.carried.specs.Carried.{Carried, byteIn, wordIn, networkIn, magicIn, carriesIn, packetsIn, badIn, wantedIn, arrivingIn};
 
 pub fn wide(b: u8) -> u64
     ensures { λ r. ⌜ (r ≡ b) × (r < 256) ⌝ }
@@ -18,6 +18,20 @@ pub fn put(words: &mut [u64; 3840], at: u64, x: u64)
 {
     let i = (64 + at) as usize;
     words[i] = x;
+}
+
+// Copies n bytes of a piece, from its byte `from` on, to the words from 64 + at on.
+pub fn carry(words: &mut [u64; 3840], at: u64, piece: &[u8], from: usize, n: u64)
+    requires { ⌜ (at + n ≤ 62) × (from + n ≤ length (now piece)) ⌝ }
+    ensures { λ _. ⌜ Carried (now (words .entry)) at (now (piece .entry)) from n (now (words .exit)) ⌝ }
+{
+    let base = (64 + at) as usize;
+    let count = n as usize;
+    let mut j: usize = 0;
+    while j < count {
+        words[base + j] = wide(piece[from + j]);
+        j += 1;
+    }
 }
 
 pub fn byte_in(words: &[u64; 3840], i: usize) -> u64

@@ -40,24 +40,24 @@ sub-left c = omega arith
 span-requires : tie.Need-span-requires Inv-loop μ-loop
 span-requires c κs = (omega arith, c .if2 .left)
 
-shared-slice-read-step : tie.Need-shared-slice-read-step Inv-loop μ-loop
-shared-slice-read-step c = omega arith
-
 step-requires : tie.Need-step-requires Inv-loop μ-loop
-step-requires c κs = (c .before .before .before .before .before .if1 .left, c .before .before .before .if2 .left, c .before .before .span .ensures)
+step-requires c κs =
+    let e = c .before .span .ensures in
+    let f = e .fits in
+    (c .before .before .before .before .if1 .left, e, omega arith)
 
 add-i : tie.Need-add-i Inv-loop μ-loop
-add-i c = let f = c .before .before .before .span .ensures .fits in omega arith
+add-i c = let f = c .before .before .span .ensures .fits in omega arith
 
 loop-less : tie.Need-loop-less Inv-loop μ-loop
-loop-less c = let e = c .before .before .before .span .ensures in let f = e .fits in let g = e .some in omega arith
+loop-less c = let e = c .before .before .span .ensures in let f = e .fits in let g = e .some in omega arith
 
 loop-again : tie.Need-loop-again Inv-loop μ-loop
 loop-again c =
-    let l = c .before .before .before .before .before .before .before .before .before .loop in
-    let e = c .before .before .before .span .ensures in
+    let l = c .before .before .before .before .before .before .before .before .loop in
+    let e = c .before .before .span .ensures in
     let f = e .fits in
-    (omega arith, goes-more _ _ _ _ _ _ _ (l .i) _ (l .inv .1) (c .step .ensures) (e .some) (omega arith))
+    (omega arith, goes-more _ _ _ _ _ _ _ (l .i) _ (l .inv .1) (c .step .ensures))
 
 returns-3 : tie.Need-returns-3 Inv-loop μ-loop
 returns-3 c = let l = c .before .loop in goes-all _ _ _ _ _ (l .i) (l .inv .1) (omega arith)
@@ -74,7 +74,6 @@ run-spec =
     returns-2
     sub-left
     span-requires
-    shared-slice-read-step
     step-requires
     add-i
     loop-less

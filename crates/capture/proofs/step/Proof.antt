@@ -1,8 +1,6 @@
 use native.Mathlib.Omega.{arith}
-use mathlib.Core.Path.{_∙_}
-use Rattle.capture.proofs.Pieces.{single}
+use Rattle.capture.proofs.Pieces.{many-taken, one-taken}
 use Rattle.capture.proofs.Parts.{nonzero}
-use borrow.Author.Needs.{needs}
 use Rattle.capture.proofs.step.Statement.{statement}
 use Rattle.capture.proofs.step.Tie as tie
 use Rattle.capture.proofs.step.Reads as reads
@@ -13,53 +11,62 @@ use Rattle.capture.proofs.on_packet.Reads as on-packet-reads
 use Rattle.capture.proofs.skip_frame.Reads as skip-frame-reads
 use Rattle.capture.proofs.skip_packet.Reads as skip-packet-reads
 
+shared-slice-read-on-file : tie.Need-shared-slice-read-on-file
+shared-slice-read-on-file c =
+    let k = c .before .before .before .before .before .pre in
+    omega (arith, k .1 .some, k .2)
+
 on-file-requires : tie.Need-on-file-requires
-on-file-requires c κs = search needs
+on-file-requires c κs = (c .before .before .before .before .before .pre .0, c .before .before .if1 .taken)
 
 returns : tie.Need-returns
-returns c chunk p e o joined st =
-    let k = c .before .before .before .before .pre in
-    rw (single chunk _ (p ∙ k .2 .file (c .before .before .if1 .taken)) e) (c .on-file .ensures o joined st)
+returns c o joined st =
+    let k = c .before .before .before .before .before .before .pre in
+    rw (one-taken _ _ _ (k .1 .file (c .before .before .before .if1 .taken)) (k .2)) (c .on-file .ensures o joined st)
 
 on-front-requires : tie.Need-on-front-requires
-on-front-requires c κs = search needs
+on-front-requires c κs =
+    let k = c .before .before .before .before .before .before .pre in
+    (k .0, c .before .before .before .if1 .left, k .1 .limit, k .1 .some, k .1 .front (c .before .before .before .if1 .left) (c .before .if2 .taken), k .2)
 
 returns-2 : tie.Need-returns-2
-returns-2 c chunk p e o joined st =
-    let k = c .before .before .before .before .before .before .pre in
-    rw (single chunk _ (p ∙ k .2 .front (c .before .before .if2 .taken)) e) (c .on-front .ensures o joined st)
+returns-2 c =
+    c .on-front .ensures
 
 skip-frame-requires : tie.Need-skip-frame-requires
 skip-frame-requires c κs =
-    let k = c .before .before .before .before .before .before .before .pre in
-    (k .0, c .before .before .before .before .before .if1 .left, k .2 .limit, c .before .before .before .if2 .left, c .before .if3 .taken, k .2 .body (c .before .if3 .taken) (c .before .before .before .if2 .left))
+    let k = c .before .before .before .before .before .before .before .before .pre in
+    (k .0, c .before .before .before .before .before .if1 .left, k .1 .limit, c .before .before .before .if2 .left, c .before .if3 .taken, k .1 .body (c .before .before .before .before .before .if1 .left) (c .before .before .before .if2 .left) (c .before .if3 .taken))
 
 returns-3 : tie.Need-returns-3
-returns-3 c chunk p e =
-    c .skip-frame .ensures chunk p
+returns-3 c =
+    c .skip-frame .ensures _ (many-taken _ _ _ (c .before .before .before .before .before .before .before .before .before .pre .2))
 
 on-packet-requires : tie.Need-on-packet-requires
-on-packet-requires c κs = search needs
+on-packet-requires c κs =
+    let k = c .before .before .before .before .before .before .before .before .before .before .pre in
+    let l = nonzero (c .before .before .before .if3 .left) in
+    (k .0, c .before .before .before .before .before .before .before .if1 .left, k .1 .limit, k .1 .some, c .before .before .before .before .before .if2 .left, l, k .1 .early (c .before .before .before .before .before .before .before .if1 .left) (c .before .before .before .before .before .if2 .left) l (c .before .if4 .taken), k .2)
 
 returns-4 : tie.Need-returns-4
-returns-4 c chunk p e o joined st =
-    let k = c .before .before .before .before .before .before .before .before .before .before .pre in
-    rw (single chunk _ (p ∙ k .2 .early (omega (arith, c .before .before .before .before .if3 .left)) (c .before .before .if4 .taken)) e) (c .on-packet .ensures o joined st)
+returns-4 c =
+    c .on-packet .ensures
 
 skip-packet-requires : tie.Need-skip-packet-requires
 skip-packet-requires c κs =
-    let k = c .before .before .before .before .before .before .before .before .before .pre in
+    let k = c .before .before .before .before .before .before .before .before .before .before .pre in
     let l = nonzero (c .before .before .before .if3 .left) in
-    (k .0, c .before .before .before .before .before .before .before .if1 .left, k .2 .limit, c .before .before .before .before .before .if2 .left, l, c .before .if4 .left, k .2 .packet l (c .before .if4 .left))
+    (k .0, c .before .before .before .before .before .before .before .if1 .left, k .1 .limit, c .before .before .before .before .before .if2 .left, l, c .before .if4 .left, k .1 .packet (c .before .before .before .before .before .before .before .if1 .left) (c .before .before .before .before .before .if2 .left) l (c .before .if4 .left))
 
 returns-5 : tie.Need-returns-5
-returns-5 c chunk p e =
-    c .skip-packet .ensures chunk p
+returns-5 c =
+    c .skip-packet .ensures _ (many-taken _ _ _ (c .before .before .before .before .before .before .before .before .before .before .before .pre .2))
 
 pub step-spec : {M : Type 1} → statement M
 step-spec =
     tie.close
     (tie.spec
+    shared-slice-read-on-file
     on-file-requires
     returns
     on-front-requires
