@@ -12,7 +12,7 @@ use rules::SceneRow;
 use rules::UnitRow;
 
 // Some bytes at a place; the answer is the place behind them.
-fn put_text(buffer: &mut [u8], at: usize, text: &[u8]) -> usize
+pub fn put_text(buffer: &mut [u8], at: usize, text: &[u8]) -> usize
     requires { ⌜ at + length (now text) ≤ length (now buffer) ⌝ }
     ensures { λ r. ⌜ (r ≡ at + length (now (text .entry))) × (now (buffer .exit) ≡ written at (now (text .entry)) (now (buffer .entry))) ⌝ }
 {
@@ -62,7 +62,7 @@ fn put_field(buffer: &mut [u8], at: usize, n: u64) -> usize
 }
 
 // Each number with a space before it.
-fn put_fields(buffer: &mut [u8], at: usize, numbers: &[u64]) -> usize
+pub fn put_fields(buffer: &mut [u8], at: usize, numbers: &[u64]) -> usize
     requires { ⌜ at + 21 * length (now numbers) ≤ length (now buffer) ⌝ }
     ensures { λ r. ⌜ (r ≡ at + length (fields (now (numbers .entry)))) × (r ≤ at + 21 * length (now (numbers .entry))) × (now (buffer .exit) ≡ written at (fields (now (numbers .entry))) (now (buffer .entry))) ⌝ }
 {

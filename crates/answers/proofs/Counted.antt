@@ -1,0 +1,10 @@
+-- A count of bytes at the front of a string.
+use Prim.Native.Nat.{ℕ, _≤_}
+use mathlib.Core.Path.{_≡_, sym}
+use mathlib.Core.List.{List}
+use lib.ListN.{length}
+use lib.Seq.{length-take-le}
+use Rattle.io.specs.Counts.{Counts}
+
+pub counted : (n : ℕ) (s : List ℕ) → n ≤ length s → Counts n s
+counted n s h = (h, sym (length-take-le n s h))

@@ -1,0 +1,189 @@
+//! Runs two programs on the same random inputs and compares what they print.
+//!
+//!     compare replay AGAIN REPLAY FIRST COUNT    scripts of every kind: `AGAIN replay` beside REPLAY
+//!     compare limit AGAIN REPLAY                 the scripts about the 256 MiB of a capture
+//!     compare show AGAIN SHOW FIRST COUNT        records: `AGAIN show` beside SHOW
+//!
+//! AGAIN is the independent program, which also makes the inputs. Two threads run at once. The last lines say how much was compared and
+//! how often each refusal was given; the exit status is 1 if any output differs.
+#![forbid(unsafe_code)]
+
+use std::collections::BTreeMap;
+use std::io::{self, Write};
+use std::process::{Command, ExitCode, Stdio};
+use std::sync::atomic::{AtomicU64, Ordering};
+use std::sync::Mutex;
+use std::thread;
+
+/// What was compared so far.
+#[derive(Default)]
+struct Tally {
+    runs: u64,
+    lines: u64,
+    refusals: BTreeMap<u64, u64>,
+    different: Vec<String>,
+}
+
+impl Tally {
+    /// Takes in one run: its name, and what each of the two programs printed.
+    fn take(&mut self, name: String, again: &[u8], ours: &[u8]) {
+        self.runs += 1;
+        if trimmed(again) != trimmed(ours) {
+            self.different.push(format!("{name}: {}", first_difference(again, ours)));
+            return;
+        }
+        for line in lines(ours) {
+            self.lines += 1;
+            if let Some(number) = refusal(line) {
+                *self.refusals.entry(number).or_default() += 1;
+            }
+        }
+    }
+}
+
+fn lines(text: &[u8]) -> impl Iterator<Item = &[u8]> {
+    text.split(|&byte| byte == b'\n').filter(|line| !line.is_empty())
+}
+
+/// The lines without trailing blanks.
+fn trimmed(text: &[u8]) -> Vec<&[u8]> {
+    text.split(|&byte| byte == b'\n').map(<[u8]>::trim_ascii_end).collect()
+}
+
+fn first_difference(again: &[u8], ours: &[u8]) -> String {
+    let short = |line: Option<&&[u8]>| match line {
+        Some(line) => String::from_utf8_lossy(&line[..line.len().min(80)]).into_owned(),
+        None => "nothing".to_string(),
+    };
+    let (again, ours) = (trimmed(again), trimmed(ours));
+    let place = again.iter().zip(&ours).take_while(|(a, b)| a == b).count();
+    format!("line {}: `{}` beside our `{}`", place + 1, short(again.get(place)), short(ours.get(place)))
+}
+
+/// The number behind the word `refused`.
+fn refusal(line: &[u8]) -> Option<u64> {
+    let line = std::str::from_utf8(&line[..line.len().min(60)]).ok()?;
+    let mut words = line.split(' ').skip_while(|word| *word != "refused").skip(1);
+    words.next()?.parse().ok()
+}
+
+/// What a program prints on some input.
+fn output(program: &str, arguments: &[&str], input: &[u8]) -> io::Result<Vec<u8>> {
+    let mut child =
+        Command::new(program).args(arguments).stdin(Stdio::piped()).stdout(Stdio::piped()).spawn()?;
+    let mut pipe = child.stdin.take().expect("a pipe");
+    let result = thread::scope(|scope| {
+        // A program may stop reading early: a run that ends inside a script.
+        scope.spawn(move || pipe.write_all(input));
+        child.wait_with_output()
+    })?;
+    if !result.status.success() {
+        return Err(io::Error::other(format!("{program} ended with {}", result.status)));
+    }
+    Ok(result.stdout)
+}
+
+/// One input, made by `make` and run through both programs.
+fn compare(make: [&str; 3], again: &[&str], ours: &str) -> io::Result<(Vec<u8>, Vec<u8>)> {
+    let program = again[0];
+    let wanted: Vec<&str> = make.into_iter().filter(|word| !word.is_empty()).collect();
+    let input = output(program, &wanted, b"")?;
+    Ok((output(program, &again[1..], &input)?, output(ours, &[], &input)?))
+}
+
+/// Runs every case on two threads, and tallies.
+fn run_all(cases: u64, case: impl Fn(u64) -> io::Result<(String, Vec<u8>, Vec<u8>)> + Sync) -> Tally {
+    let next = AtomicU64::new(0);
+    let tally = Mutex::new(Tally::default());
+    thread::scope(|scope| {
+        for _ in 0..2 {
+            scope.spawn(|| loop {
+                let number = next.fetch_add(1, Ordering::Relaxed);
+                if number >= cases {
+                    return;
+                }
+                let result = case(number);
+                let mut tally = tally.lock().expect("a tally");
+                match result {
+                    Ok((name, again, ours)) => tally.take(name, &again, &ours),
+                    Err(error) => tally.different.push(format!("case {number}: {error}")),
+                }
+            });
+        }
+    });
+    tally.into_inner().expect("a tally")
+}
+
+/// The kinds of scripts, as the independent program names them.
+fn kinds(again: &str) -> io::Result<Vec<String>> {
+    let text = output(again, &["kinds"], b"")?;
+    let text = String::from_utf8_lossy(&text).into_owned();
+    let names = text.lines().filter_map(|line| line.split(':').next());
+    Ok(names.filter(|name| *name != "limit").map(str::to_string).collect())
+}
+
+fn report(what: &str, of: &str, tally: &Tally) -> ExitCode {
+    let refusals: Vec<String> = tally.refusals.iter().map(|(number, count)| format!("{number}:{count}")).collect();
+    println!("{what}: {} compared, {} {of}; refusals {}", tally.runs, tally.lines, refusals.join(" "));
+    for difference in tally.different.iter().take(20) {
+        println!("{what}: DIFFERENT {difference}");
+    }
+    if tally.different.is_empty() && tally.runs > 0 {
+        return ExitCode::SUCCESS;
+    }
+    println!("{what}: {} of the runs differ or failed", tally.different.len());
+    ExitCode::FAILURE
+}
+
+fn run(arguments: &[&str]) -> io::Result<ExitCode> {
+    match *arguments {
+        ["replay", again, ours, first, count] => {
+            let (first, count) = (number(first)?, number(count)?);
+            let kinds = kinds(again)?;
+            let tally = run_all(count, |case| {
+                let kind = &kinds[(case % kinds.len() as u64) as usize];
+                let seed = (first + case / kinds.len() as u64).to_string();
+                let (a, b) = compare(["make", &seed, kind], &[again, "replay"], ours)?;
+                Ok((format!("seed {seed} kind {kind}"), a, b))
+            });
+            let last = first + count.saturating_sub(1) / kinds.len() as u64;
+            println!("scripts: seeds {first} to {last} of the kinds {}", kinds.join(" "));
+            Ok(report("scripts", "calls", &tally))
+        }
+        ["limit", again, ours] => {
+            let tally = run_all(4, |case| {
+                let seed = case.to_string();
+                let (a, b) = compare(["make", &seed, "limit"], &[again, "replay"], ours)?;
+                Ok((format!("seed {seed} kind limit"), a, b))
+            });
+            Ok(report("limit", "calls", &tally))
+        }
+        ["show", again, ours, first, count] => {
+            let (first, count) = (number(first)?, number(count)?);
+            let tally = run_all(count, |case| {
+                let seed = (first + case).to_string();
+                let (a, b) = compare(["records", &seed, ""], &[again, "show"], ours)?;
+                Ok((format!("record of seed {seed}"), a, b))
+            });
+            println!("records: seeds {first} to {}", first + count.saturating_sub(1));
+            Ok(report("records", "lines", &tally))
+        }
+        _ => Err(io::Error::other("compare replay|limit|show AGAIN OURS [FIRST COUNT]")),
+    }
+}
+
+fn number(word: &str) -> io::Result<u64> {
+    word.parse().map_err(|_| io::Error::other(format!("{word} is no number")))
+}
+
+fn main() -> ExitCode {
+    let arguments: Vec<String> = std::env::args().skip(1).collect();
+    let arguments: Vec<&str> = arguments.iter().map(String::as_str).collect();
+    match run(&arguments) {
+        Ok(code) => code,
+        Err(error) => {
+            eprintln!("compare: {error}");
+            ExitCode::from(2)
+        }
+    }
+}
