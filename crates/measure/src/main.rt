@@ -1,0 +1,111 @@
+// measure W H D PID CAPTURE LUMA RECORD: a capture and luma pictures go in, a record comes out.
+//
+// CAPTURE and LUMA are files; one of them may be `-`, standard input. Prints `sealed LENGTH` and writes RECORD, or prints `refused NUMBER PLACE` and writes no file.
+mod arguments;
+mod side;
+mod write;
+
+use arguments::Asked;
+use libc::STDERR_FILENO;
+use rules::Answer;
+use rules::Opening;
+
+fn usage() {
+    io::write_all(
+        STDERR_FILENO,
+        b"usage: measure W H D PID CAPTURE LUMA RECORD (D: microseconds a picture; CAPTURE or LUMA may be -, standard input)\n",
+    );
+}
+
+// How such a sample is usually mended.
+fn hint(number: u64) {
+    match number {
+        5 => {
+            io::write_all(
+                STDERR_FILENO,
+                b"hint: CAPTURE is no little-endian libpcap file with microseconds; editcap -F pcap IN OUT makes one\n",
+            );
+        }
+        6 => {
+            io::write_all(
+                STDERR_FILENO,
+                b"hint: CAPTURE is not of Ethernet; capture on one Ethernet interface (tcpdump -i NAME), and editcap -F pcap IN OUT\n",
+            );
+        }
+        12 => {
+            io::write_all(
+                STDERR_FILENO,
+                b"hint: no packet of CAPTURE has this PID; the video's may be another\n",
+            );
+        }
+        _ => {}
+    }
+}
+
+// Seals, and writes the record or says why there is none. No record is longer than the buffer: 64 bytes, and 32 for each of 750 units and 250 scenes.
+fn seal(capture: &[u64; 3840], luma: &[u64; 1600], name: &[u8]) {
+    let mut buffer = [0u8; 32064];
+    let a = sample::seal(capture, luma, &mut buffer);
+    match a {
+        Answer::Done(length) => {
+            if 32064 < length {
+                return;
+            }
+            let n = io::count(length as isize, &buffer);
+            if write::write_record(name, &buffer[..n]) {
+                answers::print_answer(b"sealed", b"refused", a, b"\n");
+            }
+        }
+        Answer::Refused { number, place } => {
+            answers::print_answer(b"sealed", b"refused", a, b"\n");
+            hint(number);
+        }
+    }
+}
+
+// Opens a sample, feeds both sides and seals.
+fn measure(o: Opening, capture_name: &[u8], luma_name: &[u8], record_name: &[u8]) {
+    let mut capture = [0u64; 3840];
+    let mut luma = [0u64; 1600];
+    let mut sums = [0u32; 240];
+    let mut bins = [0u32; 720];
+    let mut picture = [0u8; 14104];
+    sample::open(
+        &mut capture,
+        &mut luma,
+        &mut sums,
+        &mut bins,
+        &mut picture,
+        o,
+    );
+    if !side::feed_capture(capture_name, &mut capture) {
+        return;
+    }
+    if !side::feed_luma(luma_name, &mut luma, &mut sums, &mut bins, &mut picture) {
+        return;
+    }
+    seal(&capture, &luma, record_name);
+}
+
+fn main() {
+    if os::arg_count() != 8 {
+        usage();
+        return;
+    }
+    let asked = arguments::opening();
+    let Asked::Given(o) = asked else {
+        usage();
+        return;
+    };
+    let mut capture = io::buffer();
+    let c = os::arg(5, &mut capture);
+    let mut luma = io::buffer();
+    let l = os::arg(6, &mut luma);
+    let mut record = io::buffer();
+    let r = os::arg(7, &mut record);
+    if arguments::is_dash(&capture[..c]) && arguments::is_dash(&luma[..l]) {
+        usage();
+        return;
+    }
+    measure(o, &capture[..c], &luma[..l], &record[..r]);
+}

@@ -1,0 +1,106 @@
+// Feeding a side from a file or from standard input, until its end or until it is refused: what comes later is ignored.
+use crate::arguments::is_dash;
+use libc::STDIN_FILENO;
+use rules::Answer;
+
+// How a turn of feeding ended: 0 where more may come, 1 where the side has had its last byte, 2 where reading failed.
+const MORE: u8 = 0;
+
+const LAST: u8 = 1;
+
+const FAILED: u8 = 2;
+
+fn turn_of(a: Answer) -> u8 {
+    match a {
+        Answer::Done(_) => MORE,
+        Answer::Refused { .. } => LAST,
+    }
+}
+
+// A side's descriptor, or -1 after a line on standard error.
+fn open_side(name: &[u8]) -> i32 {
+    if is_dash(name) {
+        return STDIN_FILENO;
+    }
+    let fd = os::open_read(name);
+    if fd < 0 {
+        os::fail(name);
+    }
+    fd
+}
+
+// One piece of the capture.
+fn capture_turn(fd: i32, name: &[u8], capture: &mut [u64; 3840]) -> u8 {
+    let mut piece = io::large_buffer();
+    let got = libc::read(fd, &mut piece);
+    if got < 0 {
+        os::fail(name);
+        return FAILED;
+    }
+    if got == 0 {
+        return LAST;
+    }
+    let n = io::count(got, &piece);
+    turn_of(sample::feed_capture(capture, &piece[..n]))
+}
+
+// One piece of the luma.
+fn luma_turn(
+    fd: i32,
+    name: &[u8],
+    luma: &mut [u64; 1600],
+    sums: &mut [u32; 240],
+    bins: &mut [u32; 720],
+    picture: &mut [u8; 14104],
+) -> u8 {
+    let mut piece = io::large_buffer();
+    let got = libc::read(fd, &mut piece);
+    if got < 0 {
+        os::fail(name);
+        return FAILED;
+    }
+    if got == 0 {
+        return LAST;
+    }
+    let n = io::count(got, &piece);
+    turn_of(sample::feed_luma(luma, sums, bins, picture, &piece[..n]))
+}
+
+// Feeds the whole capture; answers whether it could be read. A proved loop has to end, and nothing says that a file does: the turns are counted down
+// from a number that no run uses up.
+pub fn feed_capture(name: &[u8], capture: &mut [u64; 3840]) -> bool {
+    let fd = open_side(name);
+    if fd < 0 {
+        return false;
+    }
+    let mut turn = MORE;
+    let mut turns = u64::MAX;
+    while turns > 0 && turn == MORE {
+        turn = capture_turn(fd, name, capture);
+        turns -= 1;
+    }
+    libc::close(fd);
+    turn == LAST
+}
+
+// Feeds the whole luma; answers whether it could be read.
+pub fn feed_luma(
+    name: &[u8],
+    luma: &mut [u64; 1600],
+    sums: &mut [u32; 240],
+    bins: &mut [u32; 720],
+    picture: &mut [u8; 14104],
+) -> bool {
+    let fd = open_side(name);
+    if fd < 0 {
+        return false;
+    }
+    let mut turn = MORE;
+    let mut turns = u64::MAX;
+    while turns > 0 && turn == MORE {
+        turn = luma_turn(fd, name, luma, sums, bins, picture);
+        turns -= 1;
+    }
+    libc::close(fd);
+    turn == LAST
+}

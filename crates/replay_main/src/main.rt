@@ -1,0 +1,136 @@
+// Runs a script of calls from standard input, and prints a line for each: what a call answered and, of a seal, its whole buffer afterwards.
+//
+// The script: five 32-bit little-endian words W, H, d, PID and the rule edition, then calls. `C` or `L`, a 32-bit length and as many bytes: a feed of that side.
+// `S` and a 32-bit length: a seal into a buffer of so many bytes, each 0xA5 before. Anything else, or the end of the script inside a call, ends the run.
+use libc::STDIN_FILENO;
+use libc::STDOUT_FILENO;
+use rules::Answer;
+use rules::Opening;
+
+// The opening; answers whether its words were there.
+fn run_opening(
+    capture: &mut [u64; 3840],
+    luma: &mut [u64; 1600],
+    sums: &mut [u32; 240],
+    bins: &mut [u32; 720],
+    picture: &mut [u8; 14104],
+) -> bool {
+    let mut words = [0u8; 20];
+    if io::read_full(STDIN_FILENO, &mut words) < 20 {
+        return false;
+    }
+    let o = Opening {
+        width: words::word32(&words, 0),
+        height: words::word32(&words, 4),
+        time: words::word32(&words, 8),
+        pid: words::word32(&words, 12),
+    };
+    let a = sample::open(capture, luma, sums, bins, picture, o);
+    match a {
+        Answer::Done(_) => {
+            io::write_all(STDOUT_FILENO, b"open ok\n");
+        }
+        Answer::Refused { .. } => answers::print_answer(b"", b"open refused", a, b"\n"),
+    }
+    true
+}
+
+// A seal, where its buffer is not too long.
+fn run_seal(capture: &[u64; 3840], luma: &[u64; 1600], length: u32) -> bool {
+    if 65536 < length {
+        return false;
+    }
+    let mut space = [0xA5u8; 65536];
+    let n = io::count(length as isize, &space);
+    let buffer = &mut space[..n];
+    let a = sample::seal(capture, luma, buffer);
+    answers::print_answer(b"seal", b"seal refused", a, b" ");
+    answers::print_hex(buffer);
+    io::write_all(STDOUT_FILENO, b"\n");
+    true
+}
+
+// Reads a piece of so many bytes; answers whether it is not too long and was there.
+fn read_piece(piece: &mut [u8], length: u32) -> bool {
+    if 1048576 < length {
+        return false;
+    }
+    let n = io::count(length as isize, piece);
+    io::read_full(STDIN_FILENO, &mut piece[..n]) == n
+}
+
+fn feed_capture(capture: &mut [u64; 3840], piece: &mut [u8], length: u32) -> bool {
+    if !read_piece(piece, length) {
+        return false;
+    }
+    let n = io::count(length as isize, piece);
+    let a = sample::feed_capture(capture, &piece[..n]);
+    answers::print_answer(b"capture", b"capture refused", a, b"\n");
+    true
+}
+
+fn feed_luma(
+    luma: &mut [u64; 1600],
+    sums: &mut [u32; 240],
+    bins: &mut [u32; 720],
+    picture: &mut [u8; 14104],
+    piece: &mut [u8],
+    length: u32,
+) -> bool {
+    if !read_piece(piece, length) {
+        return false;
+    }
+    let n = io::count(length as isize, piece);
+    let a = sample::feed_luma(luma, sums, bins, picture, &piece[..n]);
+    answers::print_answer(b"luma", b"luma refused", a, b"\n");
+    true
+}
+
+// The next call; answers whether there was one.
+fn run_call(
+    capture: &mut [u64; 3840],
+    luma: &mut [u64; 1600],
+    sums: &mut [u32; 240],
+    bins: &mut [u32; 720],
+    picture: &mut [u8; 14104],
+    piece: &mut [u8],
+) -> bool {
+    let mut head = [0u8; 5];
+    if io::read_full(STDIN_FILENO, &mut head) < 5 {
+        return false;
+    }
+    let length = words::word32(&head, 1);
+    let kind = head[0];
+    match kind {
+        67 => feed_capture(capture, piece, length),
+        76 => feed_luma(luma, sums, bins, picture, piece, length),
+        83 => run_seal(capture, luma, length),
+        _ => false,
+    }
+}
+
+// A proved loop has to end, and nothing says that a script does: the turns are counted down from a number that no run uses up.
+fn main() {
+    let mut capture = [0u64; 3840];
+    let mut luma = [0u64; 1600];
+    let mut sums = [0u32; 240];
+    let mut bins = [0u32; 720];
+    let mut picture = [0u8; 14104];
+    let mut piece = [0u8; 1048576];
+    if !run_opening(&mut capture, &mut luma, &mut sums, &mut bins, &mut picture) {
+        return;
+    }
+    let mut turns = u64::MAX;
+    while turns > 0
+        && run_call(
+            &mut capture,
+            &mut luma,
+            &mut sums,
+            &mut bins,
+            &mut picture,
+            &mut piece,
+        )
+    {
+        turns -= 1;
+    }
+}
