@@ -6,16 +6,16 @@ use mathlib.Core.Path.{_≡_, refl, sym, ap, _∙_}
 use mathlib.Core.List.{List, [], _∷_, _++_, map, map-append, append-nil}
 use lib.ListN.{length, length-append, length-drop, take, drop, set, getD}
 use lib.Seq.{take-suc, take-all, length-take-le}
-use Rattle.rules.specs.Bytes.{joined}
+use Rattle.rules.specs.Bytes.{endToEnd}
 use Rattle.rules.specs.Seal.{over}
-use Rattle.rules.proofs.Laws.Lists.{joined-append}
+use Rattle.rules.proofs.Laws.Lists.{endToEnd-append}
 use Rattle.words.specs.Written.{written}
 use Rattle.words.proofs.Laws.{written-sets}
 use Rattle.lines.proofs.Texts.{line-more}
 use Rattle.answers.specs.Text.{digit, hexText}
 
 pub length-hexText : (bs : List ℕ) → length (hexText bs) ≡ 2 * length bs
-unfolding hexText joined
+unfolding hexText endToEnd
 length-hexText [] = refl
 length-hexText (b ∷ bs) = omega (arith, length-hexText bs)
 
@@ -26,10 +26,10 @@ length-over r s h = simp (length-append, length-drop) (omega arith)
 -- the digits of one byte more
 hexText-more : (bs : List ℕ) (i : ℕ) → i < length bs →
     hexText (take (i + 1) bs) ≡ hexText (take i bs) ++ (digit (getD bs i 0 / 16) ∷ digit (getD bs i 0 % 16) ∷ [])
-unfolding hexText joined
+unfolding hexText endToEnd
 hexText-more bs i h =
     let two : ℕ → List ℕ = λ b. digit (b / 16) ∷ digit (b % 16) ∷ [] in
-    rw (add-one i, take-suc bs i 0 h, map-append two (take i bs) (getD bs i 0 ∷ []), joined-append (map two (take i bs)) (two (getD bs i 0) ∷ []))
+    rw (add-one i, take-suc bs i 0 h, map-append two (take i bs) (getD bs i 0 ∷ []), endToEnd-append (map two (take i bs)) (two (getD bs i 0) ∷ []))
     refl
 
 module _ (bs s t : List ℕ) (i : ℕ) (inside : i < length bs) (room : 2 * length bs ≤ length s) (is : t ≡ over (hexText (take i bs)) s) where
@@ -52,7 +52,7 @@ module _ (bs s t : List ℕ) (i : ℕ) (inside : i < length bs) (room : 2 * leng
 
 -- no byte yet, and all of them
 pub none-yet : (bs s : List ℕ) → s ≡ over (hexText (take 0 bs)) s
-unfolding over hexText joined
+unfolding over hexText endToEnd
 none-yet bs s = refl
 
 pub all-written : (bs s t : List ℕ) (i : ℕ) → i ≤ length bs → length bs ≤ i → t ≡ over (hexText (take i bs)) s → (2 * i ≡ 2 * length bs) × (t ≡ over (hexText bs) s)

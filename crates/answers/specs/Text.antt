@@ -2,7 +2,7 @@
 use Prim.Native.Nat.{ℕ, _+_, _/_, _%_}
 use mathlib.Core.List.{List, [], _∷_, _++_, map}
 use lib.Dec.{ltb}
-use Rattle.rules.specs.Bytes.{pick, joined}
+use Rattle.rules.specs.Bytes.{pick, endToEnd}
 use Rattle.rules.specs.declared.Answer.{Answer}
 use Rattle.rules.specs.declared.Answer.the-variants.{Done, Refused}
 use Rattle.lines.specs.Lines.{fields}
@@ -22,4 +22,4 @@ digit d = pick (ltb d 10) (48 + d) (87 + d)
 
 -- each byte as two hexadecimal digits
 unfoldable pub hexText : List ℕ → List ℕ
-hexText bytes = joined (map (λ b. digit (b / 16) ∷ digit (b % 16) ∷ []) bytes)
+hexText bytes = endToEnd (map (λ b. digit (b / 16) ∷ digit (b % 16) ∷ []) bytes)

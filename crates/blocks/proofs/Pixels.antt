@@ -10,9 +10,8 @@ use lib.Dec.{eqb}
 use lib.Seq.{length-take-le, getD-set-same, getD-set-other}
 use borrow.Author.Count.{below-more}
 use borrow.Author.Tests.{eqb-true}
-use Rattle.rules.specs.Bytes.{pick, tally}
-use Rattle.rules.proofs.Laws.Histograms.{none, and}
-use Rattle.rules.proofs.Laws.Pictures.{Bytes, bytes-take, bytes-drop}
+use Rattle.rules.specs.Bytes.{pick, tally, empty, and, Bytes}
+use Rattle.rules.proofs.Laws.Pictures.{bytes-take, bytes-drop}
 use Rattle.rules.proofs.Laws.Tally.{tally-append}
 use Rattle.rules.proofs.Laws.Blocks.{inBlock, blockTally, earlier, settled}
 use Rattle.blocks.specs.Sums.{inColumn}
@@ -22,7 +21,7 @@ use Rattle.blocks.proofs.Rows.{bridge}
 -- a run of a row gives a block column at most 255 a column of it that is not passed
 pub column-most : (n c x : ℕ) (t : List ℕ) → 0 < n → Bytes t → tally (inColumn n c) x t ≤ 255 * min n (c * n + n - x)
 unfolding tally
-column-most n c x [] hn none = omega arith
+column-most n c x [] hn empty = omega arith
 column-most n c x (v ∷ t) hn (and h hs) = one (eqb (x / n) c) refl (column-most n c (suc x) t hn hs)
   where
     one : (r : Bool) → eqb (x / n) c ≡ r → tally (inColumn n c) (suc x) t ≤ 255 * min n (c * n + n - suc x) →
@@ -37,7 +36,7 @@ column-most n c x (v ∷ t) hn (and h hs) = one (eqb (x / n) c) refl (column-mos
 -- y rows of a block row give a block at most 255 a byte
 pub rows-most : (W n b c y : ℕ) (p : List ℕ) → 0 < n → 0 < W → y ≤ n → length p ≡ (b * n + y) * W → Bytes p → blockTally W n b c p ≤ 255 * (y * n)
 rows-most W n b c zero p hn hw h e k =
-    let none : blockTally W n b c p ≡ 0 = earlier W n b c p hn hw (omega (arith, rw (add-zero (b * n)) at e)) in
+    let empty : blockTally W n b c p ≡ 0 = earlier W n b c p hn hw (omega (arith, rw (add-zero (b * n)) at e)) in
     omega arith
 rows-most W n b c (suc y) p hn hw h e k =
     let m = (b * n + y) * W in

@@ -3,7 +3,7 @@ use Prim.Native.Nat.{ℕ, _+_, _*_, _/_, _%_, _^_, _≤_, _<_}
 use mathlib.Core.Path.{_≡_}
 use mathlib.Core.List.{List, _++_}
 use lib.ListN.{length, getD}
-use Rattle.rules.proofs.Laws.Pictures.{Bytes}
+use Rattle.rules.specs.Bytes.{Bytes}
 use Rattle.rules.proofs.Laws.Blocks.{blockTally}
 use Rattle.blocks.specs.Rows.{SumsOf}
 

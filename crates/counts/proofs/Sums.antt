@@ -10,13 +10,14 @@ use borrow.Author.Tests.{lt-ltb, le-ltb, leb-true, eq-eqb, ne-eqb}
 use Rattle.rules.specs.declared.Opening.{Opening}
 use Rattle.rules.specs.Bytes.{pick}
 use Rattle.rules.specs.Refusals.{Fault, none, fault}
-use Rattle.rules.specs.Opening.{goodSize, goodTime, goodPid, openingFault}
+use Rattle.rules.specs.Opening.{openingFault}
 use Rattle.rules.specs.Packets.{skipped}
 use Rattle.rules.specs.Capture.{wholeFrames, unfinished, wholeWanted, units, frameCount, skippedCount, badCount, captureFault, captureInside}
 use Rattle.rules.proofs.Laws.Onward.{header-alone}
 use Rattle.rules.proofs.Laws.Clear.{clear-of, long-of}
 use Rattle.rules.proofs.Laws.Bounds.{frame-count-few, skipped-few, bad-few, wanted-few}
 use Rattle.units.specs.State as table
+use Rattle.rules.proofs.Laws.Sizes.{good}
 use Rattle.units.proofs.Steps.{totals-exact}
 use Rattle.capture.specs.declared.Meter.{Meter}
 use Rattle.capture.specs.State.{Core, Head, Stands, refused, head, live}
@@ -26,14 +27,7 @@ use Rattle.counts.specs.Summary.{insideBy, summaryOf, Figures, SumOf}
 
 -- PID of an opening that is not refused
 small-pid : (o : Opening) → openingFault o ≡ none → o .pid ≤ 8191
-unfolding openingFault goodPid
-small-pid o = go (goodSize (o .width) (o .height)) (goodTime (o .time)) (goodPid (o .pid)) refl
-  where
-    go : (a b c : Bool) → goodPid (o .pid) ≡ c → pick a (pick b (pick c none (fault 3 0)) (fault 2 0)) (fault 1 0) ≡ none → o .pid ≤ 8191
-    go true true true e h = leb-true (o .pid) 8191 e
-    go true true false e h = let z : _≡_ {A = ℕ} 0 1 = cc in absurd (omega arith)
-    go true false c e h = let z : _≡_ {A = ℕ} 0 1 = cc in absurd (omega arith)
-    go false b c e h = let z : _≡_ {A = ℕ} 0 1 = cc in absurd (omega arith)
+small-pid o e = good o e .pid-high
 
 -- what a state that has refused nothing says, in the file header or behind it
 record Plain (w : List ℕ) (s : Meter) (o : Opening) (joined : List ℕ) : Type 0 where

@@ -10,8 +10,8 @@ use lib.ListN.{length, getD, take, drop, set, length-append, length-set}
 use lib.Seq.{getD-set-same, getD-set-other, take-add, length-take-le, getD-take, ext-getD}
 use borrow.Author.Count.{below-more}
 use Rattle.rules.specs.declared.Opening.{Opening}
-use Rattle.rules.proofs.Laws.Histograms.{none, and}
-use Rattle.rules.proofs.Laws.Pictures.{Bytes, bytes-append, bytes-take}
+use Rattle.rules.specs.Bytes.{empty, and, Bytes}
+use Rattle.rules.proofs.Laws.Pictures.{bytes-append, bytes-take}
 use Rattle.rules.proofs.Laws.Blocks.{earlier}
 use Rattle.history.specs.Past.{previous}
 use Rattle.blocks.specs.declared.Spot.{Spot}
@@ -218,7 +218,7 @@ module _ (g : Grid) (s : Progress) {sums bins picture before kept sums′ bins�
 -- ---- bytes of a block row
 
 pub bytes-of : (s : List ℕ) → ((i : ℕ) → getD s i 0 < 256) → Bytes s
-bytes-of [] h = none
+bytes-of [] h = empty
 bytes-of (b ∷ s) h = and (h 0) (bytes-of s (λ i. h (suc i)))
 
 -- where there is something to take in, something is

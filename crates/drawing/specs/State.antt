@@ -7,14 +7,13 @@ use mathlib.Core.List.{List, [], _++_, map}
 use mathlib.Core.Bool.{not}
 use lib.ListN.{length, getD, take}
 use Rattle.rules.specs.declared.Opening.{Opening}
-use Rattle.rules.specs.Bytes.{count, parts}
+use Rattle.rules.specs.Bytes.{count, parts, Bytes}
 use Rattle.rules.specs.Refusals.{none, fault, _orElse_}
 use Rattle.rules.specs.Opening.{openingFault, side, columns, lines}
 use Rattle.rules.specs.Pictures.{pictureSize, lumaFault, pixels}
 use Rattle.rules.specs.Histograms.{histograms}
 use Rattle.rules.specs.Cuts.{cutScore}
 use Rattle.rules.specs.Changes.{repeats, changes}
-use Rattle.rules.proofs.Laws.Pictures.{Bytes}
 use Rattle.history.specs.Past.{previous, mapWord}
 use Rattle.blocks.specs.Rows.{SumsOf}
 use Rattle.blocks.specs.Pixels.{RowsOf}

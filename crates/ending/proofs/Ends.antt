@@ -11,12 +11,11 @@ use lib.ListN.{length, getD, take, length-append}
 use lib.Seq.{getD-take}
 use lib.Dec.{eqb}
 use Rattle.rules.specs.declared.Opening.{Opening}
-use Rattle.rules.specs.Bytes.{pick, tally, parts, count}
+use Rattle.rules.specs.Bytes.{pick, tally, parts, count, empty, and, Bytes}
 use Rattle.rules.specs.Opening.{side, columns, lines}
 use Rattle.rules.specs.Pictures.{pictureSize, pixels}
 use Rattle.rules.specs.Changes.{repeats}
-use Rattle.rules.proofs.Laws.Histograms.{none, and}
-use Rattle.rules.proofs.Laws.Pictures.{Bytes, pixels-small, pixels-length}
+use Rattle.rules.proofs.Laws.Pictures.{pixels-small, pixels-length}
 use Rattle.history.specs.Past.{previous, nextRepeat}
 use Rattle.history.proofs.Laws.{getD-last, getD-other, reduced-more, previous-more, previous-at, fresh-more}
 use Rattle.blocks.specs.Pixels.{RowsOf}
@@ -31,7 +30,7 @@ use Rattle.ending.specs.Contract.{againOf, ChangeOf, ScoreOf, noted, nex
 use Rattle.ending.proofs.Notes.{Whole, each-px, score-is, change-is, again-is, words-more}
 
 pub bytes-left : (s t : List ℕ) → Bytes (s ++ t) → Bytes s
-bytes-left [] t h = none
+bytes-left [] t h = empty
 bytes-left (b ∷ s) t (and k h) = and k (bytes-left s t h)
 
 pub still : (old : List ℕ) (s : Progress) → s .ups ≡ 0 → s .downs ≡ 0 → s .squares ≡ 0 → Figures old [] (movesIn s)

@@ -9,18 +9,18 @@ use lib.ListN.{length, getD, drop, set, length-set, length-map}
 use lib.Seq.{getD-set-same, getD-set-other}
 use borrow.Author.Tests.{eq-eqb, ne-eqb}
 use Rattle.rules.specs.declared.Opening.{Opening}
-use Rattle.rules.specs.Bytes.{pick}
+use Rattle.rules.specs.Bytes.{pick, parts, Bytes}
 use Rattle.rules.specs.Opening.{columns, lines}
 use Rattle.rules.specs.Pictures.{pictureSize, pixels}
 use Rattle.rules.specs.Histograms.{histograms}
 use Rattle.rules.specs.Cuts.{at, cutScore}
 use Rattle.rules.specs.Changes.{change, repeats, changes}
-use Rattle.rules.specs.Bytes.{parts}
-use Rattle.rules.proofs.Laws.Pictures.{Bytes, bytes-take, bytes-drop, pixels-small, pixels-length}
+use Rattle.rules.proofs.Laws.Pictures.{bytes-take, bytes-drop, pixels-small, pixels-length}
 use Rattle.rules.proofs.Laws.Tables.{getD-mapped}
 use Rattle.rules.proofs.Laws.Moves.{squared-most}
 use Rattle.history.specs.Past.{previous, nextChange, nextRepeat, nextScore, mapWord}
-use Rattle.history.proofs.Laws.{getD-last, getD-other, map-append, length-parts, part-at, score-other, score-next, next-some, next-none, repeats-more, changes-more, length-repeats, length-changes, word-more, word-other, word-small}
+use Rattle.rules.proofs.Laws.Tables.{parts-length, part-at}
+use Rattle.history.proofs.Laws.{getD-last, getD-other, map-append, score-other, score-next, next-some, next-none, repeats-more, changes-more, length-repeats, length-changes, word-more, word-other, word-small}
 use Rattle.figures.specs.Changes.{spreadOf}
 use Rattle.cuts.specs.Counts.{binsAt, tilesAt}
 use Rattle.tiles.specs.Bins.{Counts}
@@ -42,7 +42,7 @@ pub each-px : (o : Opening) (pxs : List (List ℕ)) (whole : List ℕ) → pxs �
     j < length pxs → Whole o (getD pxs j [])
 each-px o pxs whole e small j h =
     let ps = parts (length pxs) (pictureSize o) whole in
-    let n : length ps ≡ length pxs = length-parts (length pxs) (pictureSize o) whole in
+    let n : length ps ≡ length pxs = parts-length (length pxs) (pictureSize o) whole in
     let is : getD pxs j [] ≡ pixels o (getD ps j []) = ap (λ (x : List (List ℕ)). getD x j []) e ∙ getD-mapped (pixels o) ps j [] [] (omega arith) in
     let bytes : Bytes (getD ps j []) = rw (part-at (length pxs) (pictureSize o) j whole h) (bytes-take (pictureSize o) (drop (j * pictureSize o) whole) (bytes-drop (j * pictureSize o) whole small)) in
     rw is (record { small = pixels-small o (getD ps j []) bytes; size = pixels-length o (getD ps j []) })

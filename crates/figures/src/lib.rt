@@ -1,10 +1,11 @@
 // The figures of document 01, each from plain numbers: what the engines, the seal and the reader are made of.
 mod changes;
+mod gaps;
 mod numbers;
 pub mod opening;
-mod units;
 
 pub use changes::change;
+pub use gaps::gap_loss;
 pub use numbers::apart;
 pub use numbers::smaller;
 pub use numbers::wide;
@@ -14,4 +15,3 @@ pub use opening::good_size;
 pub use opening::good_time;
 pub use opening::opening_fault;
 pub use opening::sizes_of;
-pub use units::gap_loss;

@@ -54,19 +54,6 @@ parts-more (suc n) m s t e k =
     rw (take-append-le m s t (omega arith), drop-append-le m s t (omega arith))
     (ap (λ (x : List (List ℕ)). take m s ∷ x) (parts-more n m (drop m s) t (simp length-drop (omega arith)) k))
 
-pub length-parts : (n m : ℕ) (s : List ℕ) → length (parts n m s) ≡ n
-unfolding parts
-length-parts zero m s = refl
-length-parts (suc n) m s = ap suc (length-parts n m (drop m s))
-
-pub part-at : (n m j : ℕ) (s : List ℕ) → j < n → getD (parts n m s) j [] ≡ take m (drop (j * m) s)
-unfolding parts
-part-at zero m j s h = absurd (omega arith)
-part-at (suc n) m zero s h = rw (zero-mul m)
-part-at (suc n) m (suc j) s h =
-    let e : m + j * m ≡ suc j * m = omega (arith, suc-mul j m) in
-    part-at n m j (drop m s) (omega arith) ∙ ap (λ (x : List ℕ). take m x) (drop-drop (j * m) m s ∙ ap (λ (k : ℕ). drop k s) e)
-
 -- ---- the whole pictures of a string of whole pictures and a rest
 
 pub count-whole : (o : Opening) (n : ℕ) (whole cur : List ℕ) → openingFault o ≡ none → length whole ≡ n * pictureSize o → length cur < pictureSize o → n ≤ 750 →
@@ -309,16 +296,6 @@ word-bit bs i =
     let same : getD (take 64 (drop (64 * j) bs)) k false ≡ getD bs i false =
     getD-take 64 (drop (64 * j) bs) k false (omega arith) ∙ getD-drop (64 * j) bs k false ∙ ap (λ (x : ℕ). getD bs x false) here in
     ones-bit (take 64 (drop (64 * j) bs)) k ∙ ap (λ (b : Bool). pick b 1 0) same
-
--- no more pass a test than there are
-pub count-most : (test : Bool → Bool) (bs : List Bool) → count test bs ≤ length bs
-unfolding count
-count-most test [] = omega arith
-count-most test (b ∷ bs) = go (test b) (count-most test bs)
-  where
-    go : (c : Bool) → count test bs ≤ length bs → pick c 1 0 + count test bs ≤ suc (length bs)
-    go true h = omega arith
-    go false h = omega arith
 
 -- a word is one
 ones-small : (bs : List Bool) → ones bs < 2 ^ length bs

@@ -11,8 +11,8 @@ use lib.Seq.{take-suc, take-all, length-take-le}
 use lib.Dec.{ltb}
 use borrow.Author.Tests.{lt-ltb, le-ltb, le-leb, lt-leb, ltb-true, ltb-false}
 use Rattle.io.specs.Digits.{digits, glyph, Fewest}
-use Rattle.rules.specs.Bytes.{pick, joined}
-use Rattle.rules.proofs.Laws.Lists.{joined-append}
+use Rattle.rules.specs.Bytes.{pick, endToEnd}
+use Rattle.rules.proofs.Laws.Lists.{endToEnd-append}
 use Rattle.words.specs.Written.{written}
 use Rattle.words.proofs.Laws.{written-sets, length-written}
 use Rattle.rules.specs.Seal.{over}
@@ -125,10 +125,10 @@ unfolding field decimal
 length-field n = omega (arith, length-decimal 20 n)
 
 pub field-more : (ns : List ℕ) (i : ℕ) → i < length ns → fields (take (i + 1) ns) ≡ fields (take i ns) ++ field (getD ns i 0)
-unfolding fields joined
+unfolding fields endToEnd
 field-more ns i h =
-    rw (add-one i, take-suc ns i 0 h, map-append field (take i ns) (getD ns i 0 ∷ []), joined-append (map field (take i ns)) (field (getD ns i 0) ∷ []))
-    (ap (λ (x : List ℕ). joined (map field (take i ns)) ++ x) (append-nil (field (getD ns i 0))))
+    rw (add-one i, take-suc ns i 0 h, map-append field (take i ns) (getD ns i 0 ∷ []), endToEnd-append (map field (take i ns)) (field (getD ns i 0) ∷ []))
+    (ap (λ (x : List ℕ). endToEnd (map field (take i ns)) ++ x) (append-nil (field (getD ns i 0))))
 
 -- ---- a line
 
@@ -185,7 +185,7 @@ module _ (s : List ℕ) (at : ℕ) where
 -- ---- fields one by one
 
 pub no-fields : (s ns : List ℕ) (at : ℕ) → (at ≡ at + length (fields (take 0 ns))) × (s ≡ written at (fields (take 0 ns)) s)
-unfolding fields joined
+unfolding fields endToEnd
 no-fields s ns at = (omega arith, none-yet s [] at)
 
 module _ (ns s s₁ s₂ : List ℕ) (at i end r : ℕ) (h : i < length ns) (room : end ≤ length s) where

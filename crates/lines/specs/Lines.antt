@@ -5,7 +5,7 @@ use lib.Dec.{ltb}
 use Rattle.rules.specs.declared.Header.{Header}
 use Rattle.rules.specs.declared.UnitRow.{UnitRow}
 use Rattle.rules.specs.declared.SceneRow.{SceneRow}
-use Rattle.rules.specs.Bytes.{pick, joined}
+use Rattle.rules.specs.Bytes.{pick, endToEnd}
 
 -- the decimal digits of a number, the highest first, no more than k of them
 unfoldable pub decimalIn : ℕ → ℕ → List ℕ
@@ -32,7 +32,7 @@ unfoldable pub field : ℕ → List ℕ
 field n = 32 ∷ decimal n
 
 unfoldable pub fields : List ℕ → List ℕ
-fields ns = joined (map field ns)
+fields ns = endToEnd (map field ns)
 
 -- line 1: `sample`, words 24 to 52, the index bits in 16 hexadecimal digits, a line feed
 unfoldable pub sampleLine : Header → List ℕ

@@ -11,14 +11,13 @@ use lib.ListN.{length, getD, set, replicate, length-set, length-replicate}
 use lib.Seq.{getD-set-other, drop-nil}
 use Rattle.rules.specs.declared.Opening.{Opening}
 use Rattle.rules.specs.declared.Answer.the-variants.{Done, Refused}
-use Rattle.rules.specs.Bytes.{tally, parts, count}
+use Rattle.rules.specs.Bytes.{tally, parts, count, All}
 use Rattle.rules.specs.Refusals.{none, answer}
 use Rattle.rules.specs.Opening.{openingFault, openAnswer, side, columns}
 use Rattle.rules.specs.Pictures.{pictureSize}
 use Rattle.rules.specs.Histograms.{histograms}
 use Rattle.rules.specs.Cuts.{cutScore}
 use Rattle.rules.specs.Changes.{repeats, changes}
-use Rattle.rules.proofs.Laws.Histograms.{All}
 use Rattle.history.specs.Past.{previous, lastFrom, ones, mapWord}
 use Rattle.figures.specs.Opening.{numbered, OpeningFault}
 use Rattle.drawing.specs.declared.Progress.{Progress}
@@ -90,7 +89,7 @@ open-live o {luma} {sums} {bins} {picture} f w ls lb lp zs zb zp =
       reduced = refl;
       few = omega arith;
       room = λ e. refl;
-      bytes = All.none;
+      bytes = All.empty;
       status = refl;
       fed = refl;
       pictures = refl;

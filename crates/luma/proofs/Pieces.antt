@@ -8,7 +8,8 @@ use lib.Seq.{take-add, take-all, length-take-le}
 use borrow.Author.Tests.{lt-ltb}
 use Rattle.rules.specs.declared.Opening.{Opening}
 use Rattle.rules.specs.Pictures.{pictureSize, lumaFault}
-use Rattle.rules.proofs.Laws.Pictures.{Bytes, bytes-append, bytes-take}
+use Rattle.rules.specs.Bytes.{Bytes}
+use Rattle.rules.proofs.Laws.Pictures.{bytes-append, bytes-take}
 use Rattle.drawing.specs.declared.Grid.{Grid}
 use Rattle.drawing.specs.declared.Progress.{Progress}
 use Rattle.drawing.specs.declared.Taken.{Taken}

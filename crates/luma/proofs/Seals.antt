@@ -16,9 +16,10 @@ use Rattle.rules.specs.Opening.{openingFault}
 use Rattle.rules.specs.Pictures.{pictureSize, pictureCount, lumaFault}
 use Rattle.rules.specs.Histograms.{histograms}
 use Rattle.rules.specs.Changes.{repeats}
-use Rattle.rules.specs.Seal.{reduced, unrepeated, lumaOpen}
+use Rattle.rules.specs.Seal.{reduced, unrepeated, lumaUnfinished}
 use Rattle.rules.proofs.Laws.Sizes.{good, sizes}
-use Rattle.history.proofs.Laws.{count-whole, reduced-whole, count-most, length-repeats}
+use Rattle.rules.proofs.Laws.Lists.{count-few}
+use Rattle.history.proofs.Laws.{count-whole, reduced-whole, length-repeats}
 use Rattle.cuts.specs.Counts.{tilesAt}
 use Rattle.drawing.specs.declared.Grid.{Grid}
 use Rattle.drawing.specs.declared.Progress.{Progress}
@@ -82,8 +83,8 @@ module _ (o : Opening) (s : Progress) {luma sums bins picture joined : List ℕ}
   fed-is : s .fed ≡ length joined
   fed-is = a .live .fed ∙ mod-eq-of-lt (omega (arith, not-past o (a .good) (a .sane) (a .live), fits-of o (a .good) .small))
 
-  open-is : lumaOpen o joined ≡ pick (insideOf s) (fault 13 (length joined)) none
-  unfolding lumaOpen
+  open-is : lumaUnfinished o joined ≡ pick (insideOf s) (fault 13 (length joined)) none
+  unfolding lumaUnfinished
   open-is =
       let long : length joined ≡ length (a .live .pxs) * pictureSize o + length (a .live .cur) =
       ap length (a .live .split) ∙ length-append (a .live .whole) (a .live .cur) ∙ ap (λ (n : ℕ). n + length (a .live .cur)) (a .live .full) in
@@ -95,7 +96,7 @@ module _ (o : Opening) (s : Progress) {luma sums bins picture joined : List ℕ}
   unfolding unrepeated
   fresh-is =
       rw reduced-are
-      (a .live .fresh ∙ mod-eq-of-lt (omega (arith, count-most not (repeats (a .live .pxs)), length-repeats (a .live .pxs), a .live .few)))
+      (a .live .fresh ∙ mod-eq-of-lt (omega (arith, count-few not (repeats (a .live .pxs)), length-repeats (a .live .pxs), a .live .few)))
 
   pub known : (r : Summary) → r .fed ≡ s .fed → r .inside ≡ insideOf s → r .pictures ≡ s .pictures → r .fresh ≡ s .fresh → Known luma o joined r
   known r ef ei ep er =

@@ -7,12 +7,11 @@ use lib.ListN.{length, getD, take}
 use lib.Dec.{eqb}
 use Rattle.rules.specs.declared.Opening.{Opening}
 use Rattle.rules.specs.declared.Answer.{Answer}
-use Rattle.rules.specs.Bytes.{pick}
+use Rattle.rules.specs.Bytes.{pick, Bytes}
 use Rattle.rules.specs.Opening.{openingFault, openAnswer}
 use Rattle.rules.specs.Refusals.{none, fault, _orElse_}
 use Rattle.rules.specs.Pictures.{pictureCount, lumaFault}
-use Rattle.rules.proofs.Laws.Pictures.{Bytes}
-use Rattle.rules.specs.Seal.{reduced, unrepeated, lumaOpen, lumaAnswer}
+use Rattle.rules.specs.Seal.{reduced, unrepeated, lumaUnfinished, lumaAnswer}
 use Rattle.drawing.specs.declared.Grid.{Grid}
 use Rattle.drawing.specs.declared.Progress.{Progress}
 use Rattle.drawing.specs.declared.Taken.{Taken}
@@ -38,7 +37,7 @@ pub record Known (luma : List ℕ) (o : Opening) (joined : List ℕ) (r : Summar
   pub clear : lumaFault o joined ≡ none
   pub bytes : Bytes joined
   pub fed : r .fed ≡ length joined
-  pub inside : lumaOpen o joined ≡ pick (r .inside) (fault 13 (length joined)) none
+  pub inside : lumaUnfinished o joined ≡ pick (r .inside) (fault 13 (length joined)) none
   pub pictures : r .pictures ≡ pictureCount o joined
   pub fresh : r .fresh ≡ unrepeated o joined
   pub words : Words o (reduced o joined) luma

@@ -6,9 +6,8 @@ use mathlib.Core.Path.{_≡_, sym, ap, _∙_}
 use mathlib.Core.List.{List}
 use lib.ListN.{length}
 use lib.Dec.{eqb}
-use Rattle.rules.specs.Bytes.{apart}
+use Rattle.rules.specs.Bytes.{apart, Bytes}
 use Rattle.rules.specs.Changes.{same, spread}
-use Rattle.rules.proofs.Laws.Pictures.{Bytes}
 use Rattle.rules.proofs.Laws.Moves.{ups, downs, squared, ups-most, downs-most, squared-most, squares-are, spread-are, same-squares}
 use Rattle.moves.specs.declared.Moves.{Moves}
 use Rattle.moves.specs.Figures.{Figures}

@@ -5,8 +5,8 @@ use mathlib.Core.Path.{_≡_, refl, sym, _∙_}
 use mathlib.Core.Bool.{Bool, true, false}
 use mathlib.Core.List.{List}
 use lib.ListN.{length, drop}
-use lib.Dec.{ltb, eqb}
-use borrow.Author.Tests.{lt-ltb, le-ltb, eq-eqb, ne-eqb}
+use lib.Dec.{leb, ltb, eqb}
+use borrow.Author.Tests.{lt-ltb, le-ltb, le-leb, lt-leb, eq-eqb, ne-eqb}
 use Rattle.rules.specs.declared.Header.{Header}
 use Rattle.rules.specs.declared.UnitRow.{UnitRow}
 use Rattle.rules.specs.declared.SceneRow.{SceneRow}
@@ -14,7 +14,7 @@ use Rattle.rules.specs.declared.HeaderAnswer.the-variants as of-header
 use Rattle.rules.specs.declared.UnitAnswer.the-variants as of-unit
 use Rattle.rules.specs.declared.SceneAnswer.the-variants as of-scene
 use Rattle.rules.specs.Bytes.{pick, word32}
-use Rattle.rules.specs.Refusals.{Fault, none, fault}
+use Rattle.rules.specs.Refusals.{Fault, none, fault, unless, _orElse_}
 use Rattle.rules.specs.Record.{recordLength, sceneOffset}
 use Rattle.rules.specs.Reading.{headerOf, unitAt, sceneAt, allowedHeader, allowedUnits, allowedScenes, allowedRows, allowed, readingFault, rowFault, unitFault, sceneFault, headerAnswer, unitAnswer, sceneAnswer}
 use Rattle.rules.proofs.Laws.Allowed.{header-allowed, record-allowed}
@@ -52,21 +52,21 @@ module _ (r : List ℕ) where
 module _ (r : List ℕ) where
   pub opened-short : length r < 64 → Refused 16 0 ≡ openedAs r
   unfolding openedAs readingFault
-  opened-short h = rw (lt-ltb (length r) 64 h)
+  opened-short h = rw (lt-leb 64 (length r) h)
 
   module _ (h : 64 ≤ length r) (w : ℕ) (is-w : w ≡ word32 r 0) where
     pub opened-edition : (w ≡ 1 → ⊥) → Refused 17 0 ≡ openedAs r
     unfolding openedAs readingFault
-    opened-edition k = rw (le-ltb (length r) 64 h, ← is-w, ne-eqb w 1 k)
+    opened-edition k = rw (le-leb 64 (length r) h, ← is-w, ne-eqb w 1 k)
 
     module _ (k : w ≡ 1) (b : Bool) (is-b : b ≡ allowed r) where
       pub opened-wrong : b ≡ false → Refused 18 0 ≡ openedAs r
       unfolding openedAs readingFault
-      opened-wrong f = rw (le-ltb (length r) 64 h, ← is-w, eq-eqb w 1 k, ← is-b, f)
+      opened-wrong f = rw (le-leb 64 (length r) h, ← is-w, eq-eqb w 1 k, ← is-b, f)
 
       pub opened-right : (u s : ℕ) → u ≡ word32 r 8 → s ≡ word32 r 16 → b ≡ true → Accepted u s ≡ openedAs r
       unfolding openedAs readingFault
-      opened-right u s is-u is-s f = rw (le-ltb (length r) 64 h, ← is-w, eq-eqb w 1 k, ← is-b, f, is-u, is-s)
+      opened-right u s is-u is-s f = rw (le-leb 64 (length r) h, ← is-w, eq-eqb w 1 k, ← is-b, f, is-u, is-s)
 
 -- ---- what an answer shows
 
@@ -80,15 +80,15 @@ pub record AcceptedAs (r : List ℕ) (u s : ℕ) : Type 0 where
   pub unitsLess : u ≤ 750
   pub scenesLess : s ≤ 250
 
-no-fault : (a b c : Bool) → pick a (fault 16 0) (pick b (pick c none (fault 18 0)) (fault 17 0)) ≡ none → c ≡ true
-no-fault true b c e = absurd (let z : _≡_ {A = ℕ} 0 1 = cc in omega arith)
-no-fault false false c e = absurd (let z : _≡_ {A = ℕ} 0 1 = cc in omega arith)
-no-fault false true true e = refl
-no-fault false true false e = absurd (let z : _≡_ {A = ℕ} 0 1 = cc in omega arith)
+no-fault : (a b c : Bool) → (unless a 16 orElse unless b 17 orElse unless c 18) ≡ none → c ≡ true
+no-fault false b c e = absurd (let z : _≡_ {A = ℕ} 0 1 = cc in omega arith)
+no-fault true false c e = absurd (let z : _≡_ {A = ℕ} 0 1 = cc in omega arith)
+no-fault true true true e = refl
+no-fault true true false e = absurd (let z : _≡_ {A = ℕ} 0 1 = cc in omega arith)
 
 pub fault-allowed : (r : List ℕ) → readingFault r ≡ none → allowed r ≡ true
 unfolding readingFault
-fault-allowed r e = no-fault (ltb (length r) 64) (eqb (word32 r 0) 1) (allowed r) e
+fault-allowed r e = no-fault (leb 64 (length r)) (eqb (word32 r 0) 1) (allowed r) e
 
 fault-none : (f : Fault) (a b u s : ℕ) → orOpened f a b ≡ Accepted u s → (f ≡ none) × (u ≡ a) × (s ≡ b)
 fault-none none a b u s e = (refl, (cc), (cc))

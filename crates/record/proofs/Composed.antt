@@ -9,7 +9,7 @@ use lib.Seq.{append-snoc}
 use Rattle.rules.specs.declared.Header.{Header}
 use Rattle.rules.specs.declared.UnitRow.{UnitRow}
 use Rattle.rules.specs.declared.SceneRow.{SceneRow}
-use Rattle.rules.specs.Bytes.{joined}
+use Rattle.rules.specs.Bytes.{endToEnd}
 use Rattle.rules.specs.Record.{recordLength, sceneOffset, headerBytes, unitBytes, sceneBytes, recordBytes}
 use Rattle.rules.specs.Reading.{unitPlace}
 use Rattle.rules.specs.Seal.{over}
@@ -22,24 +22,24 @@ pub behind : (p x b : List ℕ) (n : ℕ) → length p ≡ n → n ≤ length b 
 behind p x b n e k = next 0 n p x b e (omega arith) (sym (over-written p b)) (rw (zero-add n)) ∙ over-written (p ++ x) b
 
 -- one row more
-map-snoc : {A : Type 0} (f : A → List ℕ) (xs : List A) (x : A) → joined (map f (xs ++ (x ∷ []))) ≡ joined (map f xs) ++ f x
-unfolding joined
+map-snoc : {A : Type 0} (f : A → List ℕ) (xs : List A) (x : A) → endToEnd (map f (xs ++ (x ∷ []))) ≡ endToEnd (map f xs) ++ f x
+unfolding endToEnd
 map-snoc f [] x = append-nil (f x)
-map-snoc f (y ∷ xs) x = rw (map-snoc f xs x) (sym (append-assoc (f y) (joined (map f xs)) (f x)))
+map-snoc f (y ∷ xs) x = rw (map-snoc f xs x) (sym (append-assoc (f y) (endToEnd (map f xs)) (f x)))
 
 module _ (h : Header) (us : List UnitRow) where
   record-unit : (u : UnitRow) → recordBytes h us [] ++ unitBytes u ≡ recordBytes h (us ++ (u ∷ [])) []
-  unfolding recordBytes joined
-  record-unit u = rw (map-snoc unitBytes us u, append-nil (headerBytes h ++ joined (map unitBytes us)), append-nil (headerBytes h ++ (joined (map unitBytes us) ++ unitBytes u))) (append-assoc (headerBytes h) (joined (map unitBytes us)) (unitBytes u))
+  unfolding recordBytes endToEnd
+  record-unit u = rw (map-snoc unitBytes us u, append-nil (headerBytes h ++ endToEnd (map unitBytes us)), append-nil (headerBytes h ++ (endToEnd (map unitBytes us) ++ unitBytes u))) (append-assoc (headerBytes h) (endToEnd (map unitBytes us)) (unitBytes u))
 
   record-scene : (ss : List SceneRow) (s : SceneRow) → recordBytes h us ss ++ sceneBytes s ≡ recordBytes h us (ss ++ (s ∷ []))
   unfolding recordBytes
-  record-scene ss s = rw (map-snoc sceneBytes ss s) (append-assoc (headerBytes h ++ joined (map unitBytes us)) (joined (map sceneBytes ss)) (sceneBytes s))
+  record-scene ss s = rw (map-snoc sceneBytes ss s) (append-assoc (headerBytes h ++ endToEnd (map unitBytes us)) (endToEnd (map sceneBytes ss)) (sceneBytes s))
 
 -- the header, then unit row after unit row, then scene row after scene row: with so many rows written, the buffer is their record over what it was
 module _ (h : Header) (b : List ℕ) where
   pub header-first : over (headerBytes h) b ≡ over (recordBytes h [] []) b
-  unfolding recordBytes joined
+  unfolding recordBytes endToEnd
   header-first = rw (append-nil (headerBytes h), append-nil (headerBytes h))
 
   pub unit-next : (us : List UnitRow) (u : UnitRow) (j : ℕ) → length us ≡ j → unitPlace j ≤ length b →

@@ -6,7 +6,7 @@ use mathlib.Core.Bool.{true}
 use mathlib.Core.List.{List, _++_}
 use lib.ListN.{length, take, drop, getD}
 use lib.Seq.{take-append-seam}
-use borrow.Author.Tests.{le-ltb, eq-eqb}
+use borrow.Author.Tests.{le-leb, eq-eqb}
 use Rattle.rules.specs.declared.Header.{Header}
 use Rattle.rules.specs.declared.UnitRow.{UnitRow}
 use Rattle.rules.specs.declared.SceneRow.{SceneRow}
@@ -18,7 +18,7 @@ use Rattle.rules.specs.Refusals.{none}
 use Rattle.rules.specs.Record.{recordLength, recordBytes}
 use Rattle.rules.specs.Reading.{headerOf, allowed, readingFault, headerAnswer, unitAnswer, sceneAnswer}
 use Rattle.rules.specs.Seal.{over}
-use Rattle.rules.proofs.Laws.Words.{Bytes}
+use Rattle.rules.proofs.Laws.Words.{EachByte}
 use Rattle.rules.proofs.Laws.Record.{Figures, header-read, unit-read, scene-read, record-injective}
 use Rattle.rules.proofs.Laws.Allowed.{goodFigures, allowed-figures, record-allowed, unitsRead, scenesRead, record-again}
 use Rattle.record.specs.declared.reading.Opened.the-variants.{Accepted}
@@ -31,7 +31,7 @@ pub allowed-accepted : (r : List ℕ) → allowed r ≡ true → readingFault r 
 unfolding readingFault recordLength
 allowed-accepted r e =
     let h = record-allowed r e .header in
-    rw (le-ltb (length r) 64 (omega (arith, h .length, h .whole)), eq-eqb (word32 r 0) 1 (h .edition), e)
+    rw (le-leb 64 (length r) (omega (arith, h .length, h .whole)), eq-eqb (word32 r 0) 1 (h .edition), e)
 
 pub accepted-allowed : (r : List ℕ) → readingFault r ≡ none → allowed r ≡ true
 accepted-allowed r e = fault-allowed r e
@@ -82,13 +82,13 @@ pub injective : (h h′ : Header) (us us′ : List UnitRow) (ss ss′ : List Sce
 injective h h′ us us′ ss ss′ f f′ e = record-injective h h′ us us′ ss ss′ f f′ e
 
 -- two accepted byte strings that read alike are one
-pub same-reading : (r t : List ℕ) → Bytes r → Bytes t → readingFault r ≡ none → readingFault t ≡ none →
+pub same-reading : (r t : List ℕ) → EachByte r → EachByte t → readingFault r ≡ none → readingFault t ≡ none →
     headerOf r ≡ headerOf t → unitsRead r ≡ unitsRead t → scenesRead r ≡ scenesRead t → r ≡ t
 same-reading r t b d e f h u s =
     sym (record-again r b (fault-allowed r e)) ∙ (rw (h, u, s) (record-again t d (fault-allowed t f)))
 
 -- ---- read and written again
 
-pub again : (r b : List ℕ) → Bytes r → readingFault r ≡ none → over (recordBytes (headerOf r) (unitsRead r) (scenesRead r)) b ≡ r ++ drop (length r) b
+pub again : (r b : List ℕ) → EachByte r → readingFault r ≡ none → over (recordBytes (headerOf r) (unitsRead r) (scenesRead r)) b ≡ r ++ drop (length r) b
 unfolding over
 again r b d e = rw (record-again r d (fault-allowed r e))

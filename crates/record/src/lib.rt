@@ -1,11 +1,7 @@
 // The record of document 01: written into a lent buffer, opened, and read.
-mod opening;
 mod reading;
 mod writing;
 
-pub use opening::good_pid;
-pub use opening::good_size;
-pub use opening::good_time;
 pub use reading::Opened;
 pub use reading::header;
 pub use reading::header_figures;

@@ -11,12 +11,12 @@ use Rattle.rules.specs.declared.Opening.{Opening}
 use Rattle.rules.specs.declared.Answer.{Answer}
 use Rattle.rules.specs.declared.Answer.the-variants.{Done, Refused}
 use Rattle.rules.specs.Refusals.{Fault, none, fault}
-use Rattle.rules.specs.Bytes.{word32, word64, network16, bytesOf, total, greatestOf, leastOf, count, only, table, parts, joined}
+use Rattle.rules.specs.Bytes.{word32, word64, network16, bytesOf, total, greatestOf, leastOf, count, only, table, parts, endToEnd}
 use Rattle.rules.specs.Opening.{goodSize, goodTime, goodPid, openingFault, openAnswer, levelUpTo, level, side, area, columns, lines}
 use Rattle.rules.specs.Frames.{seconds, microseconds, storedLength, frameTime, body, frameSize, framesUpTo, restUpTo, frames, rest, behindHeader}
 use Rattle.rules.specs.Packets.{Packet, ipLength, udpLength, carries, skipped, packetsFrom, packetsIn, packetsOf, packets, shown, whole, identifier, kind, startMark, counter, wantedOf, badOf}
 use Rattle.rules.specs.Units.{gapLoss, arrivalsAfter, arrivals, groups, leastTime, unitOf, unitsOf, beginnings}
-use Rattle.rules.specs.Capture.{wholeFrames, unfinished, allFrames, wholeWanted, shownWanted, units, frameCount, skippedCount, badCount, showing, tooLong, wrongMagic, wrongLink, wrongHeader, wrongFrame, tooManyUnits, beginsAt, captureFault, captureInside}
+use Rattle.rules.specs.Capture.{wholeFrames, unfinished, allFrames, wholeWanted, shownWanted, units, frameCount, skippedCount, badCount, showing, tooLong, wrongMagic, wrongLink, wrongFrameHeader, wrongFrame, tooManyUnits, beginsAt, captureFault, captureInside}
 use Rattle.rules.specs.Pictures.{pictureSize, pictureCount, pictures, lumaFault, rows, band, blockSum, pixelIn, pixel, pixelLine, pixels}
 use Rattle.rules.specs.Histograms.{third, tileAt, bin, inTileFrom, inTile, inBin, histogram, histograms}
 use Rattle.rules.specs.Cuts.{binsApart, perMillion, tileDifference, tileDifferences, insert, sorted, fifth, difference, leastOfSix, cutScore, cutScores}
@@ -25,7 +25,7 @@ use Rattle.rules.specs.Changes.{same, squares, spread, rootFrom, root, c
 use Rattle.rules.specs.Index.{icOf, ipOf, valueOf, indexOf, indexBits}
 use Rattle.rules.specs.Record.{le32, recordLength, sceneOffset, headerBytes, unitBytes, sceneBytes, recordBytes}
 use Rattle.rules.specs.Reading.{scenePlace, unitPlace, allowedHeader, allowedUnit, allowedUnits, allowedScene, allowedScenes, allowedRows, allowed, readingFault, rowFault, unitFault, sceneFault}
-use Rattle.rules.specs.Seal.{reduced, scenesIn, scenes, unrepeated, indexFrom, index, header, sealed, sealedLength, captureOpen, noPacket, lumaOpen, noPicture, noRoom, sealFault, captureAnswer, lumaAnswer, sealAnswer, over, sealedBuffer}
+use Rattle.rules.specs.Seal.{reduced, scenesIn, scenes, unrepeated, indexFrom, index, header, sealed, sealedLength, captureUnfinished, noPacket, lumaUnfinished, noPicture, noRoom, sealFault, captureAnswer, lumaAnswer, sealAnswer, over, sealedBuffer}
 use Rattle.rules.specs.Calls.{Call, feedCapture, feedLuma, seal, Outcome, fed, sealedInto, expected}
 use Rattle.rules.proofs.Worked.{Case}
 
@@ -61,7 +61,7 @@ abbrev opened : ℕ → ℕ → ℕ → ℕ → Opening
 opened w h d p = record { width = w; height = h; time = d; pid = p }
 
 words : List ℕ → List ℕ
-words ns = joined (map le32 ns)
+words ns = endToEnd (map le32 ns)
 
 -- ---- what calls come to, as numbers: 0 and the length, or a refusal's number and place; behind a seal's the whole buffer
 
@@ -78,7 +78,7 @@ toldFault none = 0 ∷ 0 ∷ []
 toldFault (fault k p) = k ∷ p ∷ []
 
 run : Opening → List Call → List ℕ
-run o cs = told (openAnswer o) ++ joined (map toldOf (expected o [] [] cs))
+run o cs = told (openAnswer o) ++ endToEnd (map toldOf (expected o [] [] cs))
 
 -- the opening of the small samples: the least picture, 15 by 30, and the longest display time
 abbrev small : Opening
@@ -130,7 +130,7 @@ samples =
     -- a loss across a unit's start: counters 3, then 5 with a start mark, then 6; the one lost is the second unit's. A bad and a foreign packet stand between
     ∷ record {
       rule =
-          joined
+          endToEnd
           (map unitBytes
           (units small
           (goodHeader
@@ -179,7 +179,7 @@ samples =
 
 -- the theorem: the rules give what the paper says
 pub sampled : map (λ (c : Case). c .rule) samples ≡ map (λ (c : Case). c .paper) samples
-unfolding words run marks oneFrame picture showRecord sealing feeding samples openAnswer unitPlace scenePlace allowedHeader allowedUnit allowedUnits allowedScene allowedScenes allowedRows allowed readingFault rowFault unitFault sceneFault word32 word64 network16 bytesOf total greatestOf leastOf count only table parts joined goodSize goodTime goodPid openingFault levelUpTo level side area columns lines seconds microseconds storedLength frameTime body frameSize framesUpTo restUpTo frames rest behindHeader ipLength udpLength carries skipped packetsFrom packetsIn packetsOf packets shown whole identifier kind startMark counter wantedOf badOf gapLoss arrivalsAfter arrivals groups leastTime unitOf unitsOf beginnings wholeFrames unfinished allFrames wholeWanted shownWanted units frameCount skippedCount badCount showing tooLong wrongMagic wrongLink wrongHeader wrongFrame tooManyUnits captureFault captureInside pictureSize pictureCount pictures lumaFault rows band blockSum pixelIn pixel pixelLine pixels third tileAt bin inTileFrom inTile inBin histogram histograms binsApart perMillion tileDifference tileDifferences insert sorted fifth difference leastOfSix cutScore cutScores startsScene isStart startsFrom starts longestFrom sceneOf scenesAt scenesOf same squares spread rootFrom root change repeatsAfter changesAfter repeats changes icOf ipOf valueOf indexOf indexBits recordLength sceneOffset headerBytes unitBytes sceneBytes recordBytes reduced scenesIn scenes unrepeated indexFrom index header sealed sealedLength captureOpen noPacket lumaOpen noPicture noRoom sealFault captureAnswer lumaAnswer sealAnswer over sealedBuffer expected add mul div ofInt toBits
+unfolding words run marks oneFrame picture showRecord sealing feeding samples openAnswer unitPlace scenePlace allowedHeader allowedUnit allowedUnits allowedScene allowedScenes allowedRows allowed readingFault rowFault unitFault sceneFault word32 word64 network16 bytesOf total greatestOf leastOf count only table parts endToEnd goodSize goodTime goodPid openingFault levelUpTo level side area columns lines seconds microseconds storedLength frameTime body frameSize framesUpTo restUpTo frames rest behindHeader ipLength udpLength carries skipped packetsFrom packetsIn packetsOf packets shown whole identifier kind startMark counter wantedOf badOf gapLoss arrivalsAfter arrivals groups leastTime unitOf unitsOf beginnings wholeFrames unfinished allFrames wholeWanted shownWanted units frameCount skippedCount badCount showing tooLong wrongMagic wrongLink wrongFrameHeader wrongFrame tooManyUnits captureFault captureInside pictureSize pictureCount pictures lumaFault rows band blockSum pixelIn pixel pixelLine pixels third tileAt bin inTileFrom inTile inBin histogram histograms binsApart perMillion tileDifference tileDifferences insert sorted fifth difference leastOfSix cutScore cutScores startsScene isStart startsFrom starts longestFrom sceneOf scenesAt scenesOf same squares spread rootFrom root change repeatsAfter changesAfter repeats changes icOf ipOf valueOf indexOf indexBits recordLength sceneOffset headerBytes unitBytes sceneBytes recordBytes reduced scenesIn scenes unrepeated indexFrom index header sealed sealedLength captureUnfinished noPacket lumaUnfinished noPicture noRoom sealFault captureAnswer lumaAnswer sealAnswer over sealedBuffer expected add mul div ofInt toBits
 sampled = refl
 
 -- 4 and 10, whose small inputs are too long to be written out: by their length. One byte past 268,435,456, and 751 pictures

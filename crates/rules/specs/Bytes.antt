@@ -1,5 +1,5 @@
 -- Words for what every chapter needs: a choice, numbers in bytes, sums and lists. A byte string is a list of numbers; a byte that is not there reads as 0.
-use Prim.Native.Nat.{ℕ, zero, suc, _+_, _-_, _*_, _/_, _%_}
+use Prim.Native.Nat.{ℕ, zero, suc, _+_, _-_, _*_, _/_, _%_, _<_}
 use mathlib.Core.List.{List, [], _∷_, _++_}
 use mathlib.Core.Bool.{Bool, true, false, _&&_}
 use lib.ListN.{getD, take, drop}
@@ -86,7 +86,16 @@ module _ {ℓ} {A : Type ℓ} where
   parts zero m s = []
   parts (suc n) m s = take m s ∷ parts n m (drop m s)
 
-  -- parts joined again
-  unfoldable pub joined : List (List A) → List A
-  joined [] = []
-  joined (x ∷ xs) = x ++ joined xs
+  -- parts laid end to end
+  unfoldable pub endToEnd : List (List A) → List A
+  endToEnd [] = []
+  endToEnd (x ∷ xs) = x ++ endToEnd xs
+
+-- each of some has a property
+pub data All {A : Type 0} (P : A → Type 0) : List A → Type 0 where
+  empty : All P []
+  and : {x : A} {xs : List A} → P x → All P xs → All P (x ∷ xs)
+
+-- each number of a string is a byte
+abbrev pub Bytes : List ℕ → Type 0
+Bytes s = All (λ (b : ℕ). b < 256) s

@@ -73,13 +73,13 @@ unfoldable pub wrongLink : List ℕ → Fault
 wrongLink capture = showing (length capture) 6 23 (not (eqb (word32 capture 20) 1))
 
 -- 7, 8: microseconds above 999,999, L above 65,535; of the frame f that begins at the offset `place` of a capture of `size` bytes
-unfoldable pub wrongHeader : ℕ → ℕ → List ℕ → Fault
-wrongHeader size place f =
+unfoldable pub wrongFrameHeader : ℕ → ℕ → List ℕ → Fault
+wrongFrameHeader size place f =
     earlier (showing size 7 (place + 7) (ltb 999999 (microseconds f))) (showing size 8 (place + 11) (ltb 65535 (storedLength f)))
 
 unfoldable pub wrongFrame : ℕ → ℕ → List (List ℕ) → Fault
 wrongFrame size place [] = none
-wrongFrame size place (f ∷ fs) = earlier (wrongHeader size place f) (wrongFrame size (place + length f) fs)
+wrongFrame size place (f ∷ fs) = earlier (wrongFrameHeader size place f) (wrongFrame size (place + length f) fs)
 
 -- 9: a 751st unit begins
 abbrev pub beginsAt : List Arrival → Fault

@@ -8,6 +8,7 @@ pub mod Units
 pub mod Capture
 pub mod Pictures
 pub mod Histograms
+pub mod Counted
 pub mod Cuts
 pub mod Scenes
 pub mod Changes

@@ -5,7 +5,7 @@ use lib.Dec.{leb}
 use Rattle.rules.specs.declared.Opening.{Opening}
 use Rattle.rules.specs.declared.Answer.{Answer}
 use Rattle.rules.specs.Bytes.{pick, within}
-use Rattle.rules.specs.Refusals.{Fault, none, fault, answer}
+use Rattle.rules.specs.Refusals.{Fault, unless, _orElse_, answer}
 
 -- not refused by 1, by 2, by 3
 unfoldable pub goodSize : ℕ → ℕ → Bool
@@ -19,7 +19,7 @@ goodPid p = leb p 8191
 
 -- the opening's refusal: 1, 2, 3 are tried in this order
 unfoldable pub openingFault : Opening → Fault
-openingFault o = pick (goodSize (o .width) (o .height)) (pick (goodTime (o .time)) (pick (goodPid (o .pid)) none (fault 3 0)) (fault 2 0)) (fault 1 0)
+openingFault o = unless (goodSize (o .width) (o .height)) 1 orElse unless (goodTime (o .time)) 2 orElse unless (goodPid (o .pid)) 3
 
 -- what an opening answers
 unfoldable pub openAnswer : Opening → Answer

@@ -4,7 +4,7 @@ use mathlib.Core.List.{List, map}
 use lib.ListN.{length, take, drop}
 use lib.Dec.{ltb}
 use Rattle.rules.specs.declared.Opening.{Opening}
-use Rattle.rules.specs.Bytes.{pick, smaller, total, table, parts, joined}
+use Rattle.rules.specs.Bytes.{pick, smaller, total, table, parts, endToEnd}
 use Rattle.rules.specs.Refusals.{Fault, none, fault}
 use Rattle.rules.specs.Opening.{openingFault, side, area, columns, lines}
 
@@ -55,4 +55,4 @@ unfoldable pub pixelLine : Opening → List (List ℕ) → List ℕ
 pixelLine o rs = table (columns o) 0 (pixelIn o rs)
 
 unfoldable pub pixels : Opening → List ℕ → List ℕ
-pixels o picture = joined (table (lines o) 0 (λ r. pixelLine o (band o picture r)))
+pixels o picture = endToEnd (table (lines o) 0 (λ r. pixelLine o (band o picture r)))

@@ -14,7 +14,7 @@ use Rattle.rules.specs.declared.HeaderAnswer.the-variants as of-header
 use Rattle.rules.specs.declared.UnitAnswer.the-variants as of-unit
 use Rattle.rules.specs.declared.SceneAnswer.the-variants as of-scene
 use Rattle.rules.specs.Bytes.{pick, within, word32, word64}
-use Rattle.rules.specs.Refusals.{Fault, none, fault, _orElse_}
+use Rattle.rules.specs.Refusals.{Fault, none, fault, unless, _orElse_}
 use Rattle.rules.specs.Opening.{goodSize, goodTime, goodPid}
 use Rattle.rules.specs.Record.{recordLength, sceneOffset}
 
@@ -103,13 +103,10 @@ allowed r = let rows = allowedRows r in pick (allowedHeader (length r) r) rows f
 -- ---- refusals: 16 under 64 bytes, 17 another edition, 18 not allowed, 19 a row that is not there
 
 unfoldable pub readingFault : List ℕ → Fault
-readingFault r =
-    let wrong = pick (allowed r) none (fault 18 0) in
-    let other = pick (eqb (word32 r 0) 1) wrong (fault 17 0) in
-    pick (ltb (length r) 64) (fault 16 0) other
+readingFault r = unless (leb 64 (length r)) 16 orElse unless (eqb (word32 r 0) 1) 17 orElse unless (allowed r) 18
 
 unfoldable pub rowFault : ℕ → ℕ → Fault
-rowFault rows j = pick (ltb j rows) none (fault 19 0)
+rowFault rows j = unless (ltb j rows) 19
 
 -- of unit row j and of scene row j
 unfoldable pub unitFault : List ℕ → ℕ → Fault

@@ -1,10 +1,11 @@
 -- Refusals: a number of document 01's table with its place, and the answers that are made of them. Each number stands at the definition that gives it:
 --   opening  1, 2, 3  Opening.openingFault
---   capture  4 Capture.tooLong, 5 Capture.wrongMagic, 6 Capture.wrongLink, 7 and 8 Capture.wrongHeader, 9 Capture.tooManyUnits (beginsAt)
+--   capture  4 Capture.tooLong, 5 Capture.wrongMagic, 6 Capture.wrongLink, 7 and 8 Capture.wrongFrameHeader, 9 Capture.tooManyUnits (beginsAt)
 --   luma     10 Pictures.lumaFault
---   seal     11 Seal.captureOpen, 12 Seal.noPacket, 13 Seal.lumaOpen, 14 Seal.noPicture, 15 Seal.noRoom
+--   seal     11 Seal.captureUnfinished, 12 Seal.noPacket, 13 Seal.lumaUnfinished, 14 Seal.noPicture, 15 Seal.noRoom
 --   reading  16, 17, 18 Reading.readingFault, 19 Reading.rowFault
 use Prim.Native.Nat.{ℕ}
+use mathlib.Core.Bool.{Bool, true, false}
 use Rattle.rules.specs.declared.Answer.{Answer}
 use Rattle.rules.specs.declared.Answer.the-variants.{Done, Refused}
 
@@ -12,6 +13,11 @@ use Rattle.rules.specs.declared.Answer.the-variants.{Done, Refused}
 pub data Fault : Type 0 where
   none : Fault
   fault : ℕ → ℕ → Fault
+
+-- refusal k at no place, unless the test passes
+abbrev pub unless : Bool → ℕ → Fault
+unless true k = none
+unless false k = fault k 0
 
 infixr 20 _orElse_
 -- the first that is one

@@ -74,8 +74,8 @@ sealedLength o capture luma = recordLength (length (units o capture)) (length (s
 -- ---- refusals
 
 -- 11: the capture ends inside its header or a frame
-unfoldable pub captureOpen : List ℕ → Fault
-captureOpen capture = pick (captureInside capture) (fault 11 (length capture)) none
+unfoldable pub captureUnfinished : List ℕ → Fault
+captureUnfinished capture = pick (captureInside capture) (fault 11 (length capture)) none
 
 -- 12: no packet of PID
 unfoldable pub noPacket : List UnitRow → Fault
@@ -83,8 +83,8 @@ noPacket [] = fault 12 0
 noPacket (u ∷ us) = none
 
 -- 13: the luma ends inside a picture
-unfoldable pub lumaOpen : Opening → List ℕ → Fault
-lumaOpen o luma = pick (eqb (length luma % pictureSize o) 0) none (fault 13 (length luma))
+unfoldable pub lumaUnfinished : Opening → List ℕ → Fault
+lumaUnfinished o luma = pick (eqb (length luma % pictureSize o) 0) none (fault 13 (length luma))
 
 -- 14: no picture
 unfoldable pub noPicture : ℕ → Fault
@@ -100,9 +100,9 @@ sealFault o capture luma buffer =
     openingFault o
     orElse captureFault o capture
     orElse lumaFault o luma
-    orElse captureOpen capture
+    orElse captureUnfinished capture
     orElse noPacket (units o capture)
-    orElse lumaOpen o luma
+    orElse lumaUnfinished o luma
     orElse noPicture (pictureCount o luma)
     orElse noRoom buffer (sealedLength o capture luma)
 

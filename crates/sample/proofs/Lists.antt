@@ -1,35 +1,62 @@
 -- DEMAND 3: the statements of `specs/Calls` hold.
-use Prim.Native.Nat.{ℕ}
+use Prim.Native.Nat.{ℕ, _^_, _<_}
+use native.Mathlib.Omega.{arith}
 use mathlib.Core.Path.{_≡_, refl, sym, ap, _∙_}
 use mathlib.Core.List.{List, [], _∷_, _++_, append-nil, append-assoc, head-eq-of-cons-eq, tail-eq-of-cons-eq, cons-ne-nil}
-use lib.ListN.{length}
+use lib.ListN.{length, getD}
 use Rattle.rules.specs.declared.Opening.{Opening}
-use Rattle.rules.specs.Seal.{sealAnswer, sealedBuffer}
+use Rattle.rules.specs.Refusals.{none, fault}
+use Rattle.rules.specs.Histograms.{histograms}
+use Rattle.rules.specs.Seal.{reduced, sealAnswer, sealedBuffer}
 use Rattle.rules.specs.Calls.{Call, feedCapture, feedLuma, seal, Outcome, fed, sealedInto, expected, captureFed, lumaFed}
-use Rattle.rules.proofs.Laws.Counted.{every-picture}
+use Rattle.rules.proofs.Laws.Counted.{whole-counted, every-picture}
+use Rattle.cuts.specs.Counts.{tilesAt}
+use Rattle.drawing.specs.State as side-luma
+use Rattle.drawing.specs.State.{loaded, slot, Stands, refused, live}
+use Rattle.luma.proofs.Seals.{ring-is}
 use Rattle.sample.specs.State.{State, Means}
 use Rattle.sample.specs.Contract.{OpenPost, SealPost}
-use Rattle.sample.specs.Calls.{Ran, feedsCapture, feedsLuma, seals, Runs, done, next, EveryList, SealsAlike}
+use Rattle.sample.specs.Calls.{Ran, feedsCapture, feedsLuma, seals, Runs, done, next, Kept, EveryList, SealsAlike}
 
--- from a state that stands for the strings so far
-pub runs : (o : Opening) (capture luma : List ℕ) {st : State} {cs : List Call} {os : List Outcome} → Means st o capture luma → Runs st cs os → os ≡ expected o capture luma cs
-unfolding expected
-runs o capture luma h done = refl
-runs o capture luma h (next (feedsCapture {piece = piece} p) r) =
+-- from a state that stands for the strings so far: what the calls come to, and what the state that they leave stands for
+pub record Led (o : Opening) (capture luma : List ℕ) (cs : List Call) (os : List Outcome) (end : State) : Type 0 where
+  pub outcomes : os ≡ expected o capture luma cs
+  pub means : Means end o (capture ++ captureFed cs) (luma ++ lumaFed cs)
+
+pub runs : (o : Opening) (capture luma : List ℕ) {st end : State} {cs : List Call} {os : List Outcome} → Means st o capture luma → Runs st cs os end → Led o capture luma cs os end
+unfolding expected captureFed lumaFed
+runs o capture luma h done = record { outcomes = refl; means = rw (append-nil capture, append-nil luma) h }
+runs o capture luma {cs = feedCapture piece ∷ cs} h (next (feedsCapture p) r) =
     let m = p .means o capture (h .captured) in
     let i = runs o (capture ++ piece) luma (record { captured = m; drawn = h .drawn }) r in
     let e = p .answer o capture (h .captured) in
-    cc
-runs o capture luma h (next (feedsLuma {piece = piece} p) r) =
+    let l = i .outcomes in
+    record { outcomes = cc; means = rw (← append-assoc capture piece (captureFed cs)) (i .means) }
+runs o capture luma {cs = feedLuma piece ∷ cs} h (next (feedsLuma p) r) =
     let m = p .means o luma (h .drawn) in
     let i = runs o capture (luma ++ piece) (record { captured = h .captured; drawn = m }) r in
     let e = p .answer o luma (h .drawn) in
-    cc
+    let l = i .outcomes in
+    record { outcomes = cc; means = rw (← append-assoc luma piece (lumaFed cs)) (i .means) }
 runs o capture luma h (next (seals {st = st} p) r) =
     let i = runs o capture luma h r in
     let e = p .answer st o capture luma refl refl h in
     let b = p .buffer st o capture luma refl refl h in
-    cc
+    let l = i .outcomes in
+    record { outcomes = cc; means = i .means }
+
+-- the histograms of the last four whole pictures
+kept : (o : Opening) (luma : List ℕ) (st : State) → side-luma.Means (st .luma) (st .sums) (st .bins) (st .picture) o luma →
+    ((n : ℕ) → getD (st .bins) n 0 < 2 ^ 32) → (i : ℕ) → Kept o luma i → tilesAt (st .bins) (slot i) ≡ histograms o (getD (reduced o luma) i [])
+kept o luma st h small i k = go (h .stands)
+  where
+    go : Stands o (loaded (st .luma)) (st .luma) (st .sums) (st .bins) (st .picture) luma → tilesAt (st .bins) (slot i) ≡ histograms o (getD (reduced o luma) i [])
+    go (refused e n) = absurd (never (rw (k .whole .opened, k .clear) at e))
+      where
+        never : {p q : ℕ} → none ≡ fault p q → ⊥
+        never e = let z : _≡_ {A = ℕ} 0 1 = cc in omega arith
+    go (live g s l) =
+        ring-is o (loaded (st .luma)) (record { good = g; sane = s; live = l }) small i (whole-counted o luma i (k .whole)) (k .late)
 
 -- ---- two lists that seal alike
 
@@ -60,12 +87,18 @@ sealed-last o capture luma (seal b ∷ cs) [] s buffer e = absurd (some-outcome 
 sealed-last o capture luma (seal b ∷ cs) (p ∷ os) s buffer e = sealed-last o capture luma cs os s buffer (tail-eq-of-cons-eq e)
 
 pub seals-alike : SealsAlike
-seals-alike o a a′ st st′ cs cs′ os os′ s s′ buffer p p′ e l r r′ =
-    sealed-last o [] [] cs os s buffer (runs o [] [] (p .means) r)
+seals-alike o a a′ st st′ end end′ cs cs′ os os′ s s′ buffer p p′ e l r r′ =
+    sealed-last o [] [] cs os s buffer (runs o [] [] (p .means) r .outcomes)
     ∙ ap (λ (c : List ℕ). sealOutcome o c (lumaFed cs) buffer) e
     ∙ ap (λ (y : List ℕ). sealOutcome o (captureFed cs′) y buffer) l
-    ∙ sym (sealed-last o [] [] cs′ os′ s′ buffer (runs o [] [] (p′ .means) r′))
+    ∙ sym (sealed-last o [] [] cs′ os′ s′ buffer (runs o [] [] (p′ .means) r′ .outcomes))
 
 pub every-list : EveryList
-every-list o a st cs os p r =
-    record { opening = p .answer; outcomes = runs o [] [] (p .means) r; pictures = λ b i w. every-picture o (lumaFed cs) i b w }
+every-list o a st cs os end p r =
+    let l = runs o [] [] (p .means) r in
+    record {
+      opening = p .answer;
+      outcomes = l .outcomes;
+      pictures = λ b i w. every-picture o (lumaFed cs) i b w;
+      ring = kept o (lumaFed cs) end (l .means .drawn);
+    }

@@ -16,7 +16,7 @@ use Rattle.rules.specs.Refusals.{Fault, none, fault, _orElse_, answer}
 use Rattle.rules.specs.Opening.{openingFault}
 use Rattle.rules.specs.Capture.{units, wholeWanted, captureFault, captureInside}
 use Rattle.rules.specs.Pictures.{pictureCount, lumaFault}
-use Rattle.rules.specs.Seal.{captureOpen, noPacket, lumaOpen, noPicture, noRoom, sealFault, sealAnswer, ifDone, over, sealed, sealedLength, sealedBuffer}
+use Rattle.rules.specs.Seal.{captureUnfinished, noPacket, lumaUnfinished, noPicture, noRoom, sealFault, sealAnswer, ifDone, over, sealed, sealedLength, sealedBuffer}
 use Rattle.counts.specs.declared.Summary.{Summary}
 use Rattle.counts.specs.Summary.{SumsUp, SumOf, Figures, standing}
 use Rattle.luma.specs.declared.Summary as of-luma
@@ -73,17 +73,17 @@ module _ (st : State) (o : Opening) (fedCapture fedLuma : List ℕ) (m : Means s
 
       -- behind refusals 1 to 10
       behind : (n : ℕ) → sealFault o fedCapture fedLuma n ≡
-          captureOpen fedCapture orElse (noPacket (units o fedCapture) orElse (lumaOpen o fedLuma orElse (noPicture (pictureCount o fedLuma) orElse noRoom n (sealedLength o fedCapture fedLuma))))
+          captureUnfinished fedCapture orElse (noPacket (units o fedCapture) orElse (lumaUnfinished o fedLuma orElse (noPicture (pictureCount o fedLuma) orElse noRoom n (sealedLength o fedCapture fedLuma))))
       unfolding sealFault
       behind n = rw (fig .good, fig .clear, known .clear)
 
       pub inside-capture : (n : ℕ) → c .inside ≡ true → sealFault o fedCapture fedLuma n ≡ fault 11 (c .fed)
-      unfolding captureOpen
+      unfolding captureUnfinished
       inside-capture n h = behind n ∙ rw (sym (fig .inside), h, fig .fed)
 
       module _ (h₃ : c .inside ≡ false) where
-        closed : captureOpen fedCapture ≡ none
-        unfolding captureOpen
+        closed : captureUnfinished fedCapture ≡ none
+        unfolding captureUnfinished
         closed = rw (sym (fig .inside), h₃)
 
         pub no-packet : (n : ℕ) → c .units ≡ 0 → sealFault o fedCapture fedLuma n ≡ fault 12 0
@@ -97,7 +97,7 @@ module _ (st : State) (o : Opening) (fedCapture fedLuma : List ℕ) (m : Means s
           inside-luma n h = behind n ∙ rw (closed, packet, known .inside, h, known .fed)
 
           module _ (h₅ : l .inside ≡ false) where
-            ended : lumaOpen o fedLuma ≡ none
+            ended : lumaUnfinished o fedLuma ≡ none
             ended = known .inside ∙ rw h₅
 
             pub no-picture : (n : ℕ) → l .pictures ≡ 0 → sealFault o fedCapture fedLuma n ≡ fault 14 0

@@ -1,19 +1,24 @@
 -- Demand 3, as one statement about a whole list of calls. After one opening, refused or not, every list of capture feeds, luma feeds and seals comes to what
 -- the rules give for the opening and the joined strings alone, each call getting the state that the call before it left.
-use Prim.Native.Nat.{ℕ}
+use Prim.Native.Nat.{ℕ, _+_, _^_, _≤_, _<_}
 use mathlib.Core.Path.{_≡_}
 use mathlib.Core.List.{List, [], _∷_, _++_}
 use lib.ListN.{getD}
 use Rattle.rules.specs.declared.Opening.{Opening}
 use Rattle.rules.specs.declared.Answer.{Answer}
 use Rattle.rules.specs.Opening.{openAnswer}
+use Rattle.rules.specs.Refusals.{none}
+use Rattle.rules.specs.Pictures.{pictureCount, lumaFault}
+use Rattle.rules.specs.Histograms.{histograms}
 use Rattle.rules.specs.Seal.{reduced}
 use Rattle.rules.specs.Calls.{Call, feedCapture, feedLuma, seal, Outcome, fed, sealedInto, expected, captureFed, lumaFed}
-use Rattle.rules.proofs.Laws.Pictures.{Bytes}
-use Rattle.rules.proofs.Laws.Counted.{Whole, Counted}
+use Rattle.rules.specs.Bytes.{Bytes}
+use Rattle.rules.specs.Counted.{Whole, Counted}
 use Rattle.capture.specs.Contract as side-capture
 use Rattle.luma.specs.Contract as side-luma
-use Rattle.sample.specs.State.{State, Means}
+use Rattle.cuts.specs.Counts.{tilesAt}
+use Rattle.drawing.specs.State.{slot}
+use Rattle.sample.specs.State.{State}
 use Rattle.sample.specs.Contract.{OpenPost, SealPost}
 
 -- one call on a state, which leaves another: no more and no less than the function's own contract. A feed changes its own side alone, a seal nothing
@@ -35,25 +40,33 @@ pub data Ran : State → Call → Outcome → State → Type 0 where
   seals : {st : State} {buffer buffer′ : List ℕ} {a : Answer} →
       SealPost (st .capture) (st .luma) buffer a buffer′ → Ran st (seal buffer) (sealedInto a buffer′) st
 
--- calls that are made one after the other, the first on the state st, and what they come to
-pub data Runs : State → List Call → List Outcome → Type 0 where
-  done : {st : State} → Runs st [] []
-  next : {st st′ : State} {c : Call} {o : Outcome} {cs : List Call} {os : List Outcome} → Ran st c o st′ → Runs st′ cs os → Runs st (c ∷ cs) (o ∷ os)
+-- calls that are made one after the other, the first on the state st; what they come to; and the state that the last leaves
+pub data Runs : State → List Call → List Outcome → State → Type 0 where
+  done : {st : State} → Runs st [] [] st
+  next : {st st′ end : State} {c : Call} {o : Outcome} {cs : List Call} {os : List Outcome} → Ran st c o st′ → Runs st′ cs os end → Runs st (c ∷ cs) (o ∷ os) end
 
--- THE STATEMENT: the opening's answer; every answer and every buffer of the list; and in every whole picture (a byte is below 256) each pixel adds one to one
--- bin of one tile's histogram and to no other, so that the bins of the nine histograms total w × h
-pub record AsTheRulesSay (o : Opening) (a : Answer) (cs : List Call) (os : List Outcome) : Type 0 where
+-- picture i is one of the last four whole pictures of the joined luma, of which the state keeps the histograms
+pub record Kept (o : Opening) (luma : List ℕ) (i : ℕ) : Type 0 where
+  pub whole : Whole o luma i
+  pub late : pictureCount o luma ≤ i + 4
+  pub clear : lumaFault o luma ≡ none
+
+-- THE STATEMENT: the opening's answer; every answer and every buffer of the list; in every whole picture (a byte is below 256) each pixel adds one to one bin of
+-- one tile's histogram and to no other, so that the bins of the nine histograms total w × h; and those histograms are the ones that the state keeps (its bins
+-- are 32-bit words)
+pub record AsTheRulesSay (o : Opening) (a : Answer) (cs : List Call) (os : List Outcome) (end : State) : Type 0 where
   pub opening : a ≡ openAnswer o
   pub outcomes : os ≡ expected o [] [] cs
   pub pictures : Bytes (lumaFed cs) → (i : ℕ) → Whole o (lumaFed cs) i → Counted o (getD (reduced o (lumaFed cs)) i [])
+  pub ring : ((n : ℕ) → getD (end .bins) n 0 < 2 ^ 32) → (i : ℕ) → Kept o (lumaFed cs) i → tilesAt (end .bins) (slot i) ≡ histograms o (getD (reduced o (lumaFed cs)) i [])
 
 abbrev pub EveryList : Type 0
 EveryList =
-    (o : Opening) (a : Answer) (st : State) (cs : List Call) (os : List Outcome) → OpenPost o a st → Runs st cs os → AsTheRulesSay o a cs os
+    (o : Opening) (a : Answer) (st : State) (cs : List Call) (os : List Outcome) (end : State) → OpenPost o a st → Runs st cs os end → AsTheRulesSay o a cs os end
 
 -- and so two lists that feed equal joined strings after like openings seal alike, whatever their pieces, seals and order
 abbrev pub SealsAlike : Type 0
 SealsAlike =
-    (o : Opening) (a a′ : Answer) (st st′ : State) (cs cs′ : List Call) (os os′ : List Outcome) (s s′ : Outcome) (buffer : List ℕ) →
+    (o : Opening) (a a′ : Answer) (st st′ end end′ : State) (cs cs′ : List Call) (os os′ : List Outcome) (s s′ : Outcome) (buffer : List ℕ) →
     OpenPost o a st → OpenPost o a′ st′ → captureFed cs ≡ captureFed cs′ → lumaFed cs ≡ lumaFed cs′ →
-    Runs st (cs ++ seal buffer ∷ []) (os ++ s ∷ []) → Runs st′ (cs′ ++ seal buffer ∷ []) (os′ ++ s′ ∷ []) → s ≡ s′
+    Runs st (cs ++ seal buffer ∷ []) (os ++ s ∷ []) end → Runs st′ (cs′ ++ seal buffer ∷ []) (os′ ++ s′ ∷ []) end′ → s ≡ s′

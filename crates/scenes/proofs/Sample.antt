@@ -6,7 +6,7 @@ use mathlib.Core.List.{List, map}
 use mathlib.Core.Bool.{Bool, false}
 use lib.ListN.{length, getD}
 use Rattle.rules.specs.declared.Opening.{Opening}
-use Rattle.rules.specs.Bytes.{pick}
+use Rattle.rules.specs.Bytes.{pick, All, and, Bytes}
 use Rattle.rules.specs.Refusals.{none}
 use Rattle.rules.specs.Opening.{openingFault}
 use Rattle.rules.specs.Pictures.{pictureCount}
@@ -14,8 +14,6 @@ use Rattle.rules.specs.Histograms.{histograms}
 use Rattle.rules.specs.Cuts.{cutScore, cutScores}
 use Rattle.rules.specs.Changes.{repeats, changes}
 use Rattle.rules.specs.Seal.{reduced}
-use Rattle.rules.proofs.Laws.Histograms.{All, and}
-use Rattle.rules.proofs.Laws.Pictures.{Bytes}
 use Rattle.rules.proofs.Laws.Scenes.{score-at, sample-scores, scores-length, pictures-most, reduced-length}
 use Rattle.rules.proofs.Laws.Ranges.{AtMost, sample-scored, sample-changed}
 use Rattle.history.specs.Past.{mapWord}

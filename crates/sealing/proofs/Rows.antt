@@ -13,14 +13,14 @@ use borrow.Author.Tests.{le-ltb}
 use Rattle.rules.specs.declared.Header.{Header}
 use Rattle.rules.specs.declared.UnitRow.{UnitRow}
 use Rattle.rules.specs.declared.SceneRow.{SceneRow}
-use Rattle.rules.specs.Bytes.{joined}
+use Rattle.rules.specs.Bytes.{endToEnd}
 use Rattle.rules.specs.Packets.{Packet}
 use Rattle.rules.specs.Units.{unitsOf}
 use Rattle.rules.specs.Scenes.{sceneOf, scenesOf}
 use Rattle.rules.specs.Record.{recordLength, sceneOffset, headerBytes, unitBytes, sceneBytes, recordBytes}
 use Rattle.rules.specs.Reading.{unitPlace}
 use Rattle.rules.specs.Seal.{over}
-use Rattle.rules.proofs.Laws.Lists.{joined-append}
+use Rattle.rules.proofs.Laws.Lists.{endToEnd-append}
 use Rattle.rules.proofs.Laws.Record.{length-header, length-unit, length-scene, length-rows, parts-of}
 use Rattle.words.specs.Written.{written}
 use Rattle.words.proofs.Laws.{written-append, length-written}
@@ -40,22 +40,22 @@ noScene = record { first = 0; pictures = 0; repeated = 0; longest = 0; score = 0
 -- ---- rows of any kind
 
 module _ {A : Type 0} (f : A → List ℕ) (wide : (x : A) → length (f x) ≡ 32) (at : ℕ) (s : List ℕ) where
-  rows-append : (xs : List A) (x : A) → joined (map f (xs ++ x ∷ [])) ≡ joined (map f xs) ++ f x
-  unfolding joined
-  rows-append xs x = rw (map-append f xs (x ∷ []), joined-append (map f xs) (f x ∷ []), append-nil (f x))
+  rows-append : (xs : List A) (x : A) → endToEnd (map f (xs ++ x ∷ [])) ≡ endToEnd (map f xs) ++ f x
+  unfolding endToEnd
+  rows-append xs x = rw (map-append f xs (x ∷ []), endToEnd-append (map f xs) (f x ∷ []), append-nil (f x))
 
   pub row-more : (xs : List A) (x : A) {s₁ s₂ : List ℕ} → at + 32 * length xs + 32 ≤ length s →
-      s₁ ≡ written at (joined (map f xs)) s → s₂ ≡ written (at + 32 * length xs) (f x) s₁ → s₂ ≡ written at (joined (map f (xs ++ x ∷ []))) s
+      s₁ ≡ written at (endToEnd (map f xs)) s → s₂ ≡ written (at + 32 * length xs) (f x) s₁ → s₂ ≡ written at (endToEnd (map f (xs ++ x ∷ []))) s
   row-more xs x {s₁} {s₂} fits e₁ e₂ =
       let n = length-rows f wide xs in
-      let p : at + 32 * length xs ≡ at + length (joined (map f xs)) = omega arith in
-      let room : at + length (joined (map f xs)) ≤ length s = omega arith in
-      e₂ ∙ rw (e₁, p) (written-append at (joined (map f xs)) s room (f x)) ∙ ap (λ (bs : List ℕ). written at bs s) (sym (rows-append xs x))
+      let p : at + 32 * length xs ≡ at + length (endToEnd (map f xs)) = omega arith in
+      let room : at + length (endToEnd (map f xs)) ≤ length s = omega arith in
+      e₂ ∙ rw (e₁, p) (written-append at (endToEnd (map f xs)) s room (f x)) ∙ ap (λ (bs : List ℕ). written at bs s) (sym (rows-append xs x))
 
-  pub rows-length : (xs : List A) {s₁ : List ℕ} → at + 32 * length xs ≤ length s → s₁ ≡ written at (joined (map f xs)) s → length s₁ ≡ length s
+  pub rows-length : (xs : List A) {s₁ : List ℕ} → at + 32 * length xs ≤ length s → s₁ ≡ written at (endToEnd (map f xs)) s → length s₁ ≡ length s
   rows-length xs fits e =
       let n = length-rows f wide xs in
-      rw e (length-written at (joined (map f xs)) s (omega arith))
+      rw e (length-written at (endToEnd (map f xs)) s (omega arith))
 
 -- nothing was written
 pub written-none : (at : ℕ) (s : List ℕ) → s ≡ written at [] s
@@ -85,7 +85,7 @@ length-more xs x n e = simp length-append (omega arith)
 -- ---- units
 
 pub units-none : (capture s : List ℕ) → UnitsWritten capture 0 s s
-unfolding joined
+unfolding endToEnd
 units-none capture s = record { rows = []; many = refl; each = λ j h d. absurd (omega arith); bytes = written-none 64 s }
 
 module _ (capture : List ℕ) (n : ℕ) (s s₁ s₂ : List ℕ) (fits : 64 + 32 * n + 32 ≤ length s) where
@@ -113,10 +113,10 @@ pub record ScenesSoFar (luma : List ℕ) (pictures d units : ℕ) (s : List ℕ)
   pub many : length rows ≡ j
   pub started : (ss : List ℕ) (rs : List Bool) (qs : List ℕ) → Holds luma pictures ss rs qs → d < 2 ^ 32 → j < length (scenesOf d ss rs qs) → start ≡ startAt d ss j
   pub each : (i : ℕ) → i < j → (z : SceneRow) → IsScene luma pictures d i (getD rows i z)
-  pub bytes : s₁ ≡ written (sceneOffset units) (joined (map sceneBytes rows)) s
+  pub bytes : s₁ ≡ written (sceneOffset units) (endToEnd (map sceneBytes rows)) s
 
 pub scenes-none : (luma : List ℕ) (pictures d units : ℕ) (s : List ℕ) → ScenesSoFar luma pictures d units s 0 0 s
-unfolding joined startAt
+unfolding endToEnd startAt
 scenes-none luma pictures d units s =
     record { rows = []; many = refl; started = λ ss rs qs k t l. refl; each = λ j k z. absurd (omega arith); bytes = written-none (sceneOffset units) s }
 
@@ -185,12 +185,12 @@ module _ (capture luma : List ℕ) (h : Header) (s s₁ s₂ s₃ : List ℕ) (f
       let n₂ = length-rows unitBytes length-unit (u .rows) in
       let m₂ = u .many in
       let hb = headerBytes h in
-      let ub = joined (map unitBytes (u .rows)) in
-      let xb = joined (map sceneBytes (v .rows)) in
+      let ub = endToEnd (map unitBytes (u .rows)) in
+      let xb = endToEnd (map sceneBytes (v .rows)) in
       let f₁ : s₁ ≡ written 0 hb s = e ∙ sym (over-written hb s) in
       let p₁ : 64 ≡ 0 + length hb = omega arith in
       let f₂ : s₂ ≡ written 0 (hb ++ ub) s = u .bytes ∙ rw (f₁, p₁) (written-append 0 hb s (omega arith) ub) in
       let l₂ : length (hb ++ ub) ≡ 64 + 32 * h .units = simp (length-append) (omega arith) in
       let p₂ : 64 + 32 * h .units ≡ 0 + length (hb ++ ub) = omega arith in
       let f₃ : s₃ ≡ written 0 (hb ++ ub ++ xb) s = v .bytes ∙ rw (f₂, p₂) (written-append 0 (hb ++ ub) s (omega arith) xb) in
-      f₃ ∙ over-written (hb ++ ub ++ xb) s ∙ rw (a, b, append-assoc hb (joined (map unitBytes us)) (joined (map sceneBytes xs)), parts-of h us xs)
+      f₃ ∙ over-written (hb ++ ub ++ xb) s ∙ rw (a, b, append-assoc hb (endToEnd (map unitBytes us)) (endToEnd (map sceneBytes xs)), parts-of h us xs)

@@ -7,7 +7,7 @@ use lib.ListN.{length, getD}
 use Rattle.rules.specs.declared.Header.{Header}
 use Rattle.rules.specs.declared.UnitRow.{UnitRow}
 use Rattle.rules.specs.declared.SceneRow.{SceneRow}
-use Rattle.rules.specs.Bytes.{joined}
+use Rattle.rules.specs.Bytes.{endToEnd}
 use Rattle.rules.specs.Packets.{Packet}
 use Rattle.rules.specs.Units.{unitsOf}
 use Rattle.rules.specs.Scenes.{scenesOf}
@@ -24,7 +24,7 @@ pub record UnitsWritten (capture : List ℕ) (n : ℕ) (before after : List ℕ)
   pub rows : List UnitRow
   pub many : length rows ≡ n
   pub each : (j : ℕ) → j < n → (d : UnitRow) → Row capture j (getD rows j d)
-  pub bytes : after ≡ written 64 (joined (map unitBytes rows)) before
+  pub bytes : after ≡ written 64 (endToEnd (map unitBytes rows)) before
 
 -- the row is the rule's scene j, if the words hold so many pictures, d is the display time, and there is such a scene
 abbrev pub IsScene : List ℕ → ℕ → ℕ → ℕ → SceneRow → Type 0
@@ -37,7 +37,7 @@ pub record ScenesWritten (luma : List ℕ) (pictures d units n : ℕ) (before af
   pub rows : List SceneRow
   pub many : length rows ≡ n
   pub each : (j : ℕ) → j < n → (z : SceneRow) → IsScene luma pictures d j (getD rows j z)
-  pub bytes : after ≡ written (sceneOffset units) (joined (map sceneBytes rows)) before
+  pub bytes : after ≡ written (sceneOffset units) (endToEnd (map sceneBytes rows)) before
 
 -- the record was written: with the units and scenes that the words stand for, if they are as many as the header says
 abbrev pub RecordWritten : List ℕ → List ℕ → Header → List ℕ → List ℕ → Type 0

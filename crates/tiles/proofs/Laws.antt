@@ -13,7 +13,8 @@ use mathlib.Core.Logic.{_⊎_, inl, inr}
 use borrow.Author.Tests.{eqb-true, eqb-false}
 use Rattle.rules.specs.Bytes.{tally}
 use Rattle.rules.specs.Histograms.{third, tileAt, bin}
-use Rattle.rules.proofs.Laws.Tiles.{hits, binTally, bin-more}
+use Rattle.rules.specs.Counted.{hits}
+use Rattle.rules.proofs.Laws.Tiles.{binTally, bin-more}
 use Rattle.rules.proofs.Laws.Thirds.{tile-of}
 use Rattle.blocks.specs.Sums.{run}
 use Rattle.blocks.proofs.Runs.{run-length}

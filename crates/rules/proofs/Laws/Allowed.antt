@@ -12,12 +12,12 @@ use borrow.Author.Tests.{eq-eqb, eqb-true, leb-true}
 use Rattle.rules.specs.declared.Header.{Header}
 use Rattle.rules.specs.declared.UnitRow.{UnitRow}
 use Rattle.rules.specs.declared.SceneRow.{SceneRow}
-use Rattle.rules.specs.Bytes.{pick, within, word32, word64, bytesOf, joined, table}
+use Rattle.rules.specs.Bytes.{pick, within, word32, word64, bytesOf, endToEnd, table}
 use Rattle.rules.specs.Opening.{goodSize, goodTime, goodPid}
 use Rattle.rules.specs.Record.{recordLength, sceneOffset, headerBytes, unitBytes, sceneBytes, recordBytes}
 use Rattle.rules.specs.Reading.{headerOf, unitPlace, scenePlace, unitAt, sceneAt, allowedHeader, allowedUnit, allowedUnits, allowedScene, allowedScenes, allowedRows, allowed}
-use Rattle.rules.proofs.Laws.Words.{Bytes, word32-bytes, bytes-word32, bytes-word64, word32-fits, word64-fits}
-use Rattle.rules.proofs.Laws.Lists.{length-table}
+use Rattle.rules.proofs.Laws.Words.{EachByte, word32-bytes, bytes-word32, bytes-word64, word32-fits, word64-fits}
+use Rattle.rules.proofs.Laws.Lists.{both, inside, length-table}
 use Rattle.rules.proofs.Laws.Record.{HeaderFits, UnitFits, SceneFits, Each, Figures, unitIn, sceneIn, unit-back, scene-back, unit-zero, scene-zero, length-header, length-unit, length-scene, length-rows, length-record, header-back, parts-of}
 
 -- ---- tests
@@ -29,16 +29,6 @@ and-true false = refl
 pick-and : (a b : Bool) → pick a b false ≡ (a && b)
 pick-and true b = refl
 pick-and false b = refl
-
--- both passed
-pub both : (a b : Bool) → (a && b) ≡ true → (a ≡ true) × (b ≡ true)
-both true b e = (refl, e)
-both false b e = absurd (let z : _≡_ {A = ℕ} 0 1 = cc in omega arith)
-
-inside : (low high x : ℕ) → within low high x ≡ true → (low ≤ x) × (x ≤ high)
-inside low high x e =
-    let b = both (leb low x) (leb x high) e in
-    (leb-true low x (b .0), leb-true x high (b .1))
 
 -- ---- the conditions, on figures
 
@@ -103,12 +93,12 @@ allowed-unit u t f =
     let e : allowedUnit (unitBytes u ++ t) ≡ goodUnit (unitIn (unitBytes u ++ t)) = rw (unit-zero u t, and-true) in
     e ∙ ap goodUnit (unit-back u t f)
 
-allowed-units : (us : List UnitRow) (t : List ℕ) → Each UnitFits us → allowedUnits (length us) (joined (map unitBytes us) ++ t) ≡ goodUnits us
-unfolding allowedUnits goodUnits joined
+allowed-units : (us : List UnitRow) (t : List ℕ) → Each UnitFits us → allowedUnits (length us) (endToEnd (map unitBytes us) ++ t) ≡ goodUnits us
+unfolding allowedUnits goodUnits endToEnd
 allowed-units [] t f = refl
 allowed-units (u ∷ us) t f =
-    let more = joined (map unitBytes us) ++ t in
-    rw (append-assoc (unitBytes u) (joined (map unitBytes us)) t, drop-at (unitBytes u) more 32 (length-unit u), allowed-unit u more (f .0), allowed-units us t (f .1))
+    let more = endToEnd (map unitBytes us) ++ t in
+    rw (append-assoc (unitBytes u) (endToEnd (map unitBytes us)) t, drop-at (unitBytes u) more 32 (length-unit u), allowed-unit u more (f .0), allowed-units us t (f .1))
 
 allowed-scene : (from : ℕ) (s : SceneRow) (t : List ℕ) → SceneFits s → allowedScene from (sceneBytes s ++ t) ≡ (eqb (s .first) from && leb 1 (s .pictures))
 unfolding allowedScene sceneIn
@@ -118,35 +108,35 @@ allowed-scene from s t f =
     e ∙ ap at (scene-back s t f)
 
 allowed-scenes : (pictures from : ℕ) (ss : List SceneRow) (t : List ℕ) → Each SceneFits ss →
-    allowedScenes pictures (length ss) from (joined (map sceneBytes ss) ++ t) ≡ goodScenes pictures from ss
-unfolding allowedScenes goodScenes joined sceneIn
+    allowedScenes pictures (length ss) from (endToEnd (map sceneBytes ss) ++ t) ≡ goodScenes pictures from ss
+unfolding allowedScenes goodScenes endToEnd sceneIn
 allowed-scenes pictures from [] t f = refl
 allowed-scenes pictures from (s ∷ ss) t f =
-    let more = joined (map sceneBytes ss) ++ t in
+    let more = endToEnd (map sceneBytes ss) ++ t in
     let n : word32 (sceneBytes s ++ more) 4 ≡ s .pictures = ap (λ (x : SceneRow). x .pictures) (scene-back s more (f .0)) in
-    rw (append-assoc (sceneBytes s) (joined (map sceneBytes ss)) t, drop-at (sceneBytes s) more 32 (length-scene s), allowed-scene from s more (f .0), n, allowed-scenes pictures (from + s .pictures) ss t (f .1))
+    rw (append-assoc (sceneBytes s) (endToEnd (map sceneBytes ss)) t, drop-at (sceneBytes s) more 32 (length-scene s), allowed-scene from s more (f .0), n, allowed-scenes pictures (from + s .pictures) ss t (f .1))
 
 -- the rows' bytes
-rows-place : (h : Header) (us : List UnitRow) (ss : List SceneRow) → drop 64 (recordBytes h us ss) ≡ joined (map unitBytes us) ++ joined (map sceneBytes ss)
-rows-place h us ss = rw (parts-of h us ss) (drop-at (headerBytes h) (joined (map unitBytes us) ++ joined (map sceneBytes ss)) 64 (length-header h))
+rows-place : (h : Header) (us : List UnitRow) (ss : List SceneRow) → drop 64 (recordBytes h us ss) ≡ endToEnd (map unitBytes us) ++ endToEnd (map sceneBytes ss)
+rows-place h us ss = rw (parts-of h us ss) (drop-at (headerBytes h) (endToEnd (map unitBytes us) ++ endToEnd (map sceneBytes ss)) 64 (length-header h))
 
-scenes-place : (h : Header) (us : List UnitRow) (ss : List SceneRow) → drop (sceneOffset (length us)) (recordBytes h us ss) ≡ joined (map sceneBytes ss)
+scenes-place : (h : Header) (us : List UnitRow) (ss : List SceneRow) → drop (sceneOffset (length us)) (recordBytes h us ss) ≡ endToEnd (map sceneBytes ss)
 unfolding recordBytes sceneOffset
 scenes-place h us ss =
-    drop-at (headerBytes h ++ joined (map unitBytes us)) (joined (map sceneBytes ss)) (64 + 32 * length us)
+    drop-at (headerBytes h ++ endToEnd (map unitBytes us)) (endToEnd (map sceneBytes ss)) (64 + 32 * length us)
     (simp (length-append, length-header, length-rows unitBytes length-unit))
 
 pub allowed-figures : (h : Header) (us : List UnitRow) (ss : List SceneRow) → Figures h us ss → allowed (recordBytes h us ss) ≡ goodFigures h us ss
 unfolding allowed allowedRows goodFigures headerOf
 allowed-figures h us ss f =
     let r = recordBytes h us ss in
-    let w : Words h r = rw (parts-of h us ss) (header-words h (joined (map unitBytes us) ++ joined (map sceneBytes ss)) (f .header)) in
+    let w : Words h r = rw (parts-of h us ss) (header-words h (endToEnd (map unitBytes us) ++ endToEnd (map sceneBytes ss)) (f .header)) in
     let n : length r ≡ recordLength (h .units) (h .scenes) = length-record h us ss ∙ (rw (f .units, f .scenes)) in
     let u : word32 r 8 ≡ length us = ap (λ (x : Header). x .units) (w .figures) ∙ sym (f .units) in
     let s : word32 r 16 ≡ length ss = ap (λ (x : Header). x .scenes) (w .figures) ∙ sym (f .scenes) in
     let p : word32 r 40 ≡ h .pictures = ap (λ (x : Header). x .pictures) (w .figures) in
     let units : allowedUnits (word32 r 8) (drop 64 r) ≡ goodUnits us =
-    rw (u, rows-place h us ss) (allowed-units us (joined (map sceneBytes ss)) (f .unitRows)) in
+    rw (u, rows-place h us ss) (allowed-units us (endToEnd (map sceneBytes ss)) (f .unitRows)) in
     let scenes : allowedScenes (word32 r 40) (word32 r 16) 0 (drop (sceneOffset (word32 r 8)) r) ≡ goodScenes (h .pictures) 0 ss =
     rw (p, s, u, scenes-place h us ss) (rw append-nil at (allowed-scenes (h .pictures) 0 ss [] (f .sceneRows))) in
     rw (pick-and, allowed-header h r (length r) w n, units, scenes)
@@ -204,10 +194,10 @@ header-allowed n r e =
 
 -- ---- read and written again
 
-bytes-drop : (n : ℕ) (r : List ℕ) → Bytes r → Bytes (drop n r)
+bytes-drop : (n : ℕ) (r : List ℕ) → EachByte r → EachByte (drop n r)
 bytes-drop n r b i = rw (getD-drop n r i 0) (b (n + i))
 
-header-again : (r : List ℕ) → Bytes r → 64 ≤ length r → HeaderAllowed (length r) r → headerBytes (headerOf r) ++ drop 64 r ≡ r
+header-again : (r : List ℕ) → EachByte r → 64 ≤ length r → HeaderAllowed (length r) r → headerBytes (headerOf r) ++ drop 64 r ≡ r
 unfolding headerBytes headerOf
 header-again r b k a =
     let at : (i : ℕ) → i + 4 ≤ 64 → bytesOf 4 (word32 r i) ++ drop (i + 4) r ≡ drop i r = λ i l. bytes-word32 r i b (omega arith) in
@@ -218,14 +208,14 @@ header-again r b k a =
     simp append-assoc
     (rw (bytes-word64 r 56 b k, at 52 (omega arith), at 48 (omega arith), at 44 (omega arith), at 40 (omega arith), at 36 (omega arith), at 32 (omega arith), at 28 (omega arith), at 24 (omega arith), a20, at 16 (omega arith), a12, at 8 (omega arith), a4, a0))
 
-unit-again : (b : List ℕ) → Bytes b → 32 ≤ length b → word32 b 28 ≡ 0 → unitBytes (unitIn b) ++ drop 32 b ≡ b
+unit-again : (b : List ℕ) → EachByte b → 32 ≤ length b → word32 b 28 ≡ 0 → unitBytes (unitIn b) ++ drop 32 b ≡ b
 unfolding unitBytes unitIn
 unit-again b y k z =
     let at : (i : ℕ) → i + 4 ≤ 32 → bytesOf 4 (word32 b i) ++ drop (i + 4) b ≡ drop i b = λ i l. bytes-word32 b i y (omega arith) in
     let a28 = rw z at (at 28 (omega arith)) in
     simp append-assoc (rw (a28, at 24 (omega arith), at 20 (omega arith), at 16 (omega arith), bytes-word64 b 8 y (omega arith), bytes-word64 b 0 y (omega arith)))
 
-scene-again : (b : List ℕ) → Bytes b → 32 ≤ length b → word32 b 28 ≡ 0 → sceneBytes (sceneIn b) ++ drop 32 b ≡ b
+scene-again : (b : List ℕ) → EachByte b → 32 ≤ length b → word32 b 28 ≡ 0 → sceneBytes (sceneIn b) ++ drop 32 b ≡ b
 unfolding sceneBytes sceneIn
 scene-again b y k z =
     let at : (i : ℕ) → i + 4 ≤ 32 → bytesOf 4 (word32 b i) ++ drop (i + 4) b ≡ drop i b = λ i l. bytes-word32 b i y (omega arith) in
@@ -236,8 +226,8 @@ scene-again b y k z =
 -- n rows of any kind from row j on, of a string whose rows begin at place p
 module _ {A : Type 0} (row : A → List ℕ) (r : List ℕ) (p : ℕ) (read : ℕ → A) where
   rows-again : (n j : ℕ) → ((i : ℕ) → j ≤ i → i < j + n → row (read i) ++ drop (p + 32 * i + 32) r ≡ drop (p + 32 * i) r) →
-      joined (map row (table n j read)) ++ drop (p + 32 * (j + n)) r ≡ drop (p + 32 * j) r
-  unfolding joined table
+      endToEnd (map row (table n j read)) ++ drop (p + 32 * (j + n)) r ≡ drop (p + 32 * j) r
+  unfolding endToEnd table
   rows-again zero j h = rw (add-zero j)
   rows-again (suc n) j h =
       let e : p + 32 * (j + suc n) ≡ p + 32 * (suc j + n) = omega arith in
@@ -245,7 +235,7 @@ module _ {A : Type 0} (row : A → List ℕ) (r : List ℕ) (p : ℕ) (read : �
       rw (append-assoc (row (read j)), e, rows-again n (suc j) (λ i a b. h i (omega arith) (omega arith)), ← g) (h j (omega arith) (omega arith))
 
   rows-all : (n : ℕ) → ((i : ℕ) → i < n → row (read i) ++ drop (p + 32 * i + 32) r ≡ drop (p + 32 * i) r) →
-      joined (map row (table n 0 read)) ++ drop (p + 32 * n) r ≡ drop p r
+      endToEnd (map row (table n 0 read)) ++ drop (p + 32 * n) r ≡ drop p r
   rows-all n h =
       let e : p + 32 * (0 + n) ≡ p + 32 * n = omega arith in
       let g : p + 32 * 0 ≡ p = omega arith in
@@ -299,12 +289,12 @@ unitsRead r = table (word32 r 8) 0 (unitAt r)
 unfoldable pub scenesRead : List ℕ → List SceneRow
 scenesRead r = table (word32 r 16) 0 (sceneAt r)
 
-module _ (r : List ℕ) (b : Bytes r) (a : RecordAllowed r) where
+module _ (r : List ℕ) (b : EachByte r) (a : RecordAllowed r) where
   long-enough : 64 + 32 * (word32 r 8 + word32 r 16) ≡ length r
   unfolding recordLength
   long-enough = let h = a .header in sym (h .whole) ∙ h .length
 
-  units-again : joined (map unitBytes (unitsRead r)) ++ drop (64 + 32 * word32 r 8) r ≡ drop 64 r
+  units-again : endToEnd (map unitBytes (unitsRead r)) ++ drop (64 + 32 * word32 r 8) r ≡ drop 64 r
   unfolding unitsRead unitAt unitPlace unitIn
   units-again =
       let n = long-enough in
@@ -315,7 +305,7 @@ module _ (r : List ℕ) (b : Bytes r) (a : RecordAllowed r) where
       rw (drop-drop 32 (64 + 32 * i) r) at
       (unit-again (drop (64 + 32 * i) r) (bytes-drop (64 + 32 * i) r b) (simp length-drop (omega arith)) (zero-at i k)))
 
-  scenes-again : joined (map sceneBytes (scenesRead r)) ++ drop (64 + 32 * word32 r 8 + 32 * word32 r 16) r ≡ drop (64 + 32 * word32 r 8) r
+  scenes-again : endToEnd (map sceneBytes (scenesRead r)) ++ drop (64 + 32 * word32 r 8 + 32 * word32 r 16) r ≡ drop (64 + 32 * word32 r 8) r
   unfolding scenesRead sceneAt scenePlace sceneIn sceneOffset
   scenes-again =
       let n = long-enough in
@@ -337,12 +327,12 @@ module _ (r : List ℕ) (b : Bytes r) (a : RecordAllowed r) where
   again : recordBytes (headerOf r) (unitsRead r) (scenesRead r) ≡ r
   again =
       let n = long-enough in
-      let s : joined (map sceneBytes (scenesRead r)) ≡ drop (64 + 32 * word32 r 8) r =
+      let s : endToEnd (map sceneBytes (scenesRead r)) ≡ drop (64 + 32 * word32 r 8) r =
       rw append-nil at (rw rest-again at scenes-again) in
       rw (parts-of (headerOf r) (unitsRead r) (scenesRead r), s, units-again) (header-again r b (omega arith) (a .header))
 
 -- an allowed record is the record of the figures read from it
-pub record-again : (r : List ℕ) → Bytes r → allowed r ≡ true → recordBytes (headerOf r) (unitsRead r) (scenesRead r) ≡ r
+pub record-again : (r : List ℕ) → EachByte r → allowed r ≡ true → recordBytes (headerOf r) (unitsRead r) (scenesRead r) ≡ r
 record-again r b e = again r b (record-allowed r e)
 
 -- ---- the figures read from an allowed record fit their words, and meet the conditions
@@ -352,7 +342,7 @@ unfolding table
 each-table P f h zero from = tt
 each-table P f h (suc n) from = (h from, each-table P f h n (suc from))
 
-header-fits : (r : List ℕ) → Bytes r → HeaderAllowed (length r) r → HeaderFits (headerOf r)
+header-fits : (r : List ℕ) → EachByte r → HeaderAllowed (length r) r → HeaderFits (headerOf r)
 unfolding headerOf recordLength
 header-fits r b a =
     record {
@@ -368,14 +358,14 @@ header-fits r b a =
       index = word64-fits r 56 b;
     }
 
-unit-fits : (r : List ℕ) → Bytes r → (j : ℕ) → UnitFits (unitAt r j)
+unit-fits : (r : List ℕ) → EachByte r → (j : ℕ) → UnitFits (unitAt r j)
 unfolding unitAt
 unit-fits r b j =
     let t = drop (unitPlace j) r in
     let y = bytes-drop (unitPlace j) r b in
     record { least = word64-fits t 0 y; greatest = word64-fits t 8 y; size = word32-fits t 16 y; packets = word32-fits t 20 y; lost = word32-fits t 24 y }
 
-scene-fits : (r : List ℕ) → Bytes r → (j : ℕ) → SceneFits (sceneAt r j)
+scene-fits : (r : List ℕ) → EachByte r → (j : ℕ) → SceneFits (sceneAt r j)
 unfolding sceneAt
 scene-fits r b j =
     let t = drop (scenePlace r j) r in
@@ -390,7 +380,7 @@ scene-fits r b j =
       change = word32-fits t 24 y;
     }
 
-pub figures-read : (r : List ℕ) → Bytes r → allowed r ≡ true → Figures (headerOf r) (unitsRead r) (scenesRead r)
+pub figures-read : (r : List ℕ) → EachByte r → allowed r ≡ true → Figures (headerOf r) (unitsRead r) (scenesRead r)
 unfolding headerOf unitsRead scenesRead
 figures-read r b e =
     record {
@@ -401,5 +391,5 @@ figures-read r b e =
       sceneRows = each-table SceneFits (sceneAt r) (scene-fits r b) (word32 r 16) 0;
     }
 
-pub good-read : (r : List ℕ) → Bytes r → allowed r ≡ true → goodFigures (headerOf r) (unitsRead r) (scenesRead r) ≡ true
+pub good-read : (r : List ℕ) → EachByte r → allowed r ≡ true → goodFigures (headerOf r) (unitsRead r) (scenesRead r) ≡ true
 good-read r b e = sym (allowed-figures (headerOf r) (unitsRead r) (scenesRead r) (figures-read r b e)) ∙ (ap allowed (record-again r b e) ∙ e)

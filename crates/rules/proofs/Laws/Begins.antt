@@ -11,22 +11,20 @@ use lib.Seq.{length-take-le, getD-take, drop-append-le, take-append-add}
 use lib.Dec.{leb}
 use borrow.Author.Tests.{le-leb, lt-leb}
 use Rattle.rules.specs.declared.Opening.{Opening}
-use Rattle.rules.specs.Bytes.{pick, byte, word32, network16, only}
+use Rattle.rules.specs.Bytes.{pick, byte, word32, network16, only, All, and, empty}
 use Rattle.rules.specs.Refusals.{none, fault}
 use Rattle.rules.specs.Frames.{seconds, microseconds, storedLength, frameTime, body, frameSize, frames, rest, behindHeader}
 use Rattle.rules.specs.Packets.{Packet, ipLength, udpLength, carries, packetsFrom, packetsIn, packetsOf, packets, shown, identifier, kind, isWanted, startMark, wantedOf}
 use Rattle.rules.specs.Units.{Arrival, arrivalsAfter, arrivals, beginnings}
 use Rattle.rules.specs.Capture.{wholeFrames, unfinished, allFrames, shownWanted, beginsAt, tooManyUnits, captureFault}
-use Rattle.rules.proofs.Laws.Lists.{only-append}
-use Rattle.rules.proofs.Laws.Histograms.{All, and}
-use Rattle.rules.proofs.Laws.Histograms
+use Rattle.rules.proofs.Laws.Lists.{all-drop, only-append}
 use Rattle.rules.proofs.Laws.Faults.{no-fault, at-fault, late-fault, Grows, same, new, grows-kept, earlier-grows, long-grows, magic-grows, link-grows, frames-grow}
 use Rattle.rules.proofs.Laws.Frames.{size-least, size-append, frames-none, rest-none, frames-one, rest-one, frames-onward, rest-onward, by-frames}
 
 module _ {A : Type 0} {P : A → Type 0} where
   pub only-all : (test : A → Bool) {xs : List A} → All P xs → All P (only test xs)
   unfolding only
-  only-all test Histograms.none = Histograms.none
+  only-all test empty = empty
   only-all test (and {x} {xs} h hs) = go (test x) (only-all test hs)
     where
       go : (b : Bool) → All P (only test xs) → All P (pick b (x ∷ only test xs) (only test xs))
@@ -34,7 +32,7 @@ module _ {A : Type 0} {P : A → Type 0} where
       go false r = r
 
   pub all-append : {xs ys : List A} → All P xs → All P ys → All P (xs ++ ys)
-  all-append Histograms.none r = r
+  all-append empty r = r
   all-append (and h hs) r = and h (all-append hs r)
 
 -- its byte 3 stands at n or later; before n
@@ -59,14 +57,14 @@ extends-late (ends h) r = ends (all-append h r)
 extends-late (pair a e) r = pair a (extends-late e r)
 
 extends-both : {n : ℕ} {ps qs rs : List Packet} → All (Early n) ps → Extends n qs rs → Extends n (ps ++ qs) (ps ++ rs)
-extends-both Histograms.none e = e
+extends-both empty e = e
 extends-both (and h hs) e = pair (record { place = refl; early = h; bytes = λ i g. refl }) (extends-both hs e)
 
 -- ---- the packets behind each other
 
 from-late : (n m time place : ℕ) (s : List ℕ) → n ≤ place + 3 → All (After n) (packetsFrom m time place s)
 unfolding packetsFrom
-from-late n zero time place s h = Histograms.none
+from-late n zero time place s h = empty
 from-late n (suc m) time place s h = and h (from-late n m time (place + 188) (drop 188 s) (omega arith))
 
 from-none : (m time place : ℕ) (s : List ℕ) → length s < 4 → shown (packetsFrom m time place s) ≡ []
@@ -78,25 +76,25 @@ from-none (suc m) time place s h =
 
 from-early : (n m time place : ℕ) (s : List ℕ) → place + length s ≤ n → All (Early n) (shown (packetsFrom m time place s))
 unfolding shown only packetsFrom
-from-early n zero time place s h = Histograms.none
+from-early n zero time place s h = empty
 from-early n (suc m) time place s h = go (decLe 4 (length s)) (decLe 188 (length s)) (from-early n m time (place + 188) (drop 188 s))
   where
     go : Dec (4 ≤ length s) → Dec (188 ≤ length s) →
         (place + 188 + length (drop 188 s) ≤ n → All (Early n) (shown (packetsFrom m time (place + 188) (drop 188 s)))) →
         All (Early n) (shown (packetsFrom (suc m) time place s))
-    go (no g) d ih = rw (from-none (suc m) time place s (lt-of-not-le g)) Histograms.none
+    go (no g) d ih = rw (from-none (suc m) time place s (lt-of-not-le g)) empty
     go (yes g) (yes k) ih =
         let e : place + 3 < n = omega arith in
         rw (le-leb 4 (length (take 188 s)) (simp length-take (omega arith))) (and e (ih (simp length-drop (omega arith))))
     go (yes g) (no k) ih =
         let e : place + 3 < n = omega arith in
         rw (le-leb 4 (length (take 188 s)) (simp length-take (omega arith)), drop-of-length-le s {i = 188} (omega arith), from-none m time (place + 188) [] (omega arith))
-        (and e Histograms.none)
+        (and e empty)
 
 from-grow : (n m time place : ℕ) (s t : List ℕ) → n ≡ place + length s →
     Extends n (shown (packetsFrom m time place s)) (shown (packetsFrom m time place (s ++ t)))
 unfolding shown only packetsFrom
-from-grow n zero time place s t h = ends Histograms.none
+from-grow n zero time place s t h = ends empty
 from-grow n (suc m) time place s t h = go (decLe 4 (length s)) (decLe 188 (length s)) (from-grow n m time (place + 188) (drop 188 s) t)
   where
     first : 4 ≤ length s → Alike n (record { time = time; place = place; bytes = take 188 s }) (record { time = time; place = place; bytes = take 188 (s ++ t) })
@@ -136,18 +134,18 @@ of-late n place f h = go (carries f)
   where
     go : (b : Bool) → All (After n) (shown (pick b (packetsIn place f) []))
     go true = only-all isShown (from-late n ((udpLength f - 8) / 188) (frameTime f) (place + 58) (drop 42 (body f)) (omega arith))
-    go false = only-all isShown Histograms.none
+    go false = only-all isShown empty
 
 of-early : (n place : ℕ) (f : List ℕ) → place + length f ≤ n → All (Early n) (shown (packetsOf place f))
 unfolding shown packetsOf packetsIn only body
 of-early n place f h = go (carries f) (decLe 58 (length f))
   where
     go : (b : Bool) → Dec (58 ≤ length f) → All (Early n) (shown (pick b (packetsIn place f) []))
-    go false d = Histograms.none
+    go false d = empty
     go true (yes g) =
         from-early n ((udpLength f - 8) / 188) (frameTime f) (place + 58) (drop 42 (drop 16 f)) (simp length-drop (omega arith))
     go true (no g) =
-        rw (from-none ((udpLength f - 8) / 188) (frameTime f) (place + 58) (drop 42 (drop 16 f)) (simp length-drop (omega arith))) Histograms.none
+        rw (from-none ((udpLength f - 8) / 188) (frameTime f) (place + 58) (drop 42 (drop 16 f)) (simp length-drop (omega arith))) empty
 
 -- the fields of a frame that is there up to its first packet's byte 3 stay
 module _ (x t : List ℕ) (h : 62 ≤ length x) where
@@ -210,7 +208,7 @@ of-grow n place x t e = go (decLe 62 (length x))
   where
     there : 62 ≤ length x → (b : Bool) → Extends n (shown (pick b (packetsIn place x) [])) (shown (pick b (packetsIn place (x ++ t)) []))
     there h true = in-grow n place x t e h
-    there h false = ends Histograms.none
+    there h false = ends empty
 
     go : Dec (62 ≤ length x) → Extends n (shown (packetsOf place x)) (shown (packetsOf place (x ++ t)))
     go (yes h) = rw (carries-more x t h) (there h (carries x))
@@ -231,7 +229,7 @@ unfolding packets
 split place f fs = shown-append (packetsOf place f) (packets (place + length f) fs)
 
 packets-late : (n place : ℕ) (fs : List (List ℕ)) → n ≤ place → All (After n) (shown (packets place fs))
-packets-late n place [] h = unfold shown only packets in Histograms.none
+packets-late n place [] h = unfold shown only packets in empty
 packets-late n place (f ∷ fs) h =
     rw (split place f fs) (all-append (of-late n place f (omega arith)) (packets-late n (place + length f) fs (omega arith)))
 
@@ -298,7 +296,7 @@ data Follows (n : ℕ) : List Arrival → List Arrival → Type 0 where
 
 after-late : (n : ℕ) (q : Packet) {qs : List Packet} → All (After n) qs → All (Behind n) (arrivalsAfter q qs)
 unfolding arrivalsAfter
-after-late n q Histograms.none = Histograms.none
+after-late n q empty = empty
 after-late n q (and {x} h hs) = and h (after-late n x hs)
 
 start-alike : {n : ℕ} {p q : Packet} → Alike n p q → startMark (q .bytes) ≡ startMark (p .bytes)
@@ -312,7 +310,7 @@ after-follows p q (pair {p = p′} {q = q′} a e) = next (a .place) (start-alik
 
 arrivals-follow : {n : ℕ} {ps qs : List Packet} → Extends n ps qs → Follows n (arrivals ps) (arrivals qs)
 unfolding arrivals
-arrivals-follow (ends Histograms.none) = stops Histograms.none
+arrivals-follow (ends empty) = stops empty
 arrivals-follow {n} (ends (and {x} h hs)) = stops (and h (after-late n x hs))
 arrivals-follow (pair {p} {q} a e) = next (a .place) refl (a .early) (after-follows p q e)
 
@@ -331,18 +329,13 @@ begins-follow {n} (next {a} {b} {xs} {bs} p e l f) = go (a .begins) (b .begins) 
     go false true z r = absurd (true≢false z)
     go false false z r = r
 
-all-drop : {n : ℕ} (k : ℕ) {bs : List Arrival} → All (Behind n) bs → All (Behind n) (drop k bs)
-all-drop zero h = h
-all-drop (suc k) Histograms.none = Histograms.none
-all-drop (suc k) (and h hs) = all-drop k hs
-
 drop-follow : {n : ℕ} (k : ℕ) {xs bs : List Arrival} → Follows n xs bs → Follows n (drop k xs) (drop k bs)
 drop-follow zero f = f
 drop-follow (suc k) (stops h) = stops (all-drop (suc k) h)
 drop-follow (suc k) (next p e l f) = drop-follow k f
 
 at-follow : {n : ℕ} {xs bs : List Arrival} → Follows n xs bs → Grows n (beginsAt xs) (beginsAt bs)
-at-follow (stops Histograms.none) = same no-fault
+at-follow (stops empty) = same no-fault
 at-follow (stops (and h hs)) = new (late-fault h)
 at-follow (next p e l f) = rw p (same (at-fault l))
 

@@ -9,27 +9,16 @@ use lib.ListN.{length, take, drop, length-append, length-take, length-drop}
 use lib.Dec.{leb}
 use borrow.Author.Tests.{le-leb, lt-leb}
 use Rattle.rules.specs.declared.Opening.{Opening}
-use Rattle.rules.specs.Bytes.{pick, count, only, joined}
+use Rattle.rules.specs.Bytes.{pick, count, only, endToEnd, All, and, empty}
 use Rattle.rules.specs.Frames.{frameTime, behindHeader, frames, rest}
 use Rattle.rules.specs.Packets.{Packet, carries, packetsFrom, packetsOf, packets, skipped, kind, isBad, isWanted, wantedOf, badOf}
 use Rattle.rules.specs.Capture.{wholeFrames, unfinished, allFrames, wholeWanted, frameCount, skippedCount, badCount}
-use Rattle.rules.proofs.Laws.Lists.{only-append, joined-append}
-use Rattle.rules.proofs.Laws.Histograms.{All, and}
-use Rattle.rules.proofs.Laws.Histograms
+use Rattle.rules.proofs.Laws.Lists.{count-few, only-append, endToEnd-append}
 use Rattle.rules.proofs.Laws.Frames.{size-least, frames-all}
 use Rattle.rules.proofs.Laws.Onward.{Whole, frames-whole, countOf, of-from, reaching}
 use Rattle.rules.proofs.Laws.Flow.{reached, bad-of, wanted-of}
 
 module _ {A : Type 0} (test : A → Bool) where
-  pub count-few : (xs : List A) → count test xs ≤ length xs
-  unfolding count
-  count-few [] = omega arith
-  count-few (x ∷ xs) = go (test x) (count-few xs)
-    where
-      go : (b : Bool) → count test xs ≤ length xs → pick b 1 0 + count test xs ≤ suc (length xs)
-      go true h = omega arith
-      go false h = omega arith
-
   pub only-few : (xs : List A) → length (only test xs) ≤ length xs
   unfolding only
   only-few [] = omega arith
@@ -41,21 +30,21 @@ module _ {A : Type 0} (test : A → Bool) where
 
 -- ---- frames
 
-frames-few : {fs : List (List ℕ)} → All Whole fs → length fs ≤ length (joined fs)
-unfolding joined
-frames-few Histograms.none = omega arith
+frames-few : {fs : List (List ℕ)} → All Whole fs → length fs ≤ length (endToEnd fs)
+unfolding endToEnd
+frames-few empty = omega arith
 frames-few (and {x} {xs} w ws) =
     let h = frames-few ws in
-    let l = length-append x (joined xs) in
+    let l = length-append x (endToEnd xs) in
     let k = size-least x in
     omega arith
 
 -- the whole frames' bytes and the others are at most all
-all-bytes : (s : List ℕ) → length (joined (wholeFrames s)) + length (unfinished s) ≤ length s
+all-bytes : (s : List ℕ) → length (endToEnd (wholeFrames s)) + length (unfinished s) ≤ length s
 unfolding wholeFrames unfinished behindHeader
 all-bytes s =
     let e = ap length (frames-all (drop 24 s)) in
-    let l = length-append (joined (frames (drop 24 s))) (rest (drop 24 s)) in
+    let l = length-append (endToEnd (frames (drop 24 s))) (rest (drop 24 s)) in
     let d = length-drop 24 s in
     omega arith
 
@@ -88,8 +77,8 @@ of-few : (place : ℕ) (f : List ℕ) → 188 * length (reaching 188 (packetsOf 
 of-few place f =
     rw (of-from place f) (let h = from-few (countOf f) (frameTime f) (place + 58) (drop 58 f) in let d = length-drop 58 f in omega arith)
 
-packets-few : (place : ℕ) (fs : List (List ℕ)) → 188 * length (reaching 188 (packets place fs)) ≤ length (joined fs)
-unfolding packets joined
+packets-few : (place : ℕ) (fs : List (List ℕ)) → 188 * length (reaching 188 (packets place fs)) ≤ length (endToEnd fs)
+unfolding packets endToEnd
 packets-few place [] = unfold only in omega arith
 packets-few place (f ∷ fs) =
     let e = only-append (λ (p : Packet). leb 188 (length (p .bytes))) (packetsOf place f) (packets (place + length f) fs) in
@@ -97,17 +86,17 @@ packets-few place (f ∷ fs) =
     (let l = length-append (reaching 188 (packetsOf place f)) (reaching 188 (packets (place + length f) fs)) in
     let a = of-few place f in
     let b = packets-few (place + length f) fs in
-    let j = length-append f (joined fs) in
+    let j = length-append f (endToEnd fs) in
     omega arith)
 
 reached-few : (s : List ℕ) → 188 * length (reached 188 s) ≤ length s
 unfolding allFrames
 reached-few s =
     let h = packets-few 24 (wholeFrames s ++ unfinished s ∷ []) in
-    let j = ap length (joined-append (wholeFrames s) (unfinished s ∷ [])) in
-    let l = length-append (joined (wholeFrames s)) (joined (unfinished s ∷ [])) in
+    let j = ap length (endToEnd-append (wholeFrames s) (unfinished s ∷ [])) in
+    let l = length-append (endToEnd (wholeFrames s)) (endToEnd (unfinished s ∷ [])) in
     let a = all-bytes s in
-    let e : length (joined (unfinished s ∷ [])) ≡ length (unfinished s) = unfold joined in length-append (unfinished s) [] ∙ omega arith in
+    let e : length (endToEnd (unfinished s ∷ [])) ≡ length (unfinished s) = unfold endToEnd in length-append (unfinished s) [] ∙ omega arith in
     omega arith
 
 pub bad-few : (o : Opening) (s : List ℕ) → 188 * badCount o s ≤ length s

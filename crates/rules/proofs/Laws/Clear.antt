@@ -9,14 +9,12 @@ use lib.ListN.{length, length-append, List·getD-append}
 use lib.Dec.{leb, ltb, eqb}
 use borrow.Author.Tests.{le-leb, lt-ltb, le-ltb, ltb-false}
 use Rattle.rules.specs.declared.Opening.{Opening}
-use Rattle.rules.specs.Bytes.{pick, byte, word32, only, joined}
+use Rattle.rules.specs.Bytes.{pick, byte, word32, only, endToEnd, All, and, empty}
 use Rattle.rules.specs.Refusals.{Fault, none, fault}
 use Rattle.rules.specs.Frames.{microseconds, storedLength, frameSize}
 use Rattle.rules.specs.Packets.{packets, wantedOf}
 use Rattle.rules.specs.Units.{arrivals, beginnings}
-use Rattle.rules.specs.Capture.{wholeFrames, unfinished, allFrames, earlier, showing, tooLong, wrongMagic, wrongLink, wrongHeader, wrongFrame, tooManyUnits, captureFault}
-use Rattle.rules.proofs.Laws.Histograms.{All, and}
-use Rattle.rules.proofs.Laws.Histograms
+use Rattle.rules.specs.Capture.{wholeFrames, unfinished, allFrames, earlier, showing, tooLong, wrongMagic, wrongLink, wrongFrameHeader, wrongFrame, tooManyUnits, captureFault}
 use Rattle.rules.proofs.Laws.Frames.{size-least}
 use Rattle.rules.proofs.Laws.Capture.{too-long}
 use Rattle.rules.proofs.Laws.Faults.{Late, late-none, late-fault, Grows, same, new, showing-none, earlier-grows, magic-grows, link-grows, frames-grow}
@@ -148,13 +146,13 @@ shows-not n k place w h = go (decLe n place)
     go (no g) = rw (h (omega arith), and-false (ltb place n))
 
 module _ (n place : ℕ) (r : List ℕ) (e : n ≡ place + length r) where
-  pub header-fine : Fine r → wrongHeader n place r ≡ none
-  unfolding wrongHeader
+  pub header-fine : Fine r → wrongFrameHeader n place r ≡ none
+  unfolding wrongFrameHeader
   header-fine f =
       rw (shows-not n 7 (place + 7) (ltb 999999 (microseconds r)) (λ h. le-ltb 999999 (microseconds r) (f .time (omega arith))), shows-not n 8 (place + 11) (ltb 65535 (storedLength r)) (λ h. le-ltb 65535 (storedLength r) (f .size (omega arith))))
 
-  pub fine-header : wrongHeader n place r ≡ none → Fine r
-  unfolding wrongHeader
+  pub fine-header : wrongFrameHeader n place r ≡ none → Fine r
+  unfolding wrongFrameHeader
   fine-header h =
       let b = none-both (showing n 7 (place + 7) (ltb 999999 (microseconds r))) (showing n 8 (place + 11) (ltb 65535 (storedLength r))) h in
       record {
@@ -162,42 +160,42 @@ module _ (n place : ℕ) (r : List ℕ) (e : n ≡ place + length r) where
         size = λ g. ltb-false 65535 (storedLength r) (shows n 8 (place + 11) (ltb 65535 (storedLength r)) (omega arith) (b .1));
       }
 
-  pub header-seven : length r ≡ 8 → 999999 < microseconds r → wrongHeader n place r ≡ fault 7 (place + 7)
-  unfolding wrongHeader
+  pub header-seven : length r ≡ 8 → 999999 < microseconds r → wrongFrameHeader n place r ≡ fault 7 (place + 7)
+  unfolding wrongFrameHeader
   header-seven l h =
       rw (shows-not n 8 (place + 11) (ltb 65535 (storedLength r)) (λ g. absurd (omega arith)))
       (unfold showing in rw (lt-ltb (place + 7) n (omega arith), lt-ltb 999999 (microseconds r) h))
 
-  pub header-eight : length r ≡ 12 → microseconds r ≤ 999999 → 65535 < storedLength r → wrongHeader n place r ≡ fault 8 (place + 11)
-  unfolding wrongHeader
+  pub header-eight : length r ≡ 12 → microseconds r ≤ 999999 → 65535 < storedLength r → wrongFrameHeader n place r ≡ fault 8 (place + 11)
+  unfolding wrongFrameHeader
   header-eight l g h =
       rw (shows-not n 7 (place + 7) (ltb 999999 (microseconds r)) (λ k. le-ltb 999999 (microseconds r) g))
       (unfold showing in rw (lt-ltb (place + 11) n (omega arith), lt-ltb 65535 (storedLength r) h))
 
-header-same : (n n′ place : ℕ) (f : List ℕ) → place + 11 < n → n ≤ n′ → wrongHeader n′ place f ≡ wrongHeader n place f
-unfolding wrongHeader
+header-same : (n n′ place : ℕ) (f : List ℕ) → place + 11 < n → n ≤ n′ → wrongFrameHeader n′ place f ≡ wrongFrameHeader n place f
+unfolding wrongFrameHeader
 header-same n n′ place f h g =
     rw (showing-same n n′ 7 (place + 7) (ltb 999999 (microseconds f)) (omega arith) (omega arith), showing-same n n′ 8 (place + 11) (ltb 65535 (storedLength f)) (omega arith) (omega arith))
 
 -- frames that showed nothing show nothing later
-frames-next : (n n′ p : ℕ) {fs : List (List ℕ)} (r : List ℕ) (gs : List (List ℕ)) → All Whole fs → p + length (joined fs) ≤ n → n ≤ n′ →
-    wrongFrame n p (fs ++ r ∷ []) ≡ none → wrongFrame n′ p (fs ++ gs) ≡ wrongFrame n′ (p + length (joined fs)) gs
-unfolding wrongFrame joined
-frames-next n n′ p r gs Histograms.none a h e = ap (λ (q : ℕ). wrongFrame n′ q gs) (omega arith)
+frames-next : (n n′ p : ℕ) {fs : List (List ℕ)} (r : List ℕ) (gs : List (List ℕ)) → All Whole fs → p + length (endToEnd fs) ≤ n → n ≤ n′ →
+    wrongFrame n p (fs ++ r ∷ []) ≡ none → wrongFrame n′ p (fs ++ gs) ≡ wrongFrame n′ (p + length (endToEnd fs)) gs
+unfolding wrongFrame endToEnd
+frames-next n n′ p r gs empty a h e = ap (λ (q : ℕ). wrongFrame n′ q gs) (omega arith)
 frames-next n n′ p r gs (and {x} {xs} w ws) a h e =
-    let l = length-append x (joined xs) in
+    let l = length-append x (endToEnd xs) in
     let k = size-least x in
-    let b = none-both (wrongHeader n p x) (wrongFrame n (p + length x) (xs ++ r ∷ [])) e in
-    let f : wrongHeader n′ p x ≡ none = header-same n n′ p x (omega arith) h ∙ b .0 in
-    let q : p + length x + length (joined xs) ≡ p + length (x ++ joined xs) = omega arith in
+    let b = none-both (wrongFrameHeader n p x) (wrongFrame n (p + length x) (xs ++ r ∷ [])) e in
+    let f : wrongFrameHeader n′ p x ≡ none = header-same n n′ p x (omega arith) h ∙ b .0 in
+    let q : p + length x + length (endToEnd xs) ≡ p + length (x ++ endToEnd xs) = omega arith in
     rw f (frames-next n n′ (p + length x) r gs ws (omega arith) h (b .1) ∙ ap (λ (z : ℕ). wrongFrame n′ z gs) q)
 
-one-frame : (n p : ℕ) (r : List ℕ) → wrongFrame n p (r ∷ []) ≡ wrongHeader n p r
+one-frame : (n p : ℕ) (r : List ℕ) → wrongFrame n p (r ∷ []) ≡ wrongFrameHeader n p r
 unfolding wrongFrame
-one-frame n p r = earlier-none (wrongHeader n p r)
+one-frame n p r = earlier-none (wrongFrameHeader n p r)
 
-empty-frame : (n p : ℕ) → n ≤ p → wrongHeader n p [] ≡ none
-unfolding wrongHeader
+empty-frame : (n p : ℕ) → n ≤ p → wrongFrameHeader n p [] ≡ none
+unfolding wrongFrameHeader
 empty-frame n p h = rw (shows-not n 7 (p + 7) _ (λ g. absurd (omega arith)), shows-not n 8 (p + 11) _ (λ g. absurd (omega arith)))
 
 module _ (s t : List ℕ) (h : 24 ≤ length s) (fits : length (unfinished s ++ t) ≤ frameSize (unfinished s ++ t))
@@ -214,19 +212,19 @@ module _ (s t : List ℕ) (h : 24 ≤ length s) (fits : length (unfinished s ++ 
   behind-frames gs =
       frames-next (length s) (length (s ++ t)) 24 (unfinished s) gs (frames-whole s) (omega (arith, base-sum s h)) (grown s t) c
 
-  frame-more : wrongFrame (length (s ++ t)) 24 (allFrames (s ++ t)) ≡ wrongHeader (length (s ++ t)) (base s) (unfinished s ++ t)
+  frame-more : wrongFrame (length (s ++ t)) 24 (allFrames (s ++ t)) ≡ wrongFrameHeader (length (s ++ t)) (base s) (unfinished s ++ t)
   unfolding allFrames
   frame-more = go (decLe (frameSize (unfinished s ++ t)) (length (unfinished s ++ t)))
     where
       go : Dec (frameSize (unfinished s ++ t) ≤ length (unfinished s ++ t)) →
-          wrongFrame (length (s ++ t)) 24 (wholeFrames (s ++ t) ++ unfinished (s ++ t) ∷ []) ≡ wrongHeader (length (s ++ t)) (base s) (unfinished s ++ t)
+          wrongFrame (length (s ++ t)) 24 (wholeFrames (s ++ t) ++ unfinished (s ++ t) ∷ []) ≡ wrongFrameHeader (length (s ++ t)) (base s) (unfinished s ++ t)
       go (no g) =
           rw (whole-part s t h (omega arith), unfinished-part s t h (omega arith), behind-frames ((unfinished s ++ t) ∷ []))
           (one-frame (length (s ++ t)) (base s) (unfinished s ++ t))
       go (yes g) =
           let e : length (unfinished s ++ t) ≡ frameSize (unfinished s ++ t) = omega arith in
           rw (whole-full s t h e, unfinished-full s t h e, append-assoc (wholeFrames s) ((unfinished s ++ t) ∷ []) ([] ∷ []), behind-frames ((unfinished s ++ t) ∷ [] ∷ []))
-          (unfold wrongFrame in rw (empty-frame (length (s ++ t)) (base s + length (unfinished s ++ t)) (omega (arith, size-now))) (earlier-none (wrongHeader (length (s ++ t)) (base s) (unfinished s ++ t))))
+          (unfold wrongFrame in rw (empty-frame (length (s ++ t)) (base s + length (unfinished s ++ t)) (omega (arith, size-now))) (earlier-none (wrongFrameHeader (length (s ++ t)) (base s) (unfinished s ++ t))))
 
 -- of the frame that is not whole yet
 pub fine-now : {o : Opening} {s : List ℕ} → 24 ≤ length s → Clear o s → Fine (unfinished s)
@@ -240,7 +238,7 @@ fine-now {o} {s} h c =
 
 module _ (o : Opening) (s t : List ℕ) (h : 24 ≤ length s) (fits : length (unfinished s ++ t) ≤ frameSize (unfinished s ++ t))
     (few : length (s ++ t) ≤ 268435456) (c : Clear o s) where
-  pub shows-next : captureFault o (s ++ t) ≡ earlier (wrongHeader (length (s ++ t)) (base s) (unfinished s ++ t)) (tooManyUnits o (s ++ t))
+  pub shows-next : captureFault o (s ++ t) ≡ earlier (wrongFrameHeader (length (s ++ t)) (base s) (unfinished s ++ t)) (tooManyUnits o (s ++ t))
   unfolding captureFault
   shows-next =
       rw (long-none (s ++ t) few, magic-more s t (omega arith), c .magic, link-more s t h, c .link, frame-more s t h fits (c .frames))

@@ -10,28 +10,23 @@ use lib.ListN.{length, getD, take, drop, length-map}
 use lib.Seq.{length-take-le, split-at, drop-drop}
 use borrow.Author.Tests.{le-leb, lt-leb}
 use Rattle.rules.specs.declared.Opening.{Opening}
-use Rattle.rules.specs.Bytes.{total, tally, parts, smaller}
+use Rattle.rules.specs.Bytes.{total, tally, parts, smaller, Bytes}
 use Rattle.rules.specs.Refusals.{Fault, none, fault}
 use Rattle.rules.specs.Opening.{openingFault, columns, lines, pixelCount}
 use Rattle.rules.specs.Pictures.{pictureSize, ifOpened, pictureCount, pictures, pixels}
 use Rattle.rules.specs.Histograms.{histograms}
 use Rattle.rules.specs.Seal.{reduced}
+use Rattle.rules.specs.Counted.{Whole, otherBin, Counted}
 use Rattle.rules.proofs.Laws.Tables.{getD-mapped, parts-length, part-at}
 use Rattle.rules.proofs.Laws.Tally.{tally-append}
 use Rattle.rules.proofs.Laws.Histograms.{histograms-total}
-use Rattle.rules.proofs.Laws.Pictures.{Bytes}
 use Rattle.rules.proofs.Laws.Moves.{byte-at}
-use Rattle.rules.proofs.Laws.Tiles.{hits, once, histograms-at}
+use Rattle.rules.specs.Counted.{hits}
+use Rattle.rules.proofs.Laws.Tiles.{once, histograms-at}
 use Rattle.rules.proofs.Laws.Sizes.{Good, good, sizes}
 use Rattle.rules.proofs.Laws.Differences.{reduced-at}
 
 -- ---- whole pictures
-
--- picture i is whole: the opening is not refused, i is one of 0 to 749, and its W × H bytes, from i × W × H on, are among the joined bytes
-pub record Whole (o : Opening) (luma : List ℕ) (i : ℕ) : Type 0 where
-  pub opened : openingFault o ≡ none
-  pub few : i < 750
-  pub there : i * pictureSize o + pictureSize o ≤ length luma
 
 smaller-least : (a b i : ℕ) → i < smaller a b → (i < a) × (i < b)
 smaller-least a b i h = go (decLe a b)
@@ -89,25 +84,6 @@ reduced-is o luma i h =
     getD-mapped (pixels o) (parts n m luma) i [] [] (omega (arith, parts-length n m luma)) ∙ ap (pixels o) (part-at n m i luma h)
 
 -- ---- their histograms
-
--- bin b of tile t over the pixels other than the one at place j
-abbrev pub otherBin : Opening → ℕ → ℕ → ℕ → List ℕ → ℕ
-otherBin o t b j px =
-    tally (hits (columns o) (lines o) t b) 0 (take j px) + tally (hits (columns o) (lines o) t b) (suc j) (drop (suc j) px)
-
--- the pixel at place j adds one to one bin of one tile's histogram and nothing to any other
-pub record Adds (o : Opening) (px : List ℕ) (j : ℕ) : Type 0 where
-  pub theTile : ℕ
-  pub theBin : ℕ
-  pub tile-below : theTile < 9
-  pub bin-below : theBin < 16
-  pub own : getD (getD (histograms o px) theTile []) theBin 0 ≡ otherBin o theTile theBin j px + 1
-  pub others : (t b : ℕ) → t < 9 → b < 16 → ((t ≡ theTile) × (b ≡ theBin) → ⊥) → getD (getD (histograms o px) t []) b 0 ≡ otherBin o t b j px
-
-pub record Counted (o : Opening) (px : List ℕ) : Type 0 where
-  pub size : length px ≡ pixelCount o
-  pub adds : (j : ℕ) → j < pixelCount o → Adds o px j
-  pub all : total (map total (histograms o px)) ≡ pixelCount o
 
 -- a bin is what the pixel at place j gives and what the others give
 pixel-adds : (o : Opening) (px : List ℕ) (j t b : ℕ) → j < length px → t < 9 → b < 16 →

@@ -10,7 +10,7 @@ use mathlib.Core.List.{List, [], _∷_, map}
 use lib.ListN.{length, getD, length-map, List·getD-eq-default}
 use lib.Dec.{leb, ltb}
 use Rattle.rules.specs.declared.Opening.{Opening}
-use Rattle.rules.specs.Bytes.{pick, total, smaller, parts}
+use Rattle.rules.specs.Bytes.{pick, total, smaller, parts, All, empty, and, Bytes}
 use Rattle.rules.specs.Opening.{columns, lines}
 use Rattle.rules.specs.Pictures.{pictureSize, pictureCount, pictures, pixels}
 use Rattle.rules.specs.Histograms.{inTile, histogram, histograms}
@@ -18,8 +18,7 @@ use Rattle.rules.specs.Cuts.{binsApart, perMillion, tileDifference, tile
 use Rattle.rules.specs.Seal.{reduced}
 use Rattle.rules.proofs.Laws.Lists.{length-table}
 use Rattle.rules.proofs.Laws.Tables.{getD-mapped}
-use Rattle.rules.proofs.Laws.Histograms.{All, none, and}
-use Rattle.rules.proofs.Laws.Pictures.{Bytes, all-parts, pixels-length, pixels-small}
+use Rattle.rules.proofs.Laws.Pictures.{all-parts, pixels-length, pixels-small}
 use Rattle.rules.proofs.Laws.Tiles.{tile-total, tile-same}
 
 -- ---- of two tiles
@@ -48,13 +47,13 @@ Small ds = All (λ (d : ℕ). d ≤ 1000000) ds
 
 tiles-most : (xs ys : List (List ℕ)) → Alike xs ys → Small (tileDifferences xs ys)
 unfolding tileDifferences Small
-tiles-most [] ys e = none
-tiles-most (x ∷ xs) [] e = none
+tiles-most [] ys e = empty
+tiles-most (x ∷ xs) [] e = empty
 tiles-most (x ∷ xs) (y ∷ ys) e = and (tile-most x y (e 0)) (tiles-most xs ys (λ t. e (suc t)))
 
 insert-small : (d : ℕ) (ds : List ℕ) → d ≤ 1000000 → Small ds → Small (insert d ds)
 unfolding insert Small
-insert-small d [] h none = and h none
+insert-small d [] h empty = and h empty
 insert-small d (e ∷ ds) h (and k ks) = go (leb d e) (insert-small d ds h ks)
   where
     go : (b : Bool) → Small (insert d ds) → Small (pick b (d ∷ e ∷ ds) (e ∷ insert d ds))
@@ -63,12 +62,12 @@ insert-small d (e ∷ ds) h (and k ks) = go (leb d e) (insert-small d ds h ks)
 
 sorted-small : (ds : List ℕ) → Small ds → Small (sorted ds)
 unfolding sorted Small
-sorted-small [] none = none
+sorted-small [] empty = empty
 sorted-small (d ∷ ds) (and h hs) = insert-small d (sorted ds) h (sorted-small ds hs)
 
 one-small : (ds : List ℕ) (i : ℕ) → Small ds → getD ds i 0 ≤ 1000000
 unfolding Small
-one-small [] i none = omega arith
+one-small [] i empty = omega arith
 one-small (d ∷ ds) zero (and h hs) = h
 one-small (d ∷ ds) (suc i) (and h hs) = one-small ds i hs
 
@@ -132,7 +131,7 @@ reduced-at o luma j h l =
     rw here (pixels-small o (getD ps j []) (all-at ps j (all-parts (pictureCount o luma) (pictureSize o) luma h) (omega arith)), pixels-length o (getD ps j []))
   where
     all-at : (ps : List (List ℕ)) (j : ℕ) → All Bytes ps → j < length ps → Bytes (getD ps j [])
-    all-at [] j none l = absurd (omega arith)
+    all-at [] j empty l = absurd (omega arith)
     all-at (p ∷ ps) zero (and h hs) l = h
     all-at (p ∷ ps) (suc j) (and h hs) l = all-at ps j hs (omega arith)
 

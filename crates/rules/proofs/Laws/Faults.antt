@@ -13,7 +13,7 @@ use borrow.Author.Tests.{le-leb, lt-leb, lt-ltb, le-ltb}
 use Rattle.rules.specs.Bytes.{pick, byte, word32}
 use Rattle.rules.specs.Refusals.{Fault, none, fault}
 use Rattle.rules.specs.Frames.{microseconds, storedLength, frameSize, frames, rest, behindHeader}
-use Rattle.rules.specs.Capture.{wholeFrames, unfinished, allFrames, earlier, showing, tooLong, wrongMagic, wrongLink, wrongHeader, wrongFrame}
+use Rattle.rules.specs.Capture.{wholeFrames, unfinished, allFrames, earlier, showing, tooLong, wrongMagic, wrongLink, wrongFrameHeader, wrongFrame}
 use Rattle.rules.proofs.Laws.Frames.{size-least, size-append, frames-none, rest-none, frames-one, rest-one, frames-onward, rest-onward, by-frames}
 
 -- ---- refusals below a place and refusals from it on
@@ -124,8 +124,8 @@ abbrev pub Agrees : ℕ → ℕ → List ℕ → List ℕ → Type 0
 Agrees n place x f = (i : ℕ) → i < 16 → place + i < n → byte f i ≡ byte x i
 
 module _ (n n′ : ℕ) (h : n ≤ n′) where
-  header-late : (place : ℕ) (f : List ℕ) → n ≤ place → Late n (wrongHeader n′ place f)
-  unfolding wrongHeader
+  header-late : (place : ℕ) (f : List ℕ) → n ≤ place → Late n (wrongFrameHeader n′ place f)
+  unfolding wrongFrameHeader
   header-late place f g =
       earlier-late (showing-late n n′ 7 (place + 7) true _ (omega arith)) (showing-late n n′ 8 (place + 11) true _ (omega arith))
 
@@ -134,8 +134,8 @@ module _ (n n′ : ℕ) (h : n ≤ n′) where
   frame-late place [] g = late-none
   frame-late place (f ∷ fs) g = earlier-late (header-late place f g) (frame-late (place + length f) fs (omega arith))
 
-  header-grows : (place : ℕ) (x f : List ℕ) → Agrees n place x f → Grows n (wrongHeader n place x) (wrongHeader n′ place f)
-  unfolding wrongHeader microseconds storedLength word32
+  header-grows : (place : ℕ) (x f : List ℕ) → Agrees n place x f → Grows n (wrongFrameHeader n place x) (wrongFrameHeader n′ place f)
+  unfolding wrongFrameHeader microseconds storedLength word32
   header-grows place x f a =
       earlier-grows
       (showing-grows n n′ 7 (place + 7) _ _ h
@@ -191,8 +191,8 @@ module _ (n n′ : ℕ) (t : List ℕ) (h : n ≤ n′) where
 -- ---- 7 and 8 of a capture that goes on
 
 module _ (n : ℕ) where
-  header-none : (place : ℕ) (f : List ℕ) → n ≤ place → wrongHeader n place f ≡ none
-  unfolding wrongHeader
+  header-none : (place : ℕ) (f : List ℕ) → n ≤ place → wrongFrameHeader n place f ≡ none
+  unfolding wrongFrameHeader
   header-none place f g =
       rw (showing-none n n 7 (place + 7) (ltb 999999 (microseconds f)) true (omega arith), showing-none n n 8 (place + 11) (ltb 65535 (storedLength f)) true (omega arith))
 

@@ -9,11 +9,9 @@ use mathlib.Core.List.{List, [], _∷_}
 use lib.ListN.{length, getD}
 use lib.Dec.{eqb}
 use borrow.Author.Tests.{eqb-true, eqb-false, ne-eqb}
-use Rattle.rules.specs.Bytes.{total, tally, apart}
+use Rattle.rules.specs.Bytes.{total, tally, apart, empty, and, Bytes}
 use Rattle.rules.specs.Changes.{same, squares, spread}
 use Rattle.rules.proofs.Laws.Tally.{tally-shift}
-use Rattle.rules.proofs.Laws.Histograms.{none, and}
-use Rattle.rules.proofs.Laws.Pictures.{Bytes}
 
 -- of the pixel v at place i of the new picture
 abbrev pub rise : List ℕ → ℕ → ℕ → ℕ
@@ -41,11 +39,11 @@ squared old new = tally (square old) 0 new
 -- bytes that give at most k each
 bytes-most : (f : ℕ → ℕ → ℕ) (k q : ℕ) (t : List ℕ) → Bytes t → ((i v : ℕ) → v < 256 → f i v ≤ k) → tally f q t ≤ k * length t
 unfolding tally
-bytes-most f k q [] none h = omega arith
+bytes-most f k q [] empty h = omega arith
 bytes-most f k q (v ∷ t) (and b bs) h = omega (arith, h q v b, bytes-most f k (suc q) t bs h, mul-suc k (length t))
 
 pub byte-at : (s : List ℕ) (i : ℕ) → Bytes s → getD s i 0 < 256
-byte-at [] i none = omega arith
+byte-at [] i empty = omega arith
 byte-at (b ∷ s) zero (and h hs) = h
 byte-at (b ∷ s) (suc i) (and h hs) = byte-at s i hs
 
@@ -106,8 +104,8 @@ same-squares (x ∷ xs) (y ∷ ys) h = go (eqb x y) refl (same-squares xs ys (om
   where
     go : (b : Bool) → eqb x y ≡ b → same xs ys ≡ eqb (squares xs ys) 0 → b && same xs ys ≡ eqb (apart x y * apart x y + squares xs ys) 0
     go true e s =
-        let none : apart x y ≡ 0 = omega (arith, eqb-true x y e) in
-        let rest : apart x y * apart x y + squares xs ys ≡ squares xs ys = rw none (omega arith) in
+        let empty : apart x y ≡ 0 = omega (arith, eqb-true x y e) in
+        let rest : apart x y * apart x y + squares xs ys ≡ squares xs ys = rw empty (omega arith) in
         rw rest s
     go false e s =
         let some : 0 < apart x y = omega (arith, eqb-false x y e) in

@@ -9,13 +9,11 @@ use lib.ListN.{length, take, drop, length-append, length-take, length-drop, take
 use lib.Seq.{length-take-le, take-append-le, drop-append-le, drop-drop, take-all, drop-length}
 use lib.Dec.{leb, ltb, eqb}
 use borrow.Author.Tests.{le-leb, lt-leb, leb-true, ltb-true, eqb-true}
-use Rattle.rules.specs.Bytes.{pick, byte, word32, network16, only, joined}
+use Rattle.rules.specs.Bytes.{pick, byte, word32, network16, only, endToEnd, All, and, empty}
 use Rattle.rules.specs.Frames.{seconds, microseconds, storedLength, frameTime, body, frameSize, frames, rest, behindHeader}
 use Rattle.rules.specs.Packets.{Packet, ipLength, udpLength, holdsHeaders, isIpv4, isPlain, isUnfragmented, isUdp, lengthsAgree, isStoredWhole, holdsPackets, carries, packetsFrom, packetsIn, packetsOf, packets}
 use Rattle.rules.specs.Capture.{wholeFrames, unfinished, allFrames}
-use Rattle.rules.proofs.Laws.Lists.{only-append}
-use Rattle.rules.proofs.Laws.Histograms.{All, and}
-use Rattle.rules.proofs.Laws.Histograms
+use Rattle.rules.proofs.Laws.Lists.{both, only-append}
 use Rattle.rules.proofs.Laws.Frames.{size-least, size-append, frames-none, rest-none, frames-one, rest-one, frames-append, rest-append, frames-all, by-frames}
 use Rattle.rules.proofs.Laws.Capture.{packets-append}
 
@@ -23,13 +21,13 @@ use Rattle.rules.proofs.Laws.Capture.{packets-append}
 
 -- the offset at which the frame starts that is not whole yet
 unfoldable pub base : List ℕ → ℕ
-base s = 24 + length (joined (wholeFrames s))
+base s = 24 + length (endToEnd (wholeFrames s))
 
 pub base-sum : (s : List ℕ) → 24 ≤ length s → base s + length (unfinished s) ≡ length s
 unfolding base wholeFrames unfinished behindHeader
 base-sum s h =
     let e = ap length (frames-all (drop 24 s)) in
-    let l = length-append (joined (frames (drop 24 s))) (rest (drop 24 s)) in
+    let l = length-append (endToEnd (frames (drop 24 s))) (rest (drop 24 s)) in
     let d = length-drop 24 s in
     omega arith
 
@@ -180,10 +178,6 @@ module _ (d : ℕ) (small : d ≤ 188) where
 
 -- ---- whole frames have whole packets
 
-pub both : (a b : Bool) → (a && b) ≡ true → (a ≡ true) × (b ≡ true)
-both true b h = (refl, h)
-both false b h = absurd (false≢true h)
-
 -- a frame that carries has room for its packets
 pub roomy : (f : List ℕ) → 0 < countOf f → 58 + 188 * countOf f ≤ frameSize f
 unfolding countOf frameSize
@@ -214,7 +208,7 @@ pub frames-whole : (s : List ℕ) → All Whole (wholeFrames s)
 unfolding wholeFrames
 frames-whole s =
     by-frames (λ (x : List ℕ). All Whole (frames x))
-    (λ x h. rw (frames-none x h) Histograms.none)
+    (λ x h. rw (frames-none x h) empty)
     (λ x h ih. rw (frames-one x h) (and (length-take-le (frameSize x) x h ∙ sym (size-take x (frameSize x) (size-least x) h)) ih))
     (behindHeader s)
 
@@ -231,7 +225,7 @@ module _ (d : ℕ) (some : 0 < d) (small : d ≤ 188) where
 
   packets-whole : (place : ℕ) {fs : List (List ℕ)} → All Whole fs → reaching d (packets place fs) ≡ packets place fs
   unfolding packets
-  packets-whole place Histograms.none = unfold only in refl
+  packets-whole place empty = unfold only in refl
   packets-whole place (and {x} {xs} w ws) =
       only-append (λ (p : Packet). leb d (length (p .bytes))) (packetsOf place x) (packets (place + length x) xs)
       ∙ rw (of-whole place x w, packets-whole (place + length x) ws)
@@ -250,8 +244,8 @@ module _ (d : ℕ) (some : 0 < d) (small : d ≤ 188) where
   pub layout : (s : List ℕ) → reaching d (packets 24 (allFrames s)) ≡ packets 24 (wholeFrames s) ++ reaching d (packetsOf (base s) (unfinished s))
   unfolding allFrames base
   layout s =
-      rw (packets-append 24 (wholeFrames s) (unfinished s ∷ []), single (24 + length (joined (wholeFrames s))) (unfinished s))
-      (only-append (λ (p : Packet). leb d (length (p .bytes))) (packets 24 (wholeFrames s)) (packetsOf (24 + length (joined (wholeFrames s))) (unfinished s))
+      rw (packets-append 24 (wholeFrames s) (unfinished s ∷ []), single (24 + length (endToEnd (wholeFrames s))) (unfinished s))
+      (only-append (λ (p : Packet). leb d (length (p .bytes))) (packets 24 (wholeFrames s)) (packetsOf (24 + length (endToEnd (wholeFrames s))) (unfinished s))
       ∙ rw (packets-whole 24 (frames-whole s)))
 
   -- bytes more that do not pass the frame's end
@@ -267,4 +261,4 @@ module _ (d : ℕ) (some : 0 < d) (small : d ≤ 188) where
           let e : length (unfinished s ++ t) ≡ frameSize (unfinished s ++ t) = omega arith in
           rw (unfinished-full s t h e, of-none (base (s ++ t)) [] (omega arith), whole-full s t h e, of-whole (base s) (unfinished s ++ t) e)
           (append-nil (packets 24 (wholeFrames s ++ (unfinished s ++ t) ∷ []))
-          ∙ unfold base in rw (packets-append 24 (wholeFrames s) ((unfinished s ++ t) ∷ []), single (24 + length (joined (wholeFrames s))) (unfinished s ++ t)))
+          ∙ unfold base in rw (packets-append 24 (wholeFrames s) ((unfinished s ++ t) ∷ []), single (24 + length (endToEnd (wholeFrames s))) (unfinished s ++ t)))

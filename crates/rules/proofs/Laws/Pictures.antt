@@ -8,17 +8,16 @@ use mathlib.Core.Path.{_≡_, refl, sym, _∙_}
 use mathlib.Core.List.{List, [], _∷_, _++_, map}
 use lib.ListN.{length, take, drop, length-append}
 use Rattle.rules.specs.declared.Opening.{Opening}
-use Rattle.rules.specs.Bytes.{total, table, parts, joined}
+use Rattle.rules.specs.Bytes.{total, table, parts, endToEnd, All, empty, and, Bytes}
 use Rattle.rules.specs.Opening.{level, side, area, columns, lines}
 use Rattle.rules.specs.Refusals.{Fault, fault}
 use Rattle.rules.specs.Pictures.{pictureSize, lumaFault, rows, band, blockSum, pixelIn, pixelLine, pixels}
-use Rattle.rules.proofs.Laws.Lists.{length-table}
-use Rattle.rules.proofs.Laws.Histograms.{All, none, and}
+use Rattle.rules.proofs.Laws.Lists.{all-drop, length-table}
 
 -- ---- how many
 
-lines-length : (n from m : ℕ) (f : ℕ → List ℕ) → ((i : ℕ) → length (f i) ≡ m) → length (joined (table n from f)) ≡ n * m
-unfolding joined table
+lines-length : (n from m : ℕ) (f : ℕ → List ℕ) → ((i : ℕ) → length (f i) ≡ m) → length (endToEnd (table n from f)) ≡ n * m
+unfolding endToEnd table
 lines-length zero from m f e = sym (zero-mul m)
 lines-length (suc n) from m f e =
     let a = e from in
@@ -33,45 +32,37 @@ pixels-length o picture =
 
 -- ---- how large
 
-abbrev pub Bytes : List ℕ → Type 0
-Bytes s = All (λ (b : ℕ). b < 256) s
-
 pub bytes-take : (n : ℕ) (s : List ℕ) → Bytes s → Bytes (take n s)
-bytes-take zero s h = none
-bytes-take (suc n) [] none = none
+bytes-take zero s h = empty
+bytes-take (suc n) [] empty = empty
 bytes-take (suc n) (b ∷ s) (and h hs) = and h (bytes-take n s hs)
 
 pub bytes-drop : (n : ℕ) (s : List ℕ) → Bytes s → Bytes (drop n s)
 bytes-drop zero s h = h
-bytes-drop (suc n) [] none = none
+bytes-drop (suc n) [] empty = empty
 bytes-drop (suc n) (b ∷ s) (and h hs) = bytes-drop n s hs
 
 pub bytes-append : (s t : List ℕ) → Bytes s → Bytes t → Bytes (s ++ t)
-bytes-append [] t none h = h
+bytes-append [] t empty h = h
 bytes-append (b ∷ s) t (and g gs) h = and g (bytes-append s t gs h)
 
 -- n bytes add up to less than 256 n, or are none
 total-small : (n : ℕ) (s : List ℕ) → Bytes s → total (take n s) ≤ 255 * n
 unfolding total
 total-small zero s h = omega arith
-total-small (suc n) [] none = omega arith
+total-small (suc n) [] empty = omega arith
 total-small (suc n) (b ∷ s) (and h hs) = let k = total-small n s hs in omega arith
 
 pub all-parts : (n m : ℕ) (s : List ℕ) → Bytes s → All Bytes (parts n m s)
 unfolding parts
-all-parts zero m s h = none
+all-parts zero m s h = empty
 all-parts (suc n) m s h = and (bytes-take m s h) (all-parts n m (drop m s) (bytes-drop m s h))
-
-all-drop : (n : ℕ) (rs : List (List ℕ)) → All Bytes rs → All Bytes (drop n rs)
-all-drop zero rs h = h
-all-drop (suc n) [] none = none
-all-drop (suc n) (r ∷ rs) (and h hs) = all-drop n rs hs
 
 -- n rows of m bytes of a block
 block-small : (n m j : ℕ) (rs : List (List ℕ)) → All Bytes rs → total (map (λ (row : List ℕ). total (take m (drop j row))) (take n rs)) ≤ n * (255 * m)
 unfolding total
 block-small zero m j rs h = omega arith
-block-small (suc n) m j [] none = omega arith
+block-small (suc n) m j [] empty = omega arith
 block-small (suc n) m j (r ∷ rs) (and h hs) =
     let a = total-small m (drop j r) (bytes-drop j r h) in
     let b = block-small n m j rs hs in
@@ -91,20 +82,20 @@ unfolding pixelIn blockSum band rows area side
 pixel-small o picture h r c =
     let k = level o in
     let rs = drop (r * 2 ^ k) (parts (o .height) (o .width) picture) in
-    let a = block-small (2 ^ k) (2 ^ k) (c * 2 ^ k) rs (all-drop (r * 2 ^ k) (parts (o .height) (o .width) picture) (all-parts (o .height) (o .width) picture h)) in
+    let a = block-small (2 ^ k) (2 ^ k) (c * 2 ^ k) rs (all-drop (r * 2 ^ k) (all-parts (o .height) (o .width) picture h)) in
     let p = some k in
     let e : 2 ^ k * (255 * 2 ^ k) ≡ 255 * 4 ^ k = rw (four k) (mul-left-comm (2 ^ k) 255 (2 ^ k)) in
     div-lt-iff-lt-mul {k = 4 ^ k} {x = total (map (λ (row : List ℕ). total (take (2 ^ k) (drop (c * 2 ^ k) row))) (take (2 ^ k) rs))} {y = 256} p .1 (omega arith)
 
 all-table : (n from : ℕ) (f : ℕ → ℕ) → ((i : ℕ) → f i < 256) → Bytes (table n from f)
 unfolding table
-all-table zero from f e = none
+all-table zero from f e = empty
 all-table (suc n) from f e = and (e from) (all-table n (suc from) f e)
 
-all-lines : (n from : ℕ) (f : ℕ → List ℕ) → ((i : ℕ) → Bytes (f i)) → Bytes (joined (table n from f))
-unfolding table joined
-all-lines zero from f e = none
-all-lines (suc n) from f e = bytes-append (f from) (joined (table n (suc from) f)) (e from) (all-lines n (suc from) f e)
+all-lines : (n from : ℕ) (f : ℕ → List ℕ) → ((i : ℕ) → Bytes (f i)) → Bytes (endToEnd (table n from f))
+unfolding table endToEnd
+all-lines zero from f e = empty
+all-lines (suc n) from f e = bytes-append (f from) (endToEnd (table n (suc from) f)) (e from) (all-lines n (suc from) f e)
 
 pub pixels-small : (o : Opening) (picture : List ℕ) → Bytes picture → Bytes (pixels o picture)
 unfolding pixels pixelLine

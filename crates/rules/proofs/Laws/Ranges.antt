@@ -15,13 +15,13 @@ use borrow.Author.Tests.{ltb-false}
 use Rattle.rules.specs.declared.Opening.{Opening}
 use Rattle.rules.specs.declared.UnitRow.{UnitRow}
 use Rattle.rules.specs.declared.SceneRow.{SceneRow}
-use Rattle.rules.specs.Bytes.{pick, byte, total, greatestOf, leastOf, joined}
+use Rattle.rules.specs.Bytes.{pick, byte, total, greatestOf, leastOf, endToEnd, All, and, Bytes, empty}
 use Rattle.rules.specs.Refusals.{Fault, none, fault, _orElse_}
 use Rattle.rules.specs.Opening.{openingFault, columns, lines, pixelCount}
 use Rattle.rules.specs.Frames.{seconds, microseconds, storedLength, frameTime, frameSize, frames, behindHeader}
 use Rattle.rules.specs.Packets.{Packet, packetsFrom, packetsOf, packets, kind, isWanted, wantedOf}
-use Rattle.rules.specs.Units.{Arrival, arrivalsAfter, arrivals, before, groups, leastTime, unitOf, unitsOf}
-use Rattle.rules.specs.Capture.{wholeFrames, unfinished, allFrames, wholeWanted, units, showing, wrongHeader, wrongFrame, captureFault, captureInside}
+use Rattle.rules.specs.Units.{Arrival, arrivalsAfter, arrivals, intoFirst, groups, leastTime, unitOf, unitsOf}
+use Rattle.rules.specs.Capture.{wholeFrames, unfinished, allFrames, wholeWanted, units, showing, wrongFrameHeader, wrongFrame, captureFault, captureInside}
 use Rattle.rules.specs.Pictures.{pictureCount, lumaFault}
 use Rattle.rules.specs.Scenes.{span, isTrue, starts, sceneOf, scenesAt, scenesOf}
 use Rattle.rules.specs.Histograms.{histograms}
@@ -29,17 +29,16 @@ use Rattle.rules.specs.Cuts.{cutScores}
 use Rattle.rules.specs.Changes.{repeats, changesAfter, changes}
 use Rattle.rules.specs.Index.{float, valueOf, indexOf, indexBits}
 use Rattle.rules.specs.Record.{recordLength}
-use Rattle.rules.specs.Seal.{reduced, scenesIn, scenes, indexFrom, index, header, captureOpen, noPacket, lumaOpen, noPicture, sealFault}
-use Rattle.rules.proofs.Laws.Histograms.{All, and}
-use Rattle.rules.proofs.Laws.Histograms
-use Rattle.rules.proofs.Laws.Pictures.{Bytes, bytes-take, bytes-drop}
+use Rattle.rules.specs.Seal.{reduced, scenesIn, scenes, indexFrom, index, header, captureUnfinished, noPacket, lumaUnfinished, noPicture, sealFault}
+use Rattle.rules.proofs.Laws.Pictures.{bytes-take, bytes-drop}
 use Rattle.rules.proofs.Laws.Words.{word32-fits}
 use Rattle.rules.proofs.Laws.Frames.{size-least, by-frames, frames-none, frames-one}
 use Rattle.rules.proofs.Laws.Begins.{only-all, all-append}
 use Rattle.rules.proofs.Laws.Onward.{base, base-sum, Whole, frames-whole, of-none, of-from, layout}
 use Rattle.rules.proofs.Laws.Flow.{reached, wanted-of, nine-of, few-begin}
+use Rattle.rules.proofs.Laws.Lists.{all-drop, count-few}
 use Rattle.rules.proofs.Laws.Clear.{none-both, clear-of, long-of, shows}
-use Rattle.rules.proofs.Laws.Bounds.{count-few, frame-count-few, skipped-few, bad-few, wanted-few}
+use Rattle.rules.proofs.Laws.Bounds.{frame-count-few, skipped-few, bad-few, wanted-few}
 use Rattle.rules.proofs.Laws.Sizes.{good, sizes}
 use Rattle.rules.proofs.Laws.Differences.{reduced-at, scores-most}
 use Rattle.rules.proofs.Laws.Spread.{change-most}
@@ -74,8 +73,8 @@ unfolding noPicture
 some-picture zero e = absurd (not-none e)
 some-picture (suc n) e = omega arith
 
-not-inside : (capture : List ℕ) → captureOpen capture ≡ none → captureInside capture ≡ false
-unfolding captureOpen
+not-inside : (capture : List ℕ) → captureUnfinished capture ≡ none → captureInside capture ≡ false
+unfolding captureUnfinished
 not-inside capture = go (captureInside capture)
   where
     go : (b : Bool) → pick b (fault 11 (length capture)) none ≡ none → b ≡ false
@@ -88,9 +87,9 @@ sealable o capture luma n e =
     let a = else-none (openingFault o) _ e in
     let b = else-none (captureFault o capture) _ (a .1) in
     let c = else-none (lumaFault o luma) _ (b .1) in
-    let d = else-none (captureOpen capture) _ (c .1) in
+    let d = else-none (captureUnfinished capture) _ (c .1) in
     let f = else-none (noPacket (units o capture)) _ (d .1) in
-    let g = else-none (lumaOpen o luma) _ (f .1) in
+    let g = else-none (lumaUnfinished o luma) _ (f .1) in
     let h = else-none (noPicture (pictureCount o luma)) _ (g .1) in
     record {
       opened = a .0;
@@ -106,9 +105,9 @@ neither : (a b : Bool) → a || b ≡ false → (a ≡ false) × (b ≡ false)
 neither true b e = absurd (false≢true (sym e))
 neither false b e = (refl, e)
 
-empty : {A : Type 0} (xs : List A) → length xs ≡ 0 → xs ≡ []
-empty [] e = refl
-empty (x ∷ xs) e = absurd (omega arith)
+no-elements : {A : Type 0} (xs : List A) → length xs ≡ 0 → xs ≡ []
+no-elements [] e = refl
+no-elements (x ∷ xs) e = absurd (omega arith)
 
 -- neither inside the header nor inside a frame
 header-there : (capture : List ℕ) → captureInside capture ≡ false → 24 ≤ length capture
@@ -119,7 +118,7 @@ pub between : (capture : List ℕ) → captureInside capture ≡ false → unfin
 unfolding captureInside
 between capture e =
     let h = ltb-false 0 (length (unfinished capture)) (neither (ltb (length capture) 24) (ltb 0 (length (unfinished capture))) e .1) in
-    empty (unfinished capture) (omega arith)
+    no-elements (unfinished capture) (omega arith)
 
 all-reached : (d : ℕ) → 0 < d → d ≤ 188 → (s : List ℕ) → unfinished s ≡ [] → reached d s ≡ packets 24 (wholeFrames s)
 all-reached d some small s e =
@@ -154,23 +153,23 @@ frame-time f h g = let a = word32-fits f 0 (byte-small f h) in omega arith
 frames-bytes : (s : List ℕ) → Bytes s → All Bytes (frames s)
 frames-bytes =
     by-frames (λ (x : List ℕ). Bytes x → All Bytes (frames x))
-    (λ x h b. rw (frames-none x h) Histograms.none)
+    (λ x h b. rw (frames-none x h) empty)
     (λ x h ih b. rw (frames-one x h) (and (bytes-take (frameSize x) x b) (ih (bytes-drop (frameSize x) x b))))
 
 -- a whole frame with no refusal 7
-header-micro : (n place : ℕ) (f : List ℕ) → place + 16 ≤ n → wrongHeader n place f ≡ none → microseconds f ≤ 999999
-unfolding wrongHeader
+header-micro : (n place : ℕ) (f : List ℕ) → place + 16 ≤ n → wrongFrameHeader n place f ≡ none → microseconds f ≤ 999999
+unfolding wrongFrameHeader
 header-micro n place f h e =
     let b = none-both (showing n 7 (place + 7) (ltb 999999 (microseconds f))) (showing n 8 (place + 11) (ltb 65535 (storedLength f))) e in
     ltb-false 999999 (microseconds f) (shows n 7 (place + 7) (ltb 999999 (microseconds f)) (omega arith) (b .0))
 
-frames-timed : (n place : ℕ) (fs gs : List (List ℕ)) → All Whole fs → All Bytes fs → place + length (joined fs) ≤ n →
+frames-timed : (n place : ℕ) (fs gs : List (List ℕ)) → All Whole fs → All Bytes fs → place + length (endToEnd fs) ≤ n →
     wrongFrame n place (fs ++ gs) ≡ none → All (λ (f : List ℕ). frameTime f ≤ lastTime) fs
-unfolding wrongFrame joined
-frames-timed n place [] gs w b h e = Histograms.none
+unfolding wrongFrame endToEnd
+frames-timed n place [] gs w b h e = empty
 frames-timed n place (f ∷ fs) gs (and w ws) (and b bs) h e =
-    let x = none-both (wrongHeader n place f) (wrongFrame n (place + length f) (fs ++ gs)) e in
-    let l = length-append f (joined fs) in
+    let x = none-both (wrongFrameHeader n place f) (wrongFrame n (place + length f) (fs ++ gs)) e in
+    let l = length-append f (endToEnd fs) in
     let k = size-least f in
     and (frame-time f b (header-micro n place f (omega arith) (x .0))) (frames-timed n (place + length f) fs gs ws bs (omega arith) (x .1))
 
@@ -179,12 +178,12 @@ Timed p = p .time ≤ lastTime
 
 from-timed : (n time place : ℕ) (s : List ℕ) → time ≤ lastTime → All Timed (packetsFrom n time place s)
 unfolding packetsFrom
-from-timed zero time place s h = Histograms.none
+from-timed zero time place s h = empty
 from-timed (suc n) time place s h = and h (from-timed n time (place + 188) (drop 188 s) h)
 
 packets-timed : (place : ℕ) (fs : List (List ℕ)) → All (λ (f : List ℕ). frameTime f ≤ lastTime) fs → All Timed (packets place fs)
 unfolding packets
-packets-timed place [] h = Histograms.none
+packets-timed place [] h = empty
 packets-timed place (f ∷ fs) (and h hs) =
     let here : All Timed (packetsOf place f) = rw (of-from place f) (from-timed _ (frameTime f) (place + 58) (drop 58 f) h) in
     all-append here (packets-timed (place + length f) fs hs)
@@ -194,7 +193,7 @@ unfolding wantedOf
 wanted-timed o s h c i =
     let fs = wholeFrames s in
     let whole-bytes : All Bytes fs = unfold wholeFrames behindHeader in frames-bytes (drop 24 s) (bytes-drop 24 s h) in
-    let room : 24 + length (joined fs) ≤ length s = unfold base in omega (arith, base-sum s (header-there s i)) in
+    let room : 24 + length (endToEnd fs) ≤ length s = unfold base in omega (arith, base-sum s (header-there s i)) in
     let fine : wrongFrame (length s) 24 (fs ++ unfinished s ∷ []) ≡ none = unfold allFrames in clear-of o s c .frames in
     rw (wanted-between o s (between s i))
     (only-all (λ (p : Packet). isWanted (kind o (p .bytes)))
@@ -207,31 +206,31 @@ Arrived a = a .time ≤ lastTime
 
 after-arrived : (q : Packet) (ps : List Packet) → All Timed ps → All Arrived (arrivalsAfter q ps)
 unfolding arrivalsAfter
-after-arrived q [] h = Histograms.none
+after-arrived q [] h = empty
 after-arrived q (p ∷ ps) (and h hs) = and h (after-arrived p ps hs)
 
 all-arrived : (ps : List Packet) → All Timed ps → All Arrived (arrivals ps)
 unfolding arrivals
-all-arrived [] h = Histograms.none
+all-arrived [] h = empty
 all-arrived (p ∷ ps) (and h hs) = and h (after-arrived p ps hs)
 
 -- a unit's arrivals: some, each in time
 pub data Group : List Arrival → Type 0 where
   group : {a : Arrival} {xs : List Arrival} → All Arrived (a ∷ xs) → Group (a ∷ xs)
 
-before-group : (a : Arrival) {gs : List (List Arrival)} → Arrived a → All Group gs → All Group (before a gs)
-before-group a h Histograms.none = and (group (and h Histograms.none)) Histograms.none
-before-group a h (and (group g) gs) = and (group (and h g)) gs
+intoFirst-group : (a : Arrival) {gs : List (List Arrival)} → Arrived a → All Group gs → All Group (intoFirst a gs)
+intoFirst-group a h empty = and (group (and h empty)) empty
+intoFirst-group a h (and (group g) gs) = and (group (and h g)) gs
 
 all-groups : (xs : List Arrival) → All Arrived xs → All Group (groups xs)
 unfolding groups
-all-groups [] h = Histograms.none
-all-groups (a ∷ []) h = and (group h) Histograms.none
+all-groups [] h = empty
+all-groups (a ∷ []) h = and (group h) empty
 all-groups (a ∷ b ∷ xs) (and h hs) = go (b .begins) (all-groups (b ∷ xs) hs)
   where
-    go : (t : Bool) → All Group (groups (b ∷ xs)) → All Group (pick t ((a ∷ []) ∷ groups (b ∷ xs)) (before a (groups (b ∷ xs))))
-    go true g = and (group (and h Histograms.none)) g
-    go false g = before-group a h g
+    go : (t : Bool) → All Group (groups (b ∷ xs)) → All Group (pick t ((a ∷ []) ∷ groups (b ∷ xs)) (intoFirst a (groups (b ∷ xs))))
+    go true g = and (group (and h empty)) g
+    go false g = intoFirst-group a h g
 
 abbrev times : List Arrival → List ℕ
 times xs = map (λ (a : Arrival). a .time) xs
@@ -293,13 +292,8 @@ capture-most o capture luma h = long-of capture (clear-of o capture (h .clear) .
 
 module _ {A : Type 0} {P : A → Type 0} where
   all-of : (z : A) (xs : List A) → ((j : ℕ) → j < length xs → P (getD xs j z)) → All P xs
-  all-of z [] h = Histograms.none
+  all-of z [] h = empty
   all-of z (x ∷ xs) h = and (h 0 (omega arith)) (all-of z xs (λ j g. h (suc j) (omega arith)))
-
-  all-drop : (n : ℕ) {xs : List A} → All P xs → All P (drop n xs)
-  all-drop zero h = h
-  all-drop (suc n) Histograms.none = Histograms.none
-  all-drop (suc n) (and h hs) = all-drop n hs
 
 abbrev pub AtMost : ℕ → ℕ → Type 0
 AtMost most x = x ≤ most
@@ -355,7 +349,7 @@ module _ (ss : List ℕ) (rs : List Bool) (qs : List ℕ) where
             unfold scenesOf in
             rw (starts-first d ss h)
             (each-scene (SceneRange (length ss)) scene-range h (starts-apart d ss 1 (length ss) some (below-length ss) (length ss - 1) 0 1 (omega arith)))
-        go (no h) = let e = empty ss (omega arith) in unfold scenesOf starts scenesAt in rw e tt
+        go (no h) = let e = no-elements ss (omega arith) in unfold scenesOf starts scenesAt in rw e tt
 
 -- ---- the scenes of a sample
 
@@ -365,13 +359,13 @@ Reduced n px = Bytes px × (length px ≡ n)
 
 after-changed : (n : ℕ) → 0 < n → (px : List ℕ) (pxs : List (List ℕ)) → Reduced n px → All (Reduced n) pxs → All (AtMost 25500) (changesAfter px pxs)
 unfolding changesAfter
-after-changed n k px [] h hs = Histograms.none
+after-changed n k px [] h hs = empty
 after-changed n k px (py ∷ pxs) h (and g gs) =
     and (change-most px py (h .0) (g .0) (h .1 ∙ sym (g .1)) (omega arith)) (after-changed n k py pxs g gs)
 
 all-changed : (n : ℕ) → 0 < n → (pxs : List (List ℕ)) → All (Reduced n) pxs → All (AtMost 25500) (changes pxs)
 unfolding changes
-all-changed n k [] h = Histograms.none
+all-changed n k [] h = empty
 all-changed n k (px ∷ pxs) (and h hs) = and {x = 0} (omega arith) (after-changed n k px pxs h hs)
 
 module _ (o : Opening) (luma : List ℕ) (bytes : Bytes luma) where

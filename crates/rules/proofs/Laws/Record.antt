@@ -8,7 +8,7 @@ use lib.Seq.{drop-cons, drop-append-add, ext-getD}
 use Rattle.rules.specs.declared.Header.{Header}
 use Rattle.rules.specs.declared.UnitRow.{UnitRow}
 use Rattle.rules.specs.declared.SceneRow.{SceneRow}
-use Rattle.rules.specs.Bytes.{word32, word64, bytesOf, joined}
+use Rattle.rules.specs.Bytes.{word32, word64, bytesOf, endToEnd}
 use Rattle.rules.specs.Record.{recordLength, sceneOffset, headerBytes, unitBytes, sceneBytes, recordBytes}
 use Rattle.rules.specs.Reading.{headerOf, unitPlace, scenePlace, unitAt, sceneAt}
 use Rattle.rules.proofs.Laws.Words.{word32-bytes, word64-bytes}
@@ -118,24 +118,24 @@ length-scene s = refl
 
 -- rows of any kind, 32 bytes each
 module _ {A : Type 0} (f : A → List ℕ) (wide : (x : A) → length (f x) ≡ 32) where
-  pub length-rows : (xs : List A) → length (joined (map f xs)) ≡ 32 * length xs
-  unfolding joined
+  pub length-rows : (xs : List A) → length (endToEnd (map f xs)) ≡ 32 * length xs
+  unfolding endToEnd
   length-rows [] = refl
-  length-rows (x ∷ xs) = rw (length-append (f x) (joined (map f xs)), wide x, length-rows xs) (omega arith)
+  length-rows (x ∷ xs) = rw (length-append (f x) (endToEnd (map f xs)), wide x, length-rows xs) (omega arith)
 
   -- behind j rows stands row j
-  pub drop-rows : (xs : List A) (t : List ℕ) (j : ℕ) → j ≤ length xs → drop (32 * j) (joined (map f xs) ++ t) ≡ joined (map f (drop j xs)) ++ t
-  unfolding joined
+  pub drop-rows : (xs : List A) (t : List ℕ) (j : ℕ) → j ≤ length xs → drop (32 * j) (endToEnd (map f xs) ++ t) ≡ endToEnd (map f (drop j xs)) ++ t
+  unfolding endToEnd
   drop-rows xs t zero h = refl
   drop-rows [] t (suc j) h = absurd (omega arith)
   drop-rows (x ∷ xs) t (suc j) h =
       let e : 32 * suc j ≡ length (f x) + 32 * j = omega (arith, wide x) in
-      rw (e, append-assoc (f x) (joined (map f xs)) t, drop-append-add (f x) (joined (map f xs) ++ t) (32 * j)) (drop-rows xs t j (omega arith))
+      rw (e, append-assoc (f x) (endToEnd (map f xs)) t, drop-append-add (f x) (endToEnd (map f xs) ++ t) (32 * j)) (drop-rows xs t j (omega arith))
 
-  pub row-at : (xs : List A) (t : List ℕ) (j : ℕ) (z : A) → j < length xs → drop (32 * j) (joined (map f xs) ++ t) ≡ f (getD xs j z) ++ (joined (map f (drop (suc j) xs)) ++ t)
-  unfolding joined
+  pub row-at : (xs : List A) (t : List ℕ) (j : ℕ) (z : A) → j < length xs → drop (32 * j) (endToEnd (map f xs) ++ t) ≡ f (getD xs j z) ++ (endToEnd (map f (drop (suc j) xs)) ++ t)
+  unfolding endToEnd
   row-at xs t j z h =
-      rw (drop-rows xs t j (omega arith), drop-cons xs j z h) (append-assoc (f (getD xs j z)) (joined (map f (drop (suc j) xs))) t)
+      rw (drop-rows xs t j (omega arith), drop-cons xs j z h) (append-assoc (f (getD xs j z)) (endToEnd (map f (drop (suc j) xs))) t)
 
 pub length-record : (h : Header) (us : List UnitRow) (ss : List SceneRow) → length (recordBytes h us ss) ≡ recordLength (length us) (length ss)
 unfolding recordBytes recordLength
@@ -153,48 +153,48 @@ pub record Figures (h : Header) (us : List UnitRow) (ss : List SceneRow) : Type 
   pub sceneRows : Each SceneFits ss
 
 -- the record in its three parts
-pub parts-of : (h : Header) (us : List UnitRow) (ss : List SceneRow) → recordBytes h us ss ≡ headerBytes h ++ (joined (map unitBytes us) ++ joined (map sceneBytes ss))
+pub parts-of : (h : Header) (us : List UnitRow) (ss : List SceneRow) → recordBytes h us ss ≡ headerBytes h ++ (endToEnd (map unitBytes us) ++ endToEnd (map sceneBytes ss))
 unfolding recordBytes
-parts-of h us ss = append-assoc (headerBytes h) (joined (map unitBytes us)) (joined (map sceneBytes ss))
+parts-of h us ss = append-assoc (headerBytes h) (endToEnd (map unitBytes us)) (endToEnd (map sceneBytes ss))
 
 -- what stands at unit row j, and at scene row j
 pub unit-place : (h : Header) (us : List UnitRow) (ss : List SceneRow) (j : ℕ) (z : UnitRow) → j < length us →
-    drop (unitPlace j) (recordBytes h us ss) ≡ unitBytes (getD us j z) ++ (joined (map unitBytes (drop (suc j) us)) ++ joined (map sceneBytes ss))
+    drop (unitPlace j) (recordBytes h us ss) ≡ unitBytes (getD us j z) ++ (endToEnd (map unitBytes (drop (suc j) us)) ++ endToEnd (map sceneBytes ss))
 unfolding unitPlace
 unit-place h us ss j z k =
     let e : 64 + 32 * j ≡ length (headerBytes h) + 32 * j = omega (arith, length-header h) in
-    rw (parts-of h us ss, e, drop-append-add (headerBytes h) (joined (map unitBytes us) ++ joined (map sceneBytes ss)) (32 * j))
-    (row-at unitBytes length-unit us (joined (map sceneBytes ss)) j z k)
+    rw (parts-of h us ss, e, drop-append-add (headerBytes h) (endToEnd (map unitBytes us) ++ endToEnd (map sceneBytes ss)) (32 * j))
+    (row-at unitBytes length-unit us (endToEnd (map sceneBytes ss)) j z k)
 
 pub scene-place : (h : Header) (us : List UnitRow) (ss : List SceneRow) (j : ℕ) (z : SceneRow) → j < length ss →
-    drop (sceneOffset (length us) + 32 * j) (recordBytes h us ss) ≡ sceneBytes (getD ss j z) ++ joined (map sceneBytes (drop (suc j) ss))
+    drop (sceneOffset (length us) + 32 * j) (recordBytes h us ss) ≡ sceneBytes (getD ss j z) ++ endToEnd (map sceneBytes (drop (suc j) ss))
 unfolding recordBytes sceneOffset
 scene-place h us ss j z k =
-    let p = headerBytes h ++ joined (map unitBytes us) in
+    let p = headerBytes h ++ endToEnd (map unitBytes us) in
     let n : length p ≡ 64 + 32 * length us = simp (length-append, length-header, length-rows unitBytes length-unit) in
     let e : 64 + 32 * length us + 32 * j ≡ length p + 32 * j = omega arith in
-    rw (e, drop-append-add p (joined (map sceneBytes ss)) (32 * j))
-    (rw (append-nil (joined (map sceneBytes ss)), append-nil (joined (map sceneBytes (drop (suc j) ss)))) at (row-at sceneBytes length-scene ss [] j z k))
+    rw (e, drop-append-add p (endToEnd (map sceneBytes ss)) (32 * j))
+    (rw (append-nil (endToEnd (map sceneBytes ss)), append-nil (endToEnd (map sceneBytes (drop (suc j) ss)))) at (row-at sceneBytes length-scene ss [] j z k))
 
 module _ (h : Header) (us : List UnitRow) (ss : List SceneRow) (f : Figures h us ss) where
   pub header-read : headerOf (recordBytes h us ss) ≡ h
-  header-read = rw (parts-of h us ss) (header-back h (joined (map unitBytes us) ++ joined (map sceneBytes ss)) (f .header))
+  header-read = rw (parts-of h us ss) (header-back h (endToEnd (map unitBytes us) ++ endToEnd (map sceneBytes ss)) (f .header))
 
   pub unit-read : (j : ℕ) (z : UnitRow) → j < length us → unitAt (recordBytes h us ss) j ≡ getD us j z
   unfolding unitAt unitIn
   unit-read j z k =
       ap unitIn (unit-place h us ss j z k)
-      ∙ unit-back (getD us j z) (joined (map unitBytes (drop (suc j) us)) ++ joined (map sceneBytes ss)) (each-at UnitFits us j z (f .unitRows) k)
+      ∙ unit-back (getD us j z) (endToEnd (map unitBytes (drop (suc j) us)) ++ endToEnd (map sceneBytes ss)) (each-at UnitFits us j z (f .unitRows) k)
 
   pub unit-zero-read : (j : ℕ) → UnitRow → j < length us → word32 (drop (unitPlace j) (recordBytes h us ss)) 28 ≡ 0
-  unit-zero-read j z k = rw (unit-place h us ss j z k) (unit-zero (getD us j z) (joined (map unitBytes (drop (suc j) us)) ++ joined (map sceneBytes ss)))
+  unit-zero-read j z k = rw (unit-place h us ss j z k) (unit-zero (getD us j z) (endToEnd (map unitBytes (drop (suc j) us)) ++ endToEnd (map sceneBytes ss)))
 
   units-read : word32 (recordBytes h us ss) 8 ≡ length us
   unfolding headerOf
   units-read = ap (λ (x : Header). x .units) header-read ∙ sym (f .units)
 
   scene-place-read : (j : ℕ) (z : SceneRow) → j < length ss →
-      drop (scenePlace (recordBytes h us ss) j) (recordBytes h us ss) ≡ sceneBytes (getD ss j z) ++ joined (map sceneBytes (drop (suc j) ss))
+      drop (scenePlace (recordBytes h us ss) j) (recordBytes h us ss) ≡ sceneBytes (getD ss j z) ++ endToEnd (map sceneBytes (drop (suc j) ss))
   unfolding scenePlace
   scene-place-read j z k = rw units-read (scene-place h us ss j z k)
 
@@ -202,10 +202,10 @@ module _ (h : Header) (us : List UnitRow) (ss : List SceneRow) (f : Figures h us
   unfolding sceneAt sceneIn
   scene-read j z k =
       ap sceneIn (scene-place-read j z k)
-      ∙ scene-back (getD ss j z) (joined (map sceneBytes (drop (suc j) ss))) (each-at SceneFits ss j z (f .sceneRows) k)
+      ∙ scene-back (getD ss j z) (endToEnd (map sceneBytes (drop (suc j) ss))) (each-at SceneFits ss j z (f .sceneRows) k)
 
   pub scene-zero-read : (j : ℕ) → SceneRow → j < length ss → word32 (drop (scenePlace (recordBytes h us ss) j) (recordBytes h us ss)) 28 ≡ 0
-  scene-zero-read j z k = rw (scene-place-read j z k) (scene-zero (getD ss j z) (joined (map sceneBytes (drop (suc j) ss))))
+  scene-zero-read j z k = rw (scene-place-read j z k) (scene-zero (getD ss j z) (endToEnd (map sceneBytes (drop (suc j) ss))))
 
 -- two sets of figures that fit never have one record
 noUnit : UnitRow

@@ -20,9 +20,9 @@ use Rattle.rules.specs.Cuts.{cutScore, cutScores}
 use Rattle.rules.specs.Scenes.{startsScene, isStart, startsFrom, starts, sceneOf, scenesAt, scenesOf}
 use Rattle.rules.specs.Changes.{repeats, changes}
 use Rattle.rules.specs.Seal.{reduced, scenesIn, scenes}
-use Rattle.rules.proofs.Laws.Lists.{length-table}
+use Rattle.rules.proofs.Laws.Lists.{both, length-table}
 use Rattle.rules.proofs.Laws.Tables.{getD-table}
-use Rattle.rules.proofs.Laws.Onward.{both}
+use Rattle.rules.proofs.Laws.Tables.{parts-length}
 use Rattle.rules.proofs.Laws.Sizes.{good}
 
 -- ---- starts
@@ -162,11 +162,6 @@ scenes-few d hs rs qs h k = rw (scenes-length (cutScores hs) rs qs (starts d (cu
     go (s ∷ ss) f = let a = apart-count (f (length ss)) in omega arith
 
 -- ---- of a sample
-
-parts-length : {A : Type 0} (n m : ℕ) (s : List A) → length (parts n m s) ≡ n
-unfolding parts
-parts-length zero m s = refl
-parts-length (suc n) m s = ap suc (parts-length n m (drop m s))
 
 pub pictures-most : (o : Opening) (luma : List ℕ) → pictureCount o luma ≤ 750
 unfolding pictureCount

@@ -5,7 +5,7 @@ use mathlib.Core.Path.{_≡_, refl, ap, _∙_}
 use mathlib.Core.List.{List, [], _∷_}
 use mathlib.Core.Bool.{Bool, true, false}
 use lib.ListN.{length, getD}
-use borrow.Author.Tests.{le-leb, lt-ltb, le-ltb, eq-eqb}
+use borrow.Author.Tests.{le-leb, lt-ltb, eq-eqb}
 use Rattle.rules.specs.declared.Opening.{Opening}
 use Rattle.rules.specs.declared.Header.{Header}
 use Rattle.rules.specs.declared.UnitRow.{UnitRow}
@@ -13,15 +13,14 @@ use Rattle.rules.specs.declared.SceneRow.{SceneRow}
 use Rattle.rules.specs.declared.HeaderAnswer.the-variants as of-header
 use Rattle.rules.specs.declared.UnitAnswer.the-variants as of-unit
 use Rattle.rules.specs.declared.SceneAnswer.the-variants as of-scene
-use Rattle.rules.specs.Bytes.{pick, within, word32}
-use Rattle.rules.specs.Refusals.{none, fault}
+use Rattle.rules.specs.Bytes.{within, word32, Bytes}
+use Rattle.rules.specs.Refusals.{none, fault, unless, _orElse_}
 use Rattle.rules.specs.Opening.{goodSize, goodTime, goodPid, openingFault}
 use Rattle.rules.specs.Capture.{units, frameCount, skippedCount}
 use Rattle.rules.specs.Pictures.{pictureCount}
 use Rattle.rules.specs.Record.{recordLength}
 use Rattle.rules.specs.Reading.{headerOf, unitAt, sceneAt, allowed, readingFault, rowFault, unitFault, sceneFault, headerAnswer, unitAnswer, sceneAnswer}
 use Rattle.rules.specs.Seal.{scenes, header, sealed, sealedLength, sealFault}
-use Rattle.rules.proofs.Laws.Pictures.{Bytes}
 use Rattle.rules.proofs.Laws.Record.{Each, Figures, length-record, header-read, unit-read, scene-read}
 use Rattle.rules.proofs.Laws.Allowed.{goodHeader, goodUnit, goodUnits, goodScenes, goodFigures, allowed-figures, record-allowed}
 use Rattle.rules.proofs.Laws.Bounds.{skipped-few}
@@ -37,7 +36,7 @@ opened o = go (goodSize (o .width) (o .height)) (goodTime (o .time)) (goodPid (o
     never : {k p : ℕ} → fault k p ≡ none → ⊥
     never e = let z : _≡_ {A = ℕ} 0 1 = cc in omega arith
 
-    go : (a b c : Bool) → pick a (pick b (pick c none (fault 3 0)) (fault 2 0)) (fault 1 0) ≡ none → (a ≡ true) × (b ≡ true) × (c ≡ true)
+    go : (a b c : Bool) → (unless a 1 orElse unless b 2 orElse unless c 3) ≡ none → (a ≡ true) × (b ≡ true) × (c ≡ true)
     go true true true h = (refl, refl, refl)
     go true true false h = absurd (never h)
     go true false c h = absurd (never h)
@@ -105,7 +104,7 @@ sealed-read o capture luma n e bc bl =
     let a = sealed-allowed o capture luma n e bc bl in
     let w = record-allowed r a .header .edition in
     let l : 64 ≤ length r = rw (sealed-length o capture luma) (unfold sealedLength recordLength in omega arith) in
-    rw (le-ltb (length r) 64 l, w, a)
+    rw (le-leb 64 (length r) l, w, a)
 
 -- ---- and reads back as the figures that were sealed
 

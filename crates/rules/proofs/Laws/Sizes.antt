@@ -10,13 +10,14 @@ use lib.ListN.{length, getD}
 use lib.Dec.{leb}
 use borrow.Author.Tests.{leb-true, le-leb, lt-leb}
 use Rattle.rules.specs.declared.Opening.{Opening}
-use Rattle.rules.specs.Bytes.{pick, within, total}
-use Rattle.rules.specs.Refusals.{Fault, none, fault}
+use Rattle.rules.specs.Bytes.{pick, within, total, Bytes}
+use Rattle.rules.specs.Refusals.{Fault, none, unless, _orElse_}
 use Rattle.rules.specs.Opening.{goodSize, goodTime, goodPid, openingFault, levelUpTo, level, side, columns, lines, pixelCount}
 use Rattle.rules.specs.Pictures.{pixels}
 use Rattle.rules.specs.Histograms.{histograms}
+use Rattle.rules.proofs.Laws.Lists.{both, inside}
 use Rattle.rules.proofs.Laws.Histograms.{histograms-total}
-use Rattle.rules.proofs.Laws.Pictures.{Bytes, pixels-length, pixels-small}
+use Rattle.rules.proofs.Laws.Pictures.{pixels-length, pixels-small}
 use Rattle.rules.proofs.Laws.Tiles.{tile-total}
 use Rattle.rules.proofs.Laws.Thirds.{tile-some}
 
@@ -33,27 +34,22 @@ pub record Good (o : Opening) : Type 0 where
   pub time-high : o .time ≤ 200000
   pub pid-high : o .pid ≤ 8191
 
-both : (a b : Bool) → (a && b) ≡ true → (a ≡ true) × (b ≡ true)
-both true b e = (refl, e)
-both false b e = let z : _≡_ {A = ℕ} 0 1 = cc in absurd (omega arith)
+passed : (b : Bool) (k : ℕ) (f : Fault) → (unless b k orElse f) ≡ none → (b ≡ true) × (f ≡ none)
+passed true k f e = (refl, e)
+passed false k f e = let z : _≡_ {A = ℕ} 0 1 = cc in absurd (omega arith)
 
-passed : (b : Bool) (f : Fault) (k p : ℕ) → pick b f (fault k p) ≡ none → (b ≡ true) × (f ≡ none)
-passed true f k p e = (refl, e)
-passed false f k p e = let z : _≡_ {A = ℕ} 0 1 = cc in absurd (omega arith)
-
-inside : (low high x : ℕ) → within low high x ≡ true → (low ≤ x) × (x ≤ high)
-inside low high x e = let h = both (leb low x) (leb x high) e in (leb-true low x (h .0), leb-true x high (h .1))
+last : (b : Bool) (k : ℕ) → unless b k ≡ none → b ≡ true
+last true k e = refl
+last false k e = let z : _≡_ {A = ℕ} 0 1 = cc in absurd (omega arith)
 
 pub good : (o : Opening) → openingFault o ≡ none → Good o
 unfolding openingFault goodSize goodTime goodPid
 good o e =
     let W = o .width in
     let H = o .height in
-    let third = pick (goodPid (o .pid)) none (fault 3 0) in
-    let second = pick (goodTime (o .time)) third (fault 2 0) in
-    let a = passed (goodSize W H) second 1 0 e in
-    let b = passed (goodTime (o .time)) third 2 0 (a .1) in
-    let c = passed (goodPid (o .pid)) none 3 0 (b .1) in
+    let a = passed (goodSize W H) 1 (unless (goodTime (o .time)) 2 orElse unless (goodPid (o .pid)) 3) e in
+    let b = passed (goodTime (o .time)) 2 (unless (goodPid (o .pid)) 3) (a .1) in
+    let c = last (goodPid (o .pid)) 3 (b .1) in
     let s = both (within 30 1088 H && within 15 1920 W && leb H (2 * W)) (leb W (4 * H)) (a .0) in
     let t = both (within 30 1088 H && within 15 1920 W) (leb H (2 * W)) (s .0) in
     let u = both (within 30 1088 H) (within 15 1920 W) (t .0) in
@@ -69,7 +65,7 @@ good o e =
       wide = leb-true W (4 * H) (s .1);
       time-low = d .0;
       time-high = d .1;
-      pid-high = leb-true (o .pid) 8191 (c .0);
+      pid-high = leb-true (o .pid) 8191 c;
     }
 
 -- ---- the level

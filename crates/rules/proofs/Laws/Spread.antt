@@ -9,10 +9,9 @@ use mathlib.Core.List.{List, [], _∷_}
 use lib.ListN.{length}
 use lib.Dec.{leb}
 use borrow.Author.Tests.{leb-true, leb-false}
-use Rattle.rules.specs.Bytes.{total, tally, apart}
+use Rattle.rules.specs.Bytes.{total, tally, apart, Bytes}
 use Rattle.rules.specs.Changes.{squares, spread, change}
 use Rattle.rules.proofs.Laws.Tally.{tally-add}
-use Rattle.rules.proofs.Laws.Pictures.{Bytes}
 use Rattle.rules.proofs.Laws.Moves.{rise, fall, ups, downs, squared, squared-most, squares-are, apart-are}
 use Rattle.rules.proofs.Laws.Changes.{Root, root-greatest}
 

@@ -6,7 +6,7 @@ use mathlib.Core.Path.{_≡_, refl, ap, _∙_}
 use mathlib.Core.List.{List, [], _∷_, _++_, map}
 use lib.ListN.{length, getD, take, drop, List·getD-append}
 use lib.Seq.{getD-append-add, drop-drop}
-use Rattle.rules.specs.Bytes.{table, parts, joined}
+use Rattle.rules.specs.Bytes.{table, parts, endToEnd}
 
 module _ {ℓ} {A : Type ℓ} where
   pub getD-table : (n from : ℕ) (f : ℕ → A) (i : ℕ) (d : A) → i < n → getD (table n from f) i d ≡ f (from + i)
@@ -39,17 +39,17 @@ module _ {ℓ} {A : Type ℓ} where
 
   -- n lines of m each, joined: column c of line r stands at r × m + c
   pub getD-lines : (n from m : ℕ) (f : ℕ → List A) (r c : ℕ) (d : A) → ((i : ℕ) → length (f i) ≡ m) → r < n → c < m →
-      getD (joined (table n from f)) (r * m + c) d ≡ getD (f (from + r)) c d
-  unfolding table joined
+      getD (endToEnd (table n from f)) (r * m + c) d ≡ getD (f (from + r)) c d
+  unfolding table endToEnd
   getD-lines zero from m f r c d e h k = absurd (omega arith)
   getD-lines (suc n) from m f zero c d e h k =
-      rw (zero-mul m, add-zero from, zero-add c) (List·getD-append (f from) (joined (table n (suc from) f)) d c (omega (arith, e from)))
+      rw (zero-mul m, add-zero from, zero-add c) (List·getD-append (f from) (endToEnd (table n (suc from) f)) d c (omega (arith, e from)))
   getD-lines (suc n) from m f (suc r) c d e h k =
       let size : length (f from) ≡ m = e from in
       let here : suc r * m + c ≡ length (f from) + (r * m + c) = omega (arith, suc-mul r m) in
       let next : suc from + r ≡ from + suc r = omega arith in
-      ap (λ (i : ℕ). getD (f from ++ joined (table n (suc from) f)) i d) here
-      ∙ getD-append-add (f from) (joined (table n (suc from) f)) (r * m + c) d
+      ap (λ (i : ℕ). getD (f from ++ endToEnd (table n (suc from) f)) i d) here
+      ∙ getD-append-add (f from) (endToEnd (table n (suc from) f)) (r * m + c) d
       ∙ getD-lines n (suc from) m f r c d e (omega arith) k
       ∙ ap (λ (i : ℕ). getD (f i) c d) next
 

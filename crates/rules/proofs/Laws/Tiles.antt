@@ -9,16 +9,13 @@ use lib.ListN.{length, getD}
 use lib.Dec.{eqb}
 use borrow.Author.Tests.{eq-eqb, eqb-true}
 use Rattle.rules.specs.declared.Opening.{Opening}
-use Rattle.rules.specs.Bytes.{pick, total, count, tally, table}
+use Rattle.rules.specs.Bytes.{pick, total, count, tally, table, All}
 use Rattle.rules.specs.Opening.{columns, lines}
+use Rattle.rules.specs.Counted.{hits}
 use Rattle.rules.specs.Histograms.{tileAt, bin, inTileFrom, inTile, inBin, histogram, histograms}
 use Rattle.rules.proofs.Laws.Tables.{getD-table, same-table}
 use Rattle.rules.proofs.Laws.Tally.{tally-append, tally-most, tally-places}
-use Rattle.rules.proofs.Laws.Histograms.{All, bin-small, tile-small, bins-total, in-tile}
-
--- 1 if the pixel v at place i of a picture of w by h pixels is in bin b of tile t, otherwise 0
-abbrev pub hits : ℕ → ℕ → ℕ → ℕ → ℕ → ℕ → ℕ
-hits w h t b i v = pick (eqb (tileAt w h i) t) (pick (eqb (bin v) b) 1 0) 0
+use Rattle.rules.proofs.Laws.Histograms.{bin-small, tile-small, bins-total, in-tile}
 
 -- how many of a picture's first pixels p are in bin b of tile t
 abbrev pub binTally : ℕ → ℕ → ℕ → ℕ → List ℕ → ℕ

@@ -11,14 +11,12 @@ use lib.Seq.{drop-at}
 use lib.Dec.{leb, ltb}
 use borrow.Author.Tests.{le-leb, lt-leb, lt-ltb, le-ltb}
 use Rattle.rules.specs.declared.UnitRow.{UnitRow}
-use Rattle.rules.specs.Bytes.{pick, total, smaller, larger, leastOf, greatestOf, only, joined}
+use Rattle.rules.specs.Bytes.{pick, total, smaller, larger, leastOf, greatestOf, only, endToEnd, All, and, empty}
 use Rattle.rules.specs.Refusals.{Fault, none, fault}
 use Rattle.rules.specs.Packets.{Packet, startMark, counter}
-use Rattle.rules.specs.Units.{Arrival, gapLoss, arrivalsAfter, arrivals, before, groups, leastTime, unitOf, unitsOf, beginnings}
+use Rattle.rules.specs.Units.{Arrival, gapLoss, arrivalsAfter, arrivals, intoFirst, groups, leastTime, unitOf, unitsOf, beginnings}
 use Rattle.rules.specs.Capture.{beginsAt}
 use Rattle.rules.proofs.Laws.Lists.{total-append, only-append}
-use Rattle.rules.proofs.Laws.Histograms.{All, and}
-use Rattle.rules.proofs.Laws.Histograms
 use Rattle.rules.proofs.Laws.Units.{lastOf, arrivals-append, behind, anew, groups-begin, groups-join}
 
 -- ---- the arrival of one packet more
@@ -139,29 +137,29 @@ unit-joins x g a =
 data Filled : List Arrival → Type 0 where
   filled : {a : Arrival} {g : List Arrival} → Filled (a ∷ g)
 
-before-filled : (a : Arrival) {gs : List (List Arrival)} → All Filled gs → All Filled (before a gs)
-before-filled a Histograms.none = and filled Histograms.none
-before-filled a (and h hs) = and filled hs
+intoFirst-filled : (a : Arrival) {gs : List (List Arrival)} → All Filled gs → All Filled (intoFirst a gs)
+intoFirst-filled a empty = and filled empty
+intoFirst-filled a (and h hs) = and filled hs
 
 -- no unit is empty
 groups-filled : (xs : List Arrival) → All Filled (groups xs)
 unfolding groups
-groups-filled [] = Histograms.none
-groups-filled (a ∷ []) = and filled Histograms.none
+groups-filled [] = empty
+groups-filled (a ∷ []) = and filled empty
 groups-filled (a ∷ b ∷ xs) = go (b .begins) (groups-filled (b ∷ xs))
   where
-    go : (t : Bool) → All Filled (groups (b ∷ xs)) → All Filled (pick t ((a ∷ []) ∷ groups (b ∷ xs)) (before a (groups (b ∷ xs))))
+    go : (t : Bool) → All Filled (groups (b ∷ xs)) → All Filled (pick t ((a ∷ []) ∷ groups (b ∷ xs)) (intoFirst a (groups (b ∷ xs))))
     go true r = and filled r
-    go false r = before-filled a r
+    go false r = intoFirst-filled a r
 
 filled-joins : {g : List Arrival} (a : Arrival) → Filled g → unitOf (g ++ a ∷ []) ≡ joins (unitOf g) (a .time) (a .lost)
 filled-joins a (filled {a = x} {g}) = unit-joins x g a
 
 behind-set : {gs : List (List Arrival)} (a : Arrival) (k : ℕ) (d : UnitRow) → All Filled gs → length gs ≡ suc k →
     map unitOf (behind gs a) ≡ set (map unitOf gs) k (joins (getD (map unitOf gs) k d) (a .time) (a .lost))
-behind-set a k d Histograms.none e = absurd (omega arith)
-behind-set a zero d (and {x} h Histograms.none) e = ap (λ (u : UnitRow). u ∷ []) (filled-joins a h)
-behind-set a (suc k) d (and {x} h Histograms.none) e = absurd (omega arith)
+behind-set a k d empty e = absurd (omega arith)
+behind-set a zero d (and {x} h empty) e = ap (λ (u : UnitRow). u ∷ []) (filled-joins a h)
+behind-set a (suc k) d (and {x} h empty) e = absurd (omega arith)
 behind-set a zero d (and {x} h (and j r)) e = absurd (omega arith)
 behind-set a (suc k) d (and {x} h (and j r)) e = ap (λ (us : List UnitRow). unitOf x ∷ us) (behind-set a k d (and j r) (omega arith))
 
@@ -198,9 +196,9 @@ units-join (q ∷ ps) p k d h l =
 
 -- ---- as many units as beginnings
 
-length-before : (a : Arrival) (gs : List (List Arrival)) (n : ℕ) → length gs ≡ suc n → length (before a gs) ≡ suc n
-length-before a [] n h = absurd (omega arith)
-length-before a (g ∷ gs) n h = h
+length-intoFirst : (a : Arrival) (gs : List (List Arrival)) (n : ℕ) → length gs ≡ suc n → length (intoFirst a gs) ≡ suc n
+length-intoFirst a [] n h = absurd (omega arith)
+length-intoFirst a (g ∷ gs) n h = h
 
 length-groups : (a : Arrival) (xs : List Arrival) → length (groups (a ∷ xs)) ≡ suc (length (only (λ x. x .begins) xs))
 unfolding groups only
@@ -211,9 +209,9 @@ length-groups a (b ∷ xs) = go (b .begins) (length-groups b xs)
     more = only (λ x. x .begins) xs
 
     go : (t : Bool) → length (groups (b ∷ xs)) ≡ suc (length more) →
-        length (pick t ((a ∷ []) ∷ groups (b ∷ xs)) (before a (groups (b ∷ xs)))) ≡ suc (length (pick t (b ∷ more) more))
+        length (pick t ((a ∷ []) ∷ groups (b ∷ xs)) (intoFirst a (groups (b ∷ xs)))) ≡ suc (length (pick t (b ∷ more) more))
     go true e = ap suc e
-    go false e = length-before a (groups (b ∷ xs)) (length more) e
+    go false e = length-intoFirst a (groups (b ∷ xs)) (length more) e
 
 pub units-beginnings : (ps : List Packet) → length (unitsOf ps) ≡ length (beginnings ps)
 unfolding unitsOf beginnings arrivals only
@@ -258,33 +256,33 @@ allPackets us = total (map (λ u. u .packets) us)
 abbrev pub allLost : List UnitRow → ℕ
 allLost us = total (map (λ u. u .lost) us)
 
-before-joined : (a : Arrival) (gs : List (List Arrival)) → joined (before a gs) ≡ a ∷ joined gs
-unfolding joined
-before-joined a [] = refl
-before-joined a (g ∷ gs) = refl
+intoFirst-endToEnd : (a : Arrival) (gs : List (List Arrival)) → endToEnd (intoFirst a gs) ≡ a ∷ endToEnd gs
+unfolding endToEnd
+intoFirst-endToEnd a [] = refl
+intoFirst-endToEnd a (g ∷ gs) = refl
 
 -- the units, joined again, are the arrivals
-pub groups-joined : (xs : List Arrival) → joined (groups xs) ≡ xs
-unfolding groups joined
-groups-joined [] = refl
-groups-joined (a ∷ []) = refl
-groups-joined (a ∷ b ∷ xs) = go (b .begins) (groups-joined (b ∷ xs))
+pub groups-endToEnd : (xs : List Arrival) → endToEnd (groups xs) ≡ xs
+unfolding groups endToEnd
+groups-endToEnd [] = refl
+groups-endToEnd (a ∷ []) = refl
+groups-endToEnd (a ∷ b ∷ xs) = go (b .begins) (groups-endToEnd (b ∷ xs))
   where
-    go : (t : Bool) → joined (groups (b ∷ xs)) ≡ b ∷ xs → joined (pick t ((a ∷ []) ∷ groups (b ∷ xs)) (before a (groups (b ∷ xs)))) ≡ a ∷ b ∷ xs
+    go : (t : Bool) → endToEnd (groups (b ∷ xs)) ≡ b ∷ xs → endToEnd (pick t ((a ∷ []) ∷ groups (b ∷ xs)) (intoFirst a (groups (b ∷ xs)))) ≡ a ∷ b ∷ xs
     go true e = ap (λ (r : List Arrival). a ∷ r) e
-    go false e = before-joined a (groups (b ∷ xs)) ∙ ap (λ (r : List Arrival). a ∷ r) e
+    go false e = intoFirst-endToEnd a (groups (b ∷ xs)) ∙ ap (λ (r : List Arrival). a ∷ r) e
 
-rows-packets : (gs : List (List Arrival)) → allPackets (map unitOf gs) ≡ length (joined gs)
-unfolding unitOf joined total
+rows-packets : (gs : List (List Arrival)) → allPackets (map unitOf gs) ≡ length (endToEnd gs)
+unfolding unitOf endToEnd total
 rows-packets [] = refl
-rows-packets (g ∷ gs) = let h = rows-packets gs in let e = length-append g (joined gs) in omega arith
+rows-packets (g ∷ gs) = let h = rows-packets gs in let e = length-append g (endToEnd gs) in omega arith
 
-rows-lost : (gs : List (List Arrival)) → allLost (map unitOf gs) ≡ total (losses (joined gs))
-unfolding unitOf joined total
+rows-lost : (gs : List (List Arrival)) → allLost (map unitOf gs) ≡ total (losses (endToEnd gs))
+unfolding unitOf endToEnd total
 rows-lost [] = refl
 rows-lost (g ∷ gs) =
     ap (λ (n : ℕ). total (losses g) + n) (rows-lost gs)
-    ∙ sym (ap total (map-append (λ (a : Arrival). a .lost) g (joined gs)) ∙ total-append (losses g) (losses (joined gs)))
+    ∙ sym (ap total (map-append (λ (a : Arrival). a .lost) g (endToEnd gs)) ∙ total-append (losses g) (losses (endToEnd gs)))
 
 length-after : (q : Packet) (ps : List Packet) → length (arrivalsAfter q ps) ≡ length ps
 unfolding arrivalsAfter
@@ -298,11 +296,11 @@ length-arrivals (p ∷ ps) = ap suc (length-after p ps)
 
 pub packets-total : (ps : List Packet) → allPackets (unitsOf ps) ≡ length ps
 unfolding unitsOf
-packets-total ps = rows-packets (groups (arrivals ps)) ∙ ap length (groups-joined (arrivals ps)) ∙ length-arrivals ps
+packets-total ps = rows-packets (groups (arrivals ps)) ∙ ap length (groups-endToEnd (arrivals ps)) ∙ length-arrivals ps
 
 pub lost-total : (ps : List Packet) → allLost (unitsOf ps) ≡ total (losses (arrivals ps))
 unfolding unitsOf
-lost-total ps = rows-lost (groups (arrivals ps)) ∙ ap (λ (xs : List Arrival). total (losses xs)) (groups-joined (arrivals ps))
+lost-total ps = rows-lost (groups (arrivals ps)) ∙ ap (λ (xs : List Arrival). total (losses xs)) (groups-endToEnd (arrivals ps))
 
 pub lost-more : (ps : List Packet) (p : Packet) → allLost (unitsOf (ps ++ p ∷ [])) ≡ allLost (unitsOf ps) + lossAfter ps p
 unfolding total

@@ -10,8 +10,8 @@ use lib.Seq.{drop-cons, getD-append-add, getD-drop}
 use Rattle.rules.specs.Bytes.{byte, word32, word64, bytesOf}
 
 -- every element is a byte
-abbrev pub Bytes : List ℕ → Type 0
-Bytes s = (i : ℕ) → byte s i < 256
+abbrev pub EachByte : List ℕ → Type 0
+EachByte s = (i : ℕ) → byte s i < 256
 
 -- the number that n bytes from place i on say
 unfoldable pub number : ℕ → List ℕ → ℕ → ℕ
@@ -60,7 +60,7 @@ number-bytes n p t x h =
 -- ---- writing what was read
 
 -- n bytes read and written again are the bytes that stood there
-pub bytes-number : (n : ℕ) (s : List ℕ) (i : ℕ) → Bytes s → i + n ≤ length s → bytesOf n (number n s i) ++ drop (i + n) s ≡ drop i s
+pub bytes-number : (n : ℕ) (s : List ℕ) (i : ℕ) → EachByte s → i + n ≤ length s → bytesOf n (number n s i) ++ drop (i + n) s ≡ drop i s
 unfolding number bytesOf
 bytes-number zero s i b h = rw (add-zero i)
 bytes-number (suc n) s i b h =
@@ -79,10 +79,10 @@ word32-bytes p t x h = word32-number (p ++ bytesOf 4 x ++ t) (length p) ∙ numb
 pub word64-bytes : (p t : List ℕ) (x : ℕ) → x < 2 ^ 64 → word64 (p ++ bytesOf 8 x ++ t) (length p) ≡ x
 word64-bytes p t x h = word64-number (p ++ bytesOf 8 x ++ t) (length p) ∙ number-bytes 8 p t x h
 
-pub bytes-word32 : (s : List ℕ) (i : ℕ) → Bytes s → i + 4 ≤ length s → bytesOf 4 (word32 s i) ++ drop (i + 4) s ≡ drop i s
+pub bytes-word32 : (s : List ℕ) (i : ℕ) → EachByte s → i + 4 ≤ length s → bytesOf 4 (word32 s i) ++ drop (i + 4) s ≡ drop i s
 bytes-word32 s i b h = rw (word32-number s i) (bytes-number 4 s i b h)
 
-pub bytes-word64 : (s : List ℕ) (i : ℕ) → Bytes s → i + 8 ≤ length s → bytesOf 8 (word64 s i) ++ drop (i + 8) s ≡ drop i s
+pub bytes-word64 : (s : List ℕ) (i : ℕ) → EachByte s → i + 8 ≤ length s → bytesOf 8 (word64 s i) ++ drop (i + 8) s ≡ drop i s
 bytes-word64 s i b h = rw (word64-number s i) (bytes-number 8 s i b h)
 
 -- a word behind the first i bytes
@@ -95,10 +95,10 @@ unfolding word64
 word64-drop i s j = simp (word32-drop, add-assoc)
 
 -- a word of a byte string fits
-pub word32-fits : (s : List ℕ) (i : ℕ) → Bytes s → word32 s i < 2 ^ 32
+pub word32-fits : (s : List ℕ) (i : ℕ) → EachByte s → word32 s i < 2 ^ 32
 unfolding word32
 word32-fits s i b = omega (arith, b i, b (i + 1), b (i + 2), b (i + 3))
 
-pub word64-fits : (s : List ℕ) (i : ℕ) → Bytes s → word64 s i < 2 ^ 64
+pub word64-fits : (s : List ℕ) (i : ℕ) → EachByte s → word64 s i < 2 ^ 64
 unfolding word64
 word64-fits s i b = omega (arith, word32-fits s i b, word32-fits s (i + 4) b)

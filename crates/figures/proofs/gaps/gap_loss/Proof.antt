@@ -3,8 +3,8 @@ use native.Mathlib.Omega.{arith}
 use borrow.Author.Needs.{needs}
 use borrow.Author.Tests.{lt-ltb, le-ltb}
 use Rattle.rules.specs.Units.{gapLoss}
-use Rattle.figures.proofs.units.gap_loss.Statement.{statement}
-use Rattle.figures.proofs.units.gap_loss.Tie as tie
+use Rattle.figures.proofs.gaps.gap_loss.Statement.{statement}
+use Rattle.figures.proofs.gaps.gap_loss.Tie as tie
 
 add-g : tie.Need-add-g
 add-g c = search needs
