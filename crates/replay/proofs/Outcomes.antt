@@ -1,0 +1,128 @@
+-- What one call writes: an answer's 17 bytes, a filled buffer, a seal's bytes; and the call that a script has at a place.
+use Prim.Native.Nat.{ℕ, _+_, _-_, _≤_, _<_}
+use native.Mathlib.Omega.{arith}
+use native.Mathlib.Numerals.{add-one}
+use mathlib.Core.Path.{_≡_, ap, _∙_}
+use mathlib.Core.List.{List, [], _∷_, _++_, append-nil}
+use lib.ListN.{length, take, drop, set, replicate, length-drop, length-replicate, replicate-append-replicate, drop-of-length-le}
+use lib.Seq.{take-all, drop-at, length-take-le, take-suc-set}
+use borrow.Rule.Slice.PartMut.{midOf, postOf, putMid}
+use Rattle.rules.specs.declared.Answer.{Answer}
+use Rattle.rules.specs.Bytes.{bytesOf}
+use Rattle.rules.specs.Calls.{feedCapture, feedLuma, seal, fed, sealedInto}
+use Rattle.words.specs.Written.{written}
+use Rattle.words.proofs.Laws.{written-sets, written-append}
+use Rattle.sample.specs.State.{State}
+use Rattle.sample.specs.Contract.{SealPost}
+use Rattle.sample.specs.Calls.{feedsCapture, feedsLuma, seals}
+use Rattle.replay.specs.declared.Head.{Head}
+use Rattle.replay.specs.declared.Head.the-variants.{Capture, Luma, Seal}
+use Rattle.replay.specs.Script.{kindOf, firstOf, secondOf, code, FedCapture, FedLuma, Sealed, CallPost}
+
+-- an answer's three stores
+pub put-law : (out : List ℕ) (a : Answer) → 17 ≤ length out →
+    written 9 (bytesOf 8 (secondOf a)) (written 1 (bytesOf 8 (firstOf a)) (set out 0 (kindOf a))) ≡ code a ++ drop 17 out
+unfolding bytesOf written code
+put-law out a h =
+    let k = kindOf a ∷ [] in
+    let x = bytesOf 8 (firstOf a) in
+    let y = bytesOf 8 (secondOf a) in
+    ap (λ (l : List ℕ). written 9 y (written 1 x l)) (written-sets 0 k out (omega arith))
+    ∙ ap (λ (l : List ℕ). written 9 y l) (written-append 0 k out (omega arith) x)
+    ∙ written-append 0 (k ++ x) out (omega arith) y
+
+-- one byte more is filled
+pub fill-law : (out : List ℕ) (i : ℕ) → i < length out → take i out ≡ replicate i 165 → take (i + 1) (set out i 165) ≡ replicate (i + 1) 165
+fill-law out i h e = ap (λ (n : ℕ). take n (set out i 165)) (add-one i) ∙ take-suc-set out i 165 h ∙ rw e (replicate-append-replicate i 1 165)
+
+-- the part from 17 on
+part-size : (out : List ℕ) → 17 ≤ length out → length (midOf 17 (length out - 17) out) ≡ length out - 17
+part-size out h = length-take-le (length out - 17) (drop 17 out) (simp length-drop (omega arith))
+
+-- what stands from 17 on when a part was put there
+pub part-back : (out part : List ℕ) (k : ℕ) → 17 ≤ length out → length out ≤ 17 + k → drop 17 (putMid 17 k out part) ≡ part
+part-back out part k h g =
+    let size = length-drop 17 out in
+    drop-at (take 17 out) (part ++ postOf 17 k out) 17 (length-take-le 17 out h)
+    ∙ rw (drop-of-length-le (drop 17 out) {i = k} (omega arith), append-nil part)
+
+pub sealed-law : (capture luma out filled buffer out′ : List ℕ) (a : Answer) (m : ℕ) → 17 ≤ length out →
+    filled ≡ replicate (length (midOf 17 (length out - 17) out)) 165 →
+    m ≡ length out - 17 →
+    SealPost capture luma (midOf 17 m (putMid 17 (length out - 17) out filled)) a buffer →
+    out′ ≡ code a ++ drop 17 (putMid 17 m (putMid 17 (length out - 17) out filled) buffer) →
+    17 ≤ length (putMid 17 (length out - 17) out filled) → length (putMid 17 (length out - 17) out filled) ≤ 17 + m →
+    Sealed capture luma (length out) out′
+sealed-law capture luma out filled buffer out′ a m h f z p w lo hi =
+    let size = part-size out h in
+    let back = part-back out filled (length out - 17) h (omega arith) in
+    let long : length filled ≡ length out - 17 = ap length f ∙ length-replicate {A = ℕ} _ 165 ∙ size in
+    let same : midOf 17 m (putMid 17 (length out - 17) out filled) ≡ replicate (length out - 17) 165 =
+    ap (take m) back ∙ take-all m filled (omega arith) ∙ f ∙ ap (λ (n : ℕ). replicate n 165) size
+    in
+    record {
+      answer = a;
+      buffer = buffer;
+      post = rw same at p;
+      wrote = w ∙ ap (λ (l : List ℕ). code a ++ l) (part-back (putMid 17 (length out - 17) out filled) buffer m lo hi);
+    }
+
+-- ---- the three calls
+
+pub after-capture : (capture luma sums bins picture capture′ script out′ : List ℕ) (at n from end : ℕ) (h : Head) → h ≡ Capture n → from ≡ at + 5 → end ≡ from + n →
+    FedCapture capture (take (end - from) (drop from script)) capture′ out′ →
+    CallPost
+    (record { capture = capture; luma = luma; sums = sums; bins = bins; picture = picture })
+    script
+    at
+    h
+    end
+    (record { capture = capture′; luma = luma; sums = sums; bins = bins; picture = picture })
+    out′
+after-capture capture luma sums bins picture capture′ script out′ at n from end h e f z p =
+    let k : end - from ≡ n = omega arith in
+    record {
+      call = feedCapture (take (end - from) (drop from script));
+      outcome = fed (p .answer);
+      first = λ more. rw (e, k, z, f);
+      ran = feedsCapture (p .post);
+      wrote = p .wrote;
+      size = rw e;
+      on = omega arith;
+    }
+
+pub after-luma : (capture luma sums bins picture luma′ sums′ bins′ picture′ script out′ : List ℕ) (at n from end : ℕ) (h : Head) → h ≡ Luma n → from ≡ at + 5 → end ≡ from + n →
+    FedLuma luma sums bins picture (take (end - from) (drop from script)) luma′ sums′ bins′ picture′ out′ →
+    CallPost
+    (record { capture = capture; luma = luma; sums = sums; bins = bins; picture = picture })
+    script
+    at
+    h
+    end
+    (record { capture = capture; luma = luma′; sums = sums′; bins = bins′; picture = picture′ })
+    out′
+after-luma capture luma sums bins picture luma′ sums′ bins′ picture′ script out′ at n from end h e f z p =
+    let k : end - from ≡ n = omega arith in
+    record {
+      call = feedLuma (take (end - from) (drop from script));
+      outcome = fed (p .answer);
+      first = λ more. rw (e, k, z, f);
+      ran = feedsLuma (p .post);
+      wrote = p .wrote;
+      size = rw e;
+      on = omega arith;
+    }
+
+pub after-seal : (st : State) (script out′ : List ℕ) (at n from size : ℕ) (h : Head) → h ≡ Seal n → from ≡ at + 5 → size ≡ 17 + n →
+    Sealed (st .capture) (st .luma) size out′ → CallPost st script at h from st out′
+after-seal st script out′ at n from size h e f z p =
+    let k : size - 17 ≡ n = omega arith in
+    record {
+      call = seal (replicate (size - 17) 165);
+      outcome = sealedInto (p .answer) (p .buffer);
+      first = λ more. rw (e, k, f);
+      ran = seals (p .post);
+      wrote = p .wrote;
+      size = rw (e, k, length-replicate {A = ℕ} n 165);
+      on = omega arith;
+    }

@@ -1,0 +1,118 @@
+-- `call` meets its contract: the script has the bytes of the call that the head names, and each arm is that call. No head is a Stop whose outcome takes a byte.
+use native.Mathlib.Omega.{arith}
+use mathlib.Core.Path.{refl, sym, ap, _∙_}
+use borrow.Author.Needs.{needs}
+use Rattle.replay.specs.Script.{sizeOf}
+use Rattle.replay.proofs.Laws.{fits-capture, fits-luma}
+use Rattle.replay.proofs.Outcomes.{after-capture, after-luma, after-seal}
+use Rattle.replay.proofs.call.Statement.{statement}
+use Rattle.replay.proofs.call.Tie as tie
+
+add-from : tie.Need-add-from
+add-from c = search needs
+
+enum-told : tie.Need-enum-told
+enum-told c = search needs
+
+enum-told-2 : tie.Need-enum-told-2
+enum-told-2 c = search needs
+
+call-seal-requires : tie.Need-call-seal-requires
+call-seal-requires c κs = omega (arith, c .before .before .before .before .before .before .before .pre .size ∙ ap sizeOf (c .before .before .before .enum-told2 .given .1))
+
+enum-known-h : tie.Need-enum-known-h
+enum-known-h c = search needs
+
+wide-requires : tie.Need-wide-requires
+wide-requires c κs = search needs
+
+add-next : tie.Need-add-next
+add-next c = search needs
+
+sub-call-capture : tie.Need-sub-call-capture
+sub-call-capture c = search needs
+
+part-call-capture-start : tie.Need-part-call-capture-start
+part-call-capture-start c = search needs
+
+part-call-capture-end : tie.Need-part-call-capture-end
+part-call-capture-end c = omega (arith, fits-capture (c .before .before .before .before .before .before .before .args .script .now) (c .before .before .before .before .before .before .before .args .at) _ (sym (c .before .before .before .h .given .1) ∙ c .before .before .before .before .before .before .before .pre .here))
+
+call-capture-requires : tie.Need-call-capture-requires
+call-capture-requires c κs = c .before .before .before .before .before .before .before .before .before .pre .size ∙ ap sizeOf (c .before .before .before .before .before .h .given .1)
+
+enum-known-h-2 : tie.Need-enum-known-h-2
+enum-known-h-2 c = search needs
+
+wide-requires-2 : tie.Need-wide-requires-2
+wide-requires-2 c κs = search needs
+
+add-next-2 : tie.Need-add-next-2
+add-next-2 c = search needs
+
+sub-call-luma : tie.Need-sub-call-luma
+sub-call-luma c = search needs
+
+part-call-luma-start : tie.Need-part-call-luma-start
+part-call-luma-start c = search needs
+
+part-call-luma-end : tie.Need-part-call-luma-end
+part-call-luma-end c = omega (arith, fits-luma (c .before .before .before .before .before .before .before .before .before .before .args .script .now) (c .before .before .before .before .before .before .before .before .before .before .args .at) _ (sym (c .before .before .before .before .before .before .h2 .given .1) ∙ c .before .before .before .before .before .before .before .before .before .before .pre .here))
+
+call-luma-requires : tie.Need-call-luma-requires
+call-luma-requires c κs = c .before .before .before .before .before .before .before .before .before .before .before .before .pre .size ∙ ap sizeOf (c .before .before .before .before .before .before .before .before .h2 .given .1)
+
+returns : tie.Need-returns
+returns c = absurd (omega (arith, c .before .before .before .before .pre .some, c .before .before .before .before .pre .size ∙ ap sizeOf (c .enum-told .given .1)))
+
+same-length : tie.Need-same-length
+same-length c = search needs
+
+returns-2 : tie.Need-returns-2
+returns-2 c =
+    let is = c .before .before .before .before .before .before .enum-told2 .given .1 in
+    after-seal _ _ _ _ _ _ _ _ is refl (c .before .before .before .before .before .before .before .before .before .before .pre .size ∙ ap sizeOf is) (c .before .before .call-seal .ensures)
+
+same-length-2 : tie.Need-same-length-2
+same-length-2 c = search needs
+
+returns-3 : tie.Need-returns-3
+returns-3 c =
+    after-capture _ _ _ _ _ _ _ _ _ _ _ _ _ (c .before .before .before .before .before .before .before .before .h .given .1) refl (rw (c .before .before .before .before .before .before .wide .ensures)) (c .before .before .call-capture .ensures)
+
+same-length-3 : tie.Need-same-length-3
+same-length-3 c = search needs
+
+returns-4 : tie.Need-returns-4
+returns-4 c =
+    after-luma _ _ _ _ _ _ _ _ _ _ _ _ _ _ _ _ (c .before .before .before .before .before .before .before .before .before .before .before .h2 .given .1) refl (rw (c .before .before .before .before .before .before .before .before .before .wide2 .ensures)) (c .before .before .call-luma .ensures)
+
+pub call-spec : {M : Type 1} → statement M
+call-spec =
+    tie.close
+    (tie.spec
+    add-from
+    enum-told
+    enum-told-2
+    call-seal-requires
+    enum-known-h
+    wide-requires
+    add-next
+    sub-call-capture
+    part-call-capture-start
+    part-call-capture-end
+    call-capture-requires
+    enum-known-h-2
+    wide-requires-2
+    add-next-2
+    sub-call-luma
+    part-call-luma-start
+    part-call-luma-end
+    call-luma-requires
+    returns
+    same-length
+    returns-2
+    same-length-2
+    returns-3
+    same-length-3
+    returns-4)

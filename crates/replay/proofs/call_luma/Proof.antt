@@ -1,0 +1,23 @@
+-- `call_luma` meets its contract: out is the answer's 17 bytes and no more.
+use borrow.Author.Needs.{needs}
+use mathlib.Core.Path.{_∙_}
+use mathlib.Core.List.{append-nil}
+use lib.ListN.{drop-of-length-le}
+use native.Mathlib.Omega.{arith}
+use Rattle.replay.proofs.call_luma.Statement.{statement}
+use Rattle.replay.proofs.call_luma.Tie as tie
+
+feed-luma-requires : tie.Need-feed-luma-requires
+feed-luma-requires c κs = search needs
+
+put-requires : tie.Need-put-requires
+put-requires c κs = search needs
+
+same-length : tie.Need-same-length
+same-length c = search needs
+
+returns : tie.Need-returns
+returns c = record { answer = _; post = c .before .before .before .before .feed-luma .ensures; wrote = c .before .before .put .ensures ∙ rw (drop-of-length-le (c .before .before .before .before .before .before .before .before .before .before .before .args .out .now) {i = 17} (omega arith), append-nil) }
+
+pub call-luma-spec : {M : Type 1} → statement M
+call-luma-spec = tie.close (tie.spec feed-luma-requires put-requires same-length returns)

@@ -1,0 +1,2 @@
+-- What a script says, and what running it comes to.
+pub mod Script

@@ -1,0 +1,157 @@
+-- What a script says, what its calls come to as bytes, and what `replay` promises: demand 3's equation about the whole list of calls.
+use Prim.Native.Nat.{ℕ, zero, suc, _+_, _-_, _≤_, _<_}
+use mathlib.Core.Path.{_≡_}
+use mathlib.Core.List.{List, [], _∷_, _++_}
+use lib.Dec.{ltb, eqb}
+use lib.ListN.{length, take, drop, replicate}
+use Rattle.rules.specs.declared.Opening.{Opening}
+use Rattle.rules.specs.declared.Answer.{Answer}
+use Rattle.rules.specs.declared.Answer.the-variants.{Done, Refused}
+use Rattle.rules.specs.Bytes.{pick, byte, word32, bytesOf}
+use Rattle.rules.specs.Opening.{openAnswer}
+use Rattle.rules.specs.Calls.{Call, feedCapture, feedLuma, seal, Outcome, fed, sealedInto, expected}
+use Rattle.capture.specs.Contract as side-capture
+use Rattle.luma.specs.Contract as side-luma
+use Rattle.sample.specs.State.{State}
+use Rattle.sample.specs.Contract.{SealPost}
+use Rattle.sample.specs.Calls.{Ran, Runs}
+use Rattle.replay.specs.declared.Head.{Head}
+use Rattle.replay.specs.declared.Head.the-variants.{Stop, Capture, Luma, Seal}
+
+-- ---- what a script says
+
+-- a word of the opening; 0 where the script ends before the word does
+unfoldable pub wordAt : List ℕ → ℕ → ℕ
+wordAt script at = pick (ltb (length script) (at + 4)) 0 (word32 script at)
+
+-- W, H, d and PID. The fifth word, the rule edition, says nothing today
+abbrev pub openingOf : List ℕ → Opening
+openingOf script = record { width = wordAt script 0; height = wordAt script 4; time = wordAt script 8; pid = wordAt script 12 }
+
+-- the call that begins with the byte `kind` and the length n, where `left` bytes of the script are left, those five among them: S, C, L
+unfoldable pub headBy : ℕ → ℕ → ℕ → Head
+headBy left kind n =
+    pick (ltb left 5) Stop (pick (eqb kind 83) (Seal n) (pick (ltb (left - 5) n) Stop (pick (eqb kind 67) (Capture n) (pick (eqb kind 76) (Luma n) Stop))))
+
+-- the head that the script has at a place
+abbrev pub headAt : List ℕ → ℕ → Head
+headAt script at = headBy (length script - at) (byte script at) (word32 script (at + 1))
+
+-- the calls from a place on, of which the first has this head
+abbrev pub callsWith : Head → List ℕ → ℕ → (ℕ → List Call) → List Call
+callsWith Stop script at more = []
+callsWith (Capture n) script at more = feedCapture (take n (drop (at + 5) script)) ∷ more (at + 5 + n)
+callsWith (Luma n) script at more = feedLuma (take n (drop (at + 5) script)) ∷ more (at + 5 + n)
+callsWith (Seal n) script at more = seal (replicate n 0xA5) ∷ more (at + 5)
+
+-- at most as many calls as the first number says
+unfoldable pub callsBy : ℕ → List ℕ → ℕ → List Call
+callsBy zero script at = []
+callsBy (suc f) script at = callsWith (headAt script at) script at (callsBy f script)
+
+-- a script has fewer calls than bytes
+unfoldable pub callsOf : List ℕ → List Call
+callsOf script = callsBy (length script) script 20
+
+-- ---- outcomes as bytes
+
+-- whether an answer is a refusal
+abbrev pub kindOf : Answer → ℕ
+kindOf (Done n) = 0
+kindOf (Refused number place) = 1
+
+-- the length, or the refusal's number
+abbrev pub firstOf : Answer → ℕ
+firstOf (Done n) = n
+firstOf (Refused number place) = number
+
+-- the refusal's place; a length has none
+abbrev pub secondOf : Answer → ℕ
+secondOf (Done n) = 0
+secondOf (Refused number place) = place
+
+-- an answer's 17 bytes: one of its kind, eight of its length or number, eight of its place
+unfoldable pub code : Answer → List ℕ
+code a = kindOf a ∷ bytesOf 8 (firstOf a) ++ bytesOf 8 (secondOf a)
+
+-- a call's outcome: its answer and, of a seal, the whole buffer behind it
+abbrev pub codeOf : Outcome → List ℕ
+codeOf (fed a) = code a
+codeOf (sealedInto a buffer) = code a ++ buffer
+
+-- the outcomes of a list of calls, one behind the other
+unfoldable pub codes : List Outcome → List ℕ
+codes [] = []
+codes (o ∷ os) = codeOf o ++ codes os
+
+-- how many bytes a call's outcome takes
+abbrev pub roomOf : Call → ℕ
+roomOf (feedCapture piece) = 17
+roomOf (feedLuma piece) = 17
+roomOf (seal buffer) = 17 + length buffer
+
+-- how many the outcomes of all calls take
+unfoldable pub room : List Call → ℕ
+room [] = 0
+room (c ∷ cs) = roomOf c + room cs
+
+-- THE PROMISE: out begins with the opening's answer and with all that the rules give for the script's calls, and goes on as before, if there is room
+abbrev pub Replayed : List ℕ → List ℕ → List ℕ → Type 0
+Replayed script out out′ =
+    17 + room (callsOf script) ≤ length out →
+    out′ ≡ codes (fed (openAnswer (openingOf script)) ∷ expected (openingOf script) [] [] (callsOf script)) ++ drop (17 + room (callsOf script)) out
+
+-- ---- of the functions within
+
+-- how many bytes the outcome of a call with this head takes, 0 of no call
+abbrev pub sizeOf : Head → ℕ
+sizeOf Stop = 0
+sizeOf (Capture n) = 17
+sizeOf (Luma n) = 17
+sizeOf (Seal n) = 17 + n
+
+-- a feed of the capture side, and its code
+pub record FedCapture (capture piece capture′ out′ : List ℕ) : Type 0 where
+  pub answer : Answer
+  pub post : side-capture.FeedPost capture piece answer capture′
+  pub wrote : out′ ≡ code answer
+
+-- a feed of the luma side, and its code
+pub record FedLuma (luma sums bins picture piece luma′ sums′ bins′ picture′ out′ : List ℕ) : Type 0 where
+  pub answer : Answer
+  pub post : side-luma.FeedPost luma sums bins picture piece answer luma′ sums′ bins′ picture′
+  pub wrote : out′ ≡ code answer
+
+-- a seal into the n bytes of out but its answer's 17, all 0xA5 before, and its code
+pub record Sealed (capture luma : List ℕ) (n : ℕ) (out′ : List ℕ) : Type 0 where
+  pub answer : Answer
+  pub buffer : List ℕ
+  pub post : SealPost capture luma (replicate (n - 17) 0xA5) answer buffer
+  pub wrote : out′ ≡ code answer ++ buffer
+
+-- a call's head stands there, and its outcome takes n bytes
+pub record Called (script : List ℕ) (at : ℕ) (h : Head) (n : ℕ) : Type 0 where
+  pub here : h ≡ headAt script at
+  pub inside : at < length script
+  pub size : n ≡ sizeOf h
+  pub some : 0 < n
+
+-- the call that the script has there, what it came to, and where the next one stands
+pub record CallPost (st : State) (script : List ℕ) (at : ℕ) (h : Head) (next : ℕ) (st′ : State) (out′ : List ℕ) : Type 0 where
+  pub call : Call
+  pub outcome : Outcome
+  pub first : (more : ℕ → List Call) → callsWith h script at more ≡ call ∷ more next
+  pub ran : Ran st call outcome st′
+  pub wrote : out′ ≡ codeOf outcome
+  pub size : sizeOf h ≡ roomOf call
+  pub on : at < next
+
+-- a run of all calls of a script, and their codes at the front of out
+pub record Played (st : State) (script out out′ : List ℕ) : Type 0 where
+  pub outcomes : List Outcome
+  pub ran : Runs st (callsOf script) outcomes
+  pub wrote : out′ ≡ codes outcomes ++ drop (room (callsOf script)) out
+
+-- there is such a run, if there is room
+abbrev pub All : State → List ℕ → List ℕ → List ℕ → Type 0
+All st script out out′ = room (callsOf script) ≤ length out → Played st script out out′
