@@ -122,7 +122,7 @@ pub record FedLuma (luma sums bins picture piece luma′ sums′ bins′ picture
   pub post : side-luma.FeedPost luma sums bins picture piece answer luma′ sums′ bins′ picture′
   pub wrote : out′ ≡ code answer
 
--- a seal into the n bytes of out but its answer's 17, all 0xA5 before, and its code
+-- a seal whose outcome takes n bytes, and its code: the buffer, all 0xA5 before, has all of them but the answer's 17
 pub record Sealed (capture luma : List ℕ) (n : ℕ) (out′ : List ℕ) : Type 0 where
   pub answer : Answer
   pub buffer : List ℕ
