@@ -105,7 +105,7 @@ pub record Sofar (st₀ : State) (script out₀ : List ℕ) (at to : ℕ) (st : 
   pub fuel : ℕ
   pub enough : length script ≤ at + fuel
   pub split : callsOf script ≡ before ++ callsBy fuel script at
-  pub ran : (cs : List Call) (os : List Outcome) → Runs st cs os → Runs st₀ (before ++ cs) (outcomes ++ os)
+  pub ran : (cs : List Call) (os : List Outcome) (end : State) → Runs st cs os end → Runs st₀ (before ++ cs) (outcomes ++ os) end
   pub count : to ≡ room before
   pub head : take to out ≡ codes outcomes
   pub tail : drop to out ≡ drop to out₀
@@ -119,7 +119,7 @@ start st script out =
       fuel = length script;
       enough = omega arith;
       split = refl;
-      ran = λ cs os r. r;
+      ran = λ cs os end r. r;
       count = refl;
       head = refl;
       tail = refl;
@@ -131,7 +131,8 @@ ended : (st₀ : State) (script out₀ : List ℕ) (at to : ℕ) (st : State) (o
 ended st₀ script out₀ at to st out f all =
     record {
       outcomes = f .outcomes;
-      ran = rw all (rw (append-nil (f .before), append-nil (f .outcomes)) at (f .ran [] [] done));
+      end = st;
+      ran = rw all (rw (append-nil (f .before), append-nil (f .outcomes)) at (f .ran [] [] st done));
       wrote = sym (take-append-drop to out) ∙ rw (f .head, f .tail, f .count, ← all);
     }
 
@@ -157,9 +158,9 @@ module _ (st₀ : State) (script out₀ : List ℕ) (at to : ℕ) (st : State) (
         fuel = s .0;
         enough = omega (arith, s .1, f .enough, n .on);
         split = f .split ∙ rw (s .2, n .first (callsBy (s .0) script), append-snoc (f .before) (n .call) (callsBy (s .0) script at′));
-        ran = λ cs os x.
+        ran = λ cs os end′ x.
             rw (append-snoc (f .before) (n .call) cs, append-snoc (f .outcomes) (n .outcome) os)
-            (f .ran (n .call ∷ cs) (n .outcome ∷ os) (next (n .ran) x));
+            (f .ran (n .call ∷ cs) (n .outcome ∷ os) end′ (next (n .ran) x));
         count = omega (arith, room-append (f .before) (n .call ∷ []), f .count, n .size);
         head = rw (whole, take-at p q end long, codes-snoc (f .outcomes) (n .outcome), f .head);
         tail = rw (whole, drop-at p q end long, more);
@@ -206,7 +207,7 @@ unfolding codes
 run-made a st script out part o h f enough =
     let size : length (drop 17 out) ≡ length out - 17 = length-drop 17 out in
     let p = f (omega arith) in
-    let t = every-list (openingOf script) a st (callsOf script) (p .outcomes) o (p .ran) in
+    let t = every-list (openingOf script) a st (callsOf script) (p .outcomes) (p .end) o (p .ran) in
     rw (p .wrote, t .outcomes, t .opening, drop-drop (room (callsOf script)) 17 out, append-assoc)
 
 -- and so of the part of out that is lent for the calls

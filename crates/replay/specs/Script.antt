@@ -149,7 +149,8 @@ pub record CallPost (st : State) (script : List ℕ) (at : ℕ) (h : Head) (next
 -- a run of all calls of a script, and their codes at the front of out
 pub record Played (st : State) (script out out′ : List ℕ) : Type 0 where
   pub outcomes : List Outcome
-  pub ran : Runs st (callsOf script) outcomes
+  pub end : State
+  pub ran : Runs st (callsOf script) outcomes end
   pub wrote : out′ ≡ codes outcomes ++ drop (room (callsOf script)) out
 
 -- there is such a run, if there is room
