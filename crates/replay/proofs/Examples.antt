@@ -6,16 +6,16 @@ use Rattle.rules.specs.Bytes.{word32}
 use Rattle.rules.specs.Calls.{feedCapture, feedLuma, seal}
 use Rattle.replay.specs.Script.{wordAt, openingOf, headBy, callsBy, callsOf}
 
--- 320 × 240, d 40, PID 256, edition 1; then C of two bytes, S of three, L of one, and a C whose second byte is missing
+-- 320 × 240, d 40,000, PID 256, edition 1; then C of two bytes, S of three, L of one, and a C whose second byte is missing
 example : List ℕ
 example =
-    64 ∷ 1 ∷ 0 ∷ 0 ∷ 240 ∷ 0 ∷ 0 ∷ 0 ∷ 40 ∷ 0 ∷ 0 ∷ 0 ∷ 0 ∷ 1 ∷ 0 ∷ 0 ∷ 1 ∷ 0 ∷ 0 ∷ 0
+    64 ∷ 1 ∷ 0 ∷ 0 ∷ 240 ∷ 0 ∷ 0 ∷ 0 ∷ 64 ∷ 156 ∷ 0 ∷ 0 ∷ 0 ∷ 1 ∷ 0 ∷ 0 ∷ 1 ∷ 0 ∷ 0 ∷ 0
     ∷ 67 ∷ 2 ∷ 0 ∷ 0 ∷ 0 ∷ 71 ∷ 9
     ∷ 83 ∷ 3 ∷ 0 ∷ 0 ∷ 0
     ∷ 76 ∷ 1 ∷ 0 ∷ 0 ∷ 0 ∷ 200
     ∷ 67 ∷ 2 ∷ 0 ∷ 0 ∷ 0 ∷ 71 ∷ []
 
-opens : openingOf example ≡ record { width = 320; height = 240; time = 40; pid = 256 }
+opens : openingOf example ≡ record { width = 320; height = 240; time = 40000; pid = 256 }
 unfolding example wordAt word32
 opens = refl
 

@@ -4,10 +4,10 @@ use native.Mathlib.Omega.{arith}
 use mathlib.Core.Path.{_≡_, refl, sym, ap, _∙_}
 use mathlib.Core.List.{List, [], _∷_, _++_, append-nil, append-assoc}
 use mathlib.Core.Bool.{Bool, true, false}
-use lib.Dec.{ltb, eqb}
+use lib.Dec.{leb, ltb, eqb}
 use lib.ListN.{length, take, drop, length-append, length-drop, length-replicate, drop-of-length-le, take-append-drop}
 use lib.Seq.{take-all, append-snoc, take-at, drop-at, drop-drop, length-take-le}
-use borrow.Author.Tests.{ltb-false, lt-ltb}
+use borrow.Author.Tests.{le-leb, lt-leb, leb-true, ltb-false, lt-ltb}
 use borrow.Rule.Slice.PartMut.{midOf, putMid, post-is}
 use Rattle.rules.specs.declared.Answer.{Answer}
 use Rattle.rules.specs.Bytes.{pick, byte, word32}
@@ -19,7 +19,7 @@ use Rattle.sample.specs.Calls.{Runs, done, next}
 use Rattle.sample.proofs.Lists.{every-list}
 use Rattle.replay.specs.declared.Head.{Head}
 use Rattle.replay.specs.declared.Head.the-variants.{Stop, Capture, Luma, Seal}
-use Rattle.replay.specs.Script.{openingOf, headBy, headAt, callsWith, callsBy, callsOf, code, codeOf, codes, room, Replayed, sizeOf, CallPost, Played, All}
+use Rattle.replay.specs.Script.{openingOf, headBy, headAt, callsWith, callsBy, callsOf, code, codeOf, codes, room, roomFor, replayed, Replayed, nextOf, sizeOf, CallPost, Played, All}
 
 -- ---- heads
 
@@ -98,6 +98,72 @@ unfolding room
 room-append [] ds = omega arith
 room-append (c ∷ cs) ds = let i = room-append cs ds in omega arith
 
+no-call : (h : Head) (script : List ℕ) (at : ℕ) (more : ℕ → List Call) → sizeOf h ≡ 0 → callsWith h script at more ≡ []
+no-call Stop script at more z = refl
+no-call (Capture n) script at more z = absurd (omega arith)
+no-call (Luma n) script at more z = absurd (omega arith)
+no-call (Seal n) script at more z = absurd (omega arith)
+
+takes : (h : Head) (script : List ℕ) (at : ℕ) (more : ℕ → List Call) → sizeOf h ≤ room (callsWith h script at more)
+unfolding room
+takes Stop script at more = omega arith
+takes (Capture n) script at more = omega arith
+takes (Luma n) script at more = omega arith
+takes (Seal n) script at more = rw length-replicate (omega arith)
+
+pub next-on : (h : Head) (at : ℕ) → at < nextOf h at
+next-on Stop at = omega arith
+next-on (Capture n) at = omega arith
+next-on (Luma n) at = omega arith
+next-on (Seal n) at = omega arith
+
+takes-on : (h : Head) (script : List ℕ) (at : ℕ) (more : ℕ → List Call) → 0 < sizeOf h → room (callsWith h script at more) ≡ sizeOf h + room (more (nextOf h at))
+unfolding room
+takes-on Stop script at more z = absurd (omega arith)
+takes-on (Capture n) script at more z = refl
+takes-on (Luma n) script at more z = refl
+takes-on (Seal n) script at more z = rw length-replicate
+
+-- ---- room so far: the opening's answer and the calls before `at` take `to` bytes
+pub record Taken (script : List ℕ) (at to : ℕ) : Type 0 where
+  pub fuel : ℕ
+  pub enough : length script ≤ at + fuel
+  pub sum : roomFor script ≡ to + room (callsBy fuel script at)
+
+pub taken-start : (script : List ℕ) → Taken script 20 17
+unfolding callsOf
+taken-start script = record { fuel = length script; enough = omega arith; sum = refl }
+
+module _ (script : List ℕ) (at to most : ℕ) (f : Taken script at to) (below : to ≤ most) where
+  pub taken-end : length script ≤ at → true ≡ leb (roomFor script) most
+  unfolding room
+  taken-end h = let e = calls-end (f .fuel) script at h in let z : roomFor script ≡ to + 0 = f .sum ∙ rw e in sym (le-leb (roomFor script) most (omega arith))
+
+  module _ (inside : at < length script) where
+    pub taken-stop : sizeOf (headAt script at) ≡ 0 → true ≡ leb (roomFor script) most
+    unfolding room
+    taken-stop z =
+        let s = calls-on (f .fuel) script at inside (f .enough) in
+        let e : roomFor script ≡ to + 0 = f .sum ∙ rw (s .2, no-call (headAt script at) script at (callsBy (s .0) script) z) in
+        sym (le-leb (roomFor script) most (omega arith))
+
+    pub taken-full : most - to < sizeOf (headAt script at) → false ≡ leb (roomFor script) most
+    taken-full less =
+        let s = calls-on (f .fuel) script at inside (f .enough) in
+        let e : roomFor script ≡ to + room (callsWith (headAt script at) script at (callsBy (s .0) script)) = f .sum ∙ rw (s .2) in
+        sym (lt-leb (roomFor script) most (omega (arith, takes (headAt script at) script at (callsBy (s .0) script))))
+
+    pub taken-on : 0 < sizeOf (headAt script at) → Taken script (nextOf (headAt script at) at) (to + sizeOf (headAt script at))
+    taken-on some =
+        let s = calls-on (f .fuel) script at inside (f .enough) in
+        let h = headAt script at in
+        let e : roomFor script ≡ to + room (callsWith h script at (callsBy (s .0) script)) = f .sum ∙ rw (s .2) in
+        record {
+          fuel = s .0;
+          enough = omega (arith, s .1, f .enough, next-on h at);
+          sum = omega (arith, e, takes-on h script at (callsBy (s .0) script) some);
+        }
+
 -- ---- a run so far: from the state st₀, by the calls before `at`, to the state st, with their outcomes at the front of out, up to `to`
 pub record Sofar (st₀ : State) (script out₀ : List ℕ) (at to : ℕ) (st : State) (out : List ℕ) : Type 0 where
   pub before : List Call
@@ -170,14 +236,8 @@ module _ (st₀ : State) (script out₀ : List ℕ) (at to : ℕ) (st : State) (
   pub stops : sizeOf (headAt script at) ≡ 0 → All st₀ script out₀ out
   stops z room-there =
       let s = calls-on (f .fuel) script at inside (f .enough) in
-      let none : callsWith (headAt script at) script at (callsBy (s .0) script) ≡ [] = no-call (headAt script at) (callsBy (s .0) script) z in
+      let none : callsWith (headAt script at) script at (callsBy (s .0) script) ≡ [] = no-call (headAt script at) script at (callsBy (s .0) script) z in
       ended st₀ script out₀ at to st out f (f .split ∙ rw (s .2, none, append-nil (f .before)))
-    where
-      no-call : (h : Head) (more : ℕ → List Call) → sizeOf h ≡ 0 → callsWith h script at more ≡ []
-      no-call Stop more z = refl
-      no-call (Capture n) more z = absurd (omega arith)
-      no-call (Luma n) more z = absurd (omega arith)
-      no-call (Seal n) more z = absurd (omega arith)
 
   -- there is no room for the call that is left
   pub full : (x : List ℕ) → length out₀ - to < sizeOf (headAt script at) → to ≤ length out₀ → All st₀ script out₀ x
@@ -187,22 +247,19 @@ module _ (st₀ : State) (script out₀ : List ℕ) (at to : ℕ) (st : State) (
       let all : room (callsOf script) ≡ room (f .before) + room (callsWith (headAt script at) script at (callsBy (s .0) script)) =
       ap room (f .split) ∙ room-append (f .before) (callsBy (f .fuel) script at) ∙ rw (s .2)
       in
-      absurd (omega (arith, takes (headAt script at) (callsBy (s .0) script), f .count))
-    where
-      takes : (h : Head) (more : ℕ → List Call) → sizeOf h ≤ room (callsWith h script at more)
-      takes Stop more = omega arith
-      takes (Capture n) more = omega arith
-      takes (Luma n) more = omega arith
-      takes (Seal n) more = rw length-replicate (omega arith)
+      absurd (omega (arith, takes (headAt script at) script at (callsBy (s .0) script), f .count))
 
 -- nothing is left of the script
 pub finish : (st₀ : State) (script out₀ : List ℕ) (at to : ℕ) (st : State) (out : List ℕ) → Sofar st₀ script out₀ at to st out → length script ≤ at → All st₀ script out₀ out
 finish st₀ script out₀ at to st out f h room-there =
     ended st₀ script out₀ at to st out f (f .split ∙ rw (calls-end (f .fuel) script at h, append-nil (f .before)))
 
+abbrev Wrote : List ℕ → List ℕ → List ℕ → Type 0
+Wrote script out out′ = roomFor script ≤ length out → out′ ≡ replayed script out
+
 -- DEMAND 3, of a run that was made: the opening's answer is at the front, and the calls' outcomes behind it
 run-made : (a : Answer) (st : State) (script out part : List ℕ) → OpenPost (openingOf script) a st → 17 ≤ length out →
-    All st script (drop 17 out) part → Replayed script out (code a ++ part)
+    All st script (drop 17 out) part → Wrote script out (code a ++ part)
 unfolding codes
 run-made a st script out part o h f enough =
     let size : length (drop 17 out) ≡ length out - 17 = length-drop 17 out in
@@ -212,7 +269,7 @@ run-made a st script out part o h f enough =
 
 -- and so of the part of out that is lent for the calls
 pub replays : (a : Answer) (st : State) (script out out′ part : List ℕ) (k : ℕ) → OpenPost (openingOf script) a st → 17 ≤ length out →
-    out′ ≡ code a ++ drop 17 out → length out′ ≤ 17 + k → All st script (midOf 17 k out′) part → Replayed script out (putMid 17 k out′ part)
+    out′ ≡ code a ++ drop 17 out → length out′ ≤ 17 + k → All st script (midOf 17 k out′) part → Wrote script out (putMid 17 k out′ part)
 replays a st script out out′ part k o h e g f =
     let rest : drop 17 out′ ≡ drop 17 out = ap (drop 17) e ∙ drop-at (code a) (drop 17 out) 17 (code-size a) in
     let front : take 17 out′ ≡ code a = ap (take 17) e ∙ take-at (code a) (drop 17 out) 17 (code-size a) in
@@ -220,3 +277,13 @@ replays a st script out out′ part k o h e g f =
     let lent : midOf 17 k out′ ≡ drop 17 out = take-all k (drop 17 out′) (omega arith) ∙ rest in
     let back : putMid 17 k out′ part ≡ code a ++ part = rw (drop-of-length-le (drop 17 out′) {i = k} (omega arith), append-nil part, front) in
     rw back (run-made a st script out part o h (rw lent at f))
+
+-- THE PROMISE
+pub no-room : (script out : List ℕ) (b : Bool) → b ≡ leb (roomFor script) (length out) → b ≡ false → Replayed script out false out
+no-room script out b e f = record { answer = sym f ∙ e; buffer = refl }
+
+pub kept-promise : (script out out′ : List ℕ) (b : Bool) → b ≡ leb (roomFor script) (length out) → b ≡ true → Wrote script out out′ → Replayed script out true out′
+kept-promise script out out′ b e f w = record { answer = sym f ∙ e; buffer = w (leb-true (roomFor script) (length out) (sym e ∙ f)) }
+
+pub answer-fits : (script out : List ℕ) (b : Bool) → b ≡ leb (roomFor script) (length out) → b ≡ true → 17 ≤ length out
+answer-fits script out b e f = let h = leb-true (roomFor script) (length out) (sym e ∙ f) in omega arith

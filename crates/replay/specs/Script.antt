@@ -2,7 +2,8 @@
 use Prim.Native.Nat.{ℕ, zero, suc, _+_, _-_, _≤_, _<_}
 use mathlib.Core.Path.{_≡_}
 use mathlib.Core.List.{List, [], _∷_, _++_}
-use lib.Dec.{ltb, eqb}
+use mathlib.Core.Bool.{Bool}
+use lib.Dec.{leb, ltb, eqb}
 use lib.ListN.{length, take, drop, replicate}
 use Rattle.rules.specs.declared.Opening.{Opening}
 use Rattle.rules.specs.declared.Answer.{Answer}
@@ -24,7 +25,7 @@ use Rattle.replay.specs.declared.Head.the-variants.{Stop, Capture, Luma,
 unfoldable pub wordAt : List ℕ → ℕ → ℕ
 wordAt script at = pick (ltb (length script) (at + 4)) 0 (word32 script at)
 
--- W, H, d and PID. The fifth word, the rule edition, says nothing today
+-- W, H, d and PID. The fifth word, the rule edition, is ignored
 abbrev pub openingOf : List ℕ → Opening
 openingOf script = record { width = wordAt script 0; height = wordAt script 4; time = wordAt script 8; pid = wordAt script 12 }
 
@@ -95,11 +96,26 @@ unfoldable pub room : List Call → ℕ
 room [] = 0
 room (c ∷ cs) = roomOf c + room cs
 
--- THE PROMISE: out begins with the opening's answer and with all that the rules give for the script's calls, and goes on as before, if there is room
-abbrev pub Replayed : List ℕ → List ℕ → List ℕ → Type 0
-Replayed script out out′ =
-    17 + room (callsOf script) ≤ length out →
-    out′ ≡ codes (fed (openAnswer (openingOf script)) ∷ expected (openingOf script) [] [] (callsOf script)) ++ drop (17 + room (callsOf script)) out
+-- where the next call stands
+abbrev pub nextOf : Head → ℕ → ℕ
+nextOf Stop at = at + 5
+nextOf (Capture n) at = at + 5 + n
+nextOf (Luma n) at = at + 5 + n
+nextOf (Seal n) at = at + 5
+
+-- the bytes that the opening's answer and the outcomes of all calls take
+abbrev pub roomFor : List ℕ → ℕ
+roomFor script = 17 + room (callsOf script)
+
+-- the opening's answer and all that the rules give for the whole list of the script's calls, and behind it out as it was
+abbrev pub replayed : List ℕ → List ℕ → List ℕ
+replayed script out =
+    codes (fed (openAnswer (openingOf script)) ∷ expected (openingOf script) [] [] (callsOf script)) ++ drop (roomFor script) out
+
+-- THE PROMISE: the answer says whether there is room; if there is, out is what the rules give, otherwise it stands as it was
+pub record Replayed (script out : List ℕ) (r : Bool) (out′ : List ℕ) : Type 0 where
+  pub answer : r ≡ leb (roomFor script) (length out)
+  pub buffer : out′ ≡ pick r (replayed script out) out
 
 -- ---- of the functions within
 

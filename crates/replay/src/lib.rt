@@ -1,11 +1,12 @@
 // Runs a whole list of calls that a script of bytes holds, all after one opening, and writes what they come to. A script: the 32-bit little-endian words
-// W, H, d, PID and a rule edition, which is passed over today; then calls. A call: byte C or L, a 32-bit length n and n bytes, a feed of that side; or byte S and
+// W, H, d, PID and a rule edition, which is ignored; then calls. A call: byte C or L, a 32-bit length n and n bytes, a feed of that side; or byte S and
 // a 32-bit length n, a seal into n bytes of 0xA5. Where the script ends inside a call, or where another byte stands, the list ends.
 ghost use mathlib.Core.Path.{_≡_};
 ghost use mathlib.Core.List.{_++_};
-ghost use Prim.Native.Nat.{_+_, _≤_, _<_};
+ghost use Prim.Native.Nat.{_+_, _≤_, _<_, _^_};
 ghost use lib.ListN.{length, drop, replicate};
-ghost use Rattle.replay.specs.Script.{wordAt, openingOf, kindOf, firstOf, secondOf, code, headBy, headAt, sizeOf, FedCapture, FedLuma, Sealed, Called, CallPost, All, Replayed};
+ghost use lib.Dec.{leb};
+ghost use Rattle.replay.specs.Script.{wordAt, nextOf, roomFor, openingOf, kindOf, firstOf, secondOf, code, headBy, headAt, sizeOf, FedCapture, FedLuma, Sealed, Called, CallPost, All, Replayed};
 use rules::Answer;
 use rules::Opening;
 
@@ -95,6 +96,44 @@ fn size(h: Head) -> usize
         Head::Luma(_) => 17,
         Head::Seal(n) => 17 + wide(n),
     }
+}
+
+// Where the next call stands.
+fn next_at(at: usize, h: Head) -> usize
+    requires { ⌜ at < 2 ^ 63 ⌝ }
+    ensures { λ r. ⌜ r ≡ nextOf h at ⌝ }
+{
+    let from = at + 5;
+    match h {
+        Head::Stop => from,
+        Head::Seal(_) => from,
+        Head::Capture(n) => from + wide(n),
+        Head::Luma(n) => from + wide(n),
+    }
+}
+
+// Whether the opening's answer and all calls' outcomes take no more than `most` bytes.
+fn has_room(script: &[u8], most: usize) -> bool
+    ensures { λ r. ⌜ r ≡ leb (roomFor (now (script .entry))) most ⌝ }
+{
+    if most < 17 {
+        return false;
+    }
+    let mut at: usize = 20;
+    let mut to: usize = 17;
+    while at < script.len() {
+        let h = head_at(script, at);
+        let n = size(h);
+        if n == 0 {
+            return true;
+        }
+        if most - to < n {
+            return false;
+        }
+        to = to + n;
+        at = next_at(at, h);
+    }
+    true
 }
 
 // ---- writing outcomes
@@ -257,10 +296,14 @@ fn all(
     }
 }
 
-// Opens as the script says, and makes its calls: out begins with the opening's answer and every call's outcome, where there is room for all of them.
-pub fn replay(script: &[u8], out: &mut [u8])
-    ensures { λ _. ⌜ Replayed (now (script .entry)) (now (out .entry)) (now (out .exit)) ⌝ }
+// Opens as the script says, and makes its calls: out begins with the opening's answer and every call's outcome. Where there is no room for all of them the answer
+// is false, and out stands as it was.
+pub fn replay(script: &[u8], out: &mut [u8]) -> bool
+    ensures { λ r. ⌜ Replayed (now (script .entry)) (now (out .entry)) r (now (out .exit)) ⌝ }
 {
+    if !has_room(script, out.len()) {
+        return false;
+    }
     let mut capture = [0u64; 3840];
     let mut luma = [0u64; 1600];
     let mut sums = [0u32; 240];
@@ -275,9 +318,6 @@ pub fn replay(script: &[u8], out: &mut [u8])
         &mut picture,
         o,
     );
-    if out.len() < 17 {
-        return;
-    }
     put(out, a);
     all(
         &mut capture,
@@ -288,4 +328,5 @@ pub fn replay(script: &[u8], out: &mut [u8])
         script,
         &mut out[17..],
     );
+    true
 }

@@ -4,9 +4,16 @@ use native.Mathlib.Omega.{arith}
 use mathlib.Core.List.{List}
 use lib.ListN.{length}
 use borrow.Author.Needs.{needs}
-use Rattle.replay.proofs.Laws.{replays}
+use borrow.Author.Tests.{not-true, not-false}
+use Rattle.replay.proofs.Laws.{replays, no-room, kept-promise, answer-fits}
 use Rattle.replay.proofs.replay.Statement.{statement}
 use Rattle.replay.proofs.replay.Tie as tie
+
+has-room-requires : tie.Need-has-room-requires
+has-room-requires c κs = search needs
+
+returns : tie.Need-returns
+returns c = no-room _ _ _ (c .before .has-room .ensures) (not-true _ (c .if1 .taken))
 
 opening-requires : tie.Need-opening-requires
 opening-requires c κs = search needs
@@ -14,17 +21,14 @@ opening-requires c κs = search needs
 open-requires : tie.Need-open-requires
 open-requires c κs = search needs
 
-returns : tie.Need-returns
-returns c = λ h. absurd (omega arith)
-
 put-requires : tie.Need-put-requires
-put-requires c κs = search needs
+put-requires c κs = answer-fits (c .before .before .before .before .before .before .before .before .before .before .before .before .args .script .now) (c .before .before .before .before .before .before .before .before .before .before .before .before .args .out .now) _ (c .before .before .before .before .before .before .before .before .before .has-room .ensures) (not-false _ (c .before .before .before .before .before .before .before .before .if1 .left))
 
 sub-all : tie.Need-sub-all
-sub-all c = search needs
+sub-all c = omega (arith, answer-fits (c .before .before .before .before .before .before .before .before .before .before .before .before .before .before .before .before .before .before .before .before .args .script .now) (c .before .before .before .before .before .before .before .before .before .before .before .before .before .before .before .before .before .before .before .before .args .out .now) _ (c .before .before .before .before .before .before .before .before .before .before .before .before .before .before .before .before .before .has-room .ensures) (not-false _ (c .before .before .before .before .before .before .before .before .before .before .before .before .before .before .before .before .if1 .left)))
 
 part-all-start : tie.Need-part-all-start
-part-all-start c = search needs
+part-all-start c = omega (arith, answer-fits (c .before .before .before .before .before .before .before .before .before .before .before .before .before .before .before .before .before .before .before .before .args .script .now) (c .before .before .before .before .before .before .before .before .before .before .before .before .before .before .before .before .before .before .before .before .args .out .now) _ (c .before .before .before .before .before .before .before .before .before .before .before .before .before .before .before .before .before .has-room .ensures) (not-false _ (c .before .before .before .before .before .before .before .before .before .before .before .before .before .before .before .before .if1 .left)))
 
 part-all-end : tie.Need-part-all-end
 part-all-end c = search needs
@@ -37,19 +41,24 @@ same-length c = search needs
 
 returns-2 : tie.Need-returns-2
 returns-2 c =
-    let out : List ℕ = c .before .before .before .before .before .before .before .before .before .before .before .before .before .before .before .before .before .before .before .before .before .before .before .args .out .now in
+    let script : List ℕ = c .before .before .before .before .before .before .before .before .before .before .before .before .before .before .before .before .before .before .before .before .before .before .before .before .args .script .now in
+    let out : List ℕ = c .before .before .before .before .before .before .before .before .before .before .before .before .before .before .before .before .before .before .before .before .before .before .before .before .args .out .now in
     let front : List ℕ = c .before .before .before .before .before .before .before .before .before .before .before .put .last .0 in
-    let opened = rw (c .before .before .before .before .before .before .before .before .before .before .before .before .before .before .before .before .before .before .before .before .opening .ensures) at (c .before .before .before .before .before .before .before .before .before .before .before .before .before .before .«open» .ensures) in
-    let room : 17 ≤ length out = omega arith in
-    replays _ _ _ out front _ (length front - 17) opened room (c .before .before .before .before .before .before .before .before .before .before .before .put .ensures) (omega arith) (c .before .before .all .ensures)
+    let asked = c .before .before .before .before .before .before .before .before .before .before .before .before .before .before .before .before .before .before .before .before .before .has-room .ensures in
+    let there = not-false _ (c .before .before .before .before .before .before .before .before .before .before .before .before .before .before .before .before .before .before .before .before .if1 .left) in
+    let room = answer-fits script out _ asked there in
+    let opened = rw (c .before .before .before .before .before .before .before .before .before .before .before .before .before .before .before .before .before .before .before .opening .ensures) at (c .before .before .before .before .before .before .before .before .before .before .before .before .before .«open» .ensures) in
+    kept-promise script out _ _ asked there
+    (replays _ _ script out front _ (length front - 17) opened room (c .before .before .before .before .before .before .before .before .before .before .before .put .ensures) (omega arith) (c .before .before .all .ensures))
 
 pub replay-spec : {M : Type 1} → statement M
 replay-spec =
     tie.close
     (tie.spec
+    has-room-requires
+    returns
     opening-requires
     open-requires
-    returns
     put-requires
     sub-all
     part-all-start
