@@ -1,1 +1,2 @@
--- No laws of its own.
+-- What a view's counts show.
+pub mod Counted

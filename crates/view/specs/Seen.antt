@@ -1,20 +1,39 @@
--- What a view of an opened record answers: what reading the record answers.
-use Prim.Native.Nat.{ℕ}
+-- What a view answers: what reading its record answers, refusals with it.
+use Prim.Native.Nat.{ℕ, _+_, _*_, _≤_}
 use mathlib.Core.Path.{_≡_}
 use mathlib.Core.List.{List}
+use lib.ListN.{length}
 use Rattle.rules.specs.declared.HeaderAnswer.{HeaderAnswer}
 use Rattle.rules.specs.declared.UnitAnswer.{UnitAnswer}
 use Rattle.rules.specs.declared.SceneAnswer.{SceneAnswer}
-use Rattle.rules.specs.Reading.{headerAnswer, unitAnswer, sceneAnswer}
-use Rattle.record.specs.declared.reading.Opened.the-variants.{Accepted}
-use Rattle.record.specs.Opened.{openedAs}
+use Rattle.rules.specs.Bytes.{word32}
+use Rattle.rules.specs.Refusals.{Fault, none, fault}
+use Rattle.rules.specs.Reading.{readingFault, headerAnswer, unitAnswer, sceneAnswer}
 
--- of a record r that was opened with so many units and scenes
+-- a count, or 0 where the record is refused
+abbrev pub unlessRefused : Fault → ℕ → ℕ
+unlessRefused none n = n
+unlessRefused (fault k p) n = 0
+
+-- the counts that a view of the record r holds
+unfoldable pub unitsOf : List ℕ → ℕ
+unitsOf r = unlessRefused (readingFault r) (word32 r 8)
+
+unfoldable pub scenesOf : List ℕ → ℕ
+scenesOf r = unlessRefused (readingFault r) (word32 r 16)
+
+-- r says so many units, at least one, and is long enough for the rows of so many units and scenes
+pub record Fit (r : List ℕ) (units scenes : ℕ) : Type 0 where
+  pub some : 1 ≤ units
+  pub said : units ≡ word32 r 8
+  pub long : 64 + 32 * (units + scenes) ≤ length r
+
+-- what is answered of r by its counts; by others the answer is free
 abbrev pub HeaderSeen : List ℕ → ℕ → ℕ → HeaderAnswer → Type 0
-HeaderSeen r units scenes a = openedAs r ≡ Accepted units scenes → a ≡ headerAnswer r
+HeaderSeen r units scenes a = units ≡ unitsOf r → scenes ≡ scenesOf r → a ≡ headerAnswer r
 
 abbrev pub UnitSeen : List ℕ → ℕ → ℕ → ℕ → UnitAnswer → Type 0
-UnitSeen r units scenes j a = openedAs r ≡ Accepted units scenes → a ≡ unitAnswer r j
+UnitSeen r units scenes j a = units ≡ unitsOf r → scenes ≡ scenesOf r → a ≡ unitAnswer r j
 
 abbrev pub SceneSeen : List ℕ → ℕ → ℕ → ℕ → SceneAnswer → Type 0
-SceneSeen r units scenes j a = openedAs r ≡ Accepted units scenes → a ≡ sceneAnswer r j
+SceneSeen r units scenes j a = units ≡ unitsOf r → scenes ≡ scenesOf r → a ≡ sceneAnswer r j

@@ -1,6 +1,9 @@
-// A view of one opened record: its bytes with its counts. Its functions are thin: each hands the slice and the numbers to a function over those.
+// A view of one record: its bytes with its counts, made by opening it. Its functions are thin: each hands the slice and the numbers to a function over those.
 ghost use mathlib.Core.Path.{_≡_};
-ghost use Rattle.view.specs.Seen.{HeaderSeen, UnitSeen, SceneSeen};
+ghost use mathlib.Core.Bool.{true};
+ghost use Rattle.rules.specs.Reading.{headerAnswer, unitAnswer, sceneAnswer};
+ghost use Rattle.view.specs.Seen.{unitsOf, scenesOf, Fit, HeaderSeen, UnitSeen, SceneSeen};
+use record::Opened;
 use rules::HeaderAnswer;
 use rules::SceneAnswer;
 use rules::UnitAnswer;
@@ -11,89 +14,100 @@ pub struct View<'a> {
     pub scenes: usize,
 }
 
-// The header's figures. Counts that are not the record's get free answers.
+// A record's counts of units and scenes: 0 and 0 where it is refused.
+pub struct Counts {
+    pub units: usize,
+    pub scenes: usize,
+}
+
+pub fn counts_in(bytes: &[u8]) -> Counts
+    ensures { λ r. ⌜ (r .units ≡ unitsOf (now (bytes .entry))) × (r .scenes ≡ scenesOf (now (bytes .entry))) ⌝ }
+{
+    match record::open(bytes) {
+        Opened::Accepted { units, scenes } => Counts {
+            units: units,
+            scenes: scenes,
+        },
+        Opened::Refused {
+            number: _,
+            place: _,
+        } => Counts {
+            units: 0,
+            scenes: 0,
+        },
+    }
+}
+
+// Whether the rows of so many units and scenes stand in the bytes. An accepted record passes with its own counts, a refused one with none of its own.
+fn fit(bytes: &[u8], units: usize, scenes: usize) -> bool
+    ensures { λ r. ⌜ (r ≡ true → Fit (now (bytes .entry)) units scenes) ⌝ }
+{
+    if units < 1 {
+        return false;
+    }
+    if 750 < units {
+        return false;
+    }
+    if 250 < scenes {
+        return false;
+    }
+    if bytes.len() < 64 + 32 * (units + scenes) {
+        return false;
+    }
+    words::word32(bytes, 8) as usize == units
+}
+
+// The header's figures. Where the rows do not fit, as in a refused record, the whole record is read.
 pub fn header_at(bytes: &[u8], units: usize, scenes: usize) -> HeaderAnswer
     ensures { λ r. ⌜ HeaderSeen (now (bytes .entry)) units scenes r ⌝ }
 {
-    if bytes.len() < 64 {
-        return HeaderAnswer::Refused {
-            number: 16,
-            place: 0,
-        };
+    if !fit(bytes, units, scenes) {
+        return record::header(bytes);
     }
     HeaderAnswer::Given(record::header_figures(bytes))
 }
 
-// Unit row j, or 19.
+// Unit row j, or the refusal.
 pub fn unit_at(bytes: &[u8], units: usize, scenes: usize, j: usize) -> UnitAnswer
     ensures { λ r. ⌜ UnitSeen (now (bytes .entry)) units scenes j r ⌝ }
 {
+    if !fit(bytes, units, scenes) {
+        return record::unit(bytes, j);
+    }
     if units <= j {
         return UnitAnswer::Refused {
             number: 19,
             place: 0,
         };
     }
-    if 750 <= j {
-        return UnitAnswer::Refused {
-            number: 18,
-            place: 0,
-        };
-    }
-    if bytes.len() < 96 + 32 * j {
-        return UnitAnswer::Refused {
-            number: 18,
-            place: 0,
-        };
-    }
     UnitAnswer::Given(record::unit_row(bytes, j))
 }
 
-// Scene row j, or 19.
+// Scene row j, or the refusal.
 pub fn scene_at(bytes: &[u8], units: usize, scenes: usize, j: usize) -> SceneAnswer
     ensures { λ r. ⌜ SceneSeen (now (bytes .entry)) units scenes j r ⌝ }
 {
+    if !fit(bytes, units, scenes) {
+        return record::scene(bytes, j);
+    }
     if scenes <= j {
         return SceneAnswer::Refused {
             number: 19,
             place: 0,
         };
     }
-    if bytes.len() < 64 {
-        return SceneAnswer::Refused {
-            number: 18,
-            place: 0,
-        };
-    }
-    if words::word32(bytes, 8) as usize != units {
-        return SceneAnswer::Refused {
-            number: 18,
-            place: 0,
-        };
-    }
-    if 250 <= j {
-        return SceneAnswer::Refused {
-            number: 18,
-            place: 0,
-        };
-    }
-    if bytes.len() < 96 + 32 * units + 32 * j {
-        return SceneAnswer::Refused {
-            number: 18,
-            place: 0,
-        };
-    }
     SceneAnswer::Given(record::scene_row(bytes, units, j))
 }
 
-// A view of a record that was opened with these counts.
-pub fn view_of<'a>(bytes: &'a [u8], units: usize, scenes: usize) -> View<'a>
-    ensures { λ r. ⌜ (r .bytes ≡ bytes .entry) × (r .units ≡ units) × (r .scenes ≡ scenes) ⌝ }
+// The view of a record, accepted or refused.
+pub fn open<'a>(bytes: &'a [u8]) -> View<'a>
+    ensures { λ r. ⌜ (r .bytes ≡ bytes .entry) × (r .units ≡ unitsOf (now (bytes .entry))) × (r .scenes ≡ scenesOf (now (bytes .entry))) ⌝ }
 {
+    let counts = counts_in(bytes);
     View {
         bytes,
-        units,
-        scenes,
+        units: counts.units,
+        scenes: counts.scenes,
     }
 }
 
