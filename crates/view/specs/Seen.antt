@@ -3,12 +3,14 @@ use Prim.Native.Nat.{ℕ, _+_, _*_, _≤_}
 use mathlib.Core.Path.{_≡_}
 use mathlib.Core.List.{List}
 use lib.ListN.{length}
+use denote.Ref.{RefT, now}
 use Rattle.rules.specs.declared.HeaderAnswer.{HeaderAnswer}
 use Rattle.rules.specs.declared.UnitAnswer.{UnitAnswer}
 use Rattle.rules.specs.declared.SceneAnswer.{SceneAnswer}
 use Rattle.rules.specs.Bytes.{word32}
 use Rattle.rules.specs.Refusals.{Fault, none, fault}
 use Rattle.rules.specs.Reading.{readingFault, headerAnswer, unitAnswer, sceneAnswer}
+use Rattle.view.specs.declared.View.{View}
 
 -- a count, or 0 where the record is refused
 abbrev pub unlessRefused : Fault → ℕ → ℕ
@@ -37,3 +39,15 @@ UnitSeen r units scenes j a = units ≡ unitsOf r → scenes ≡ scenesOf r → 
 
 abbrev pub SceneSeen : List ℕ → ℕ → ℕ → ℕ → SceneAnswer → Type 0
 SceneSeen r units scenes j a = units ≡ unitsOf r → scenes ≡ scenesOf r → a ≡ sceneAnswer r j
+
+-- v is the view that opening the slice s makes
+abbrev pub ViewOf : RefT (List ℕ) → View → Type 0
+ViewOf s v = (v .bytes ≡ s) × (v .units ≡ unitsOf (now s)) × (v .scenes ≡ scenesOf (now s))
+
+-- every slice's view answers as the rules say of the slice
+abbrev pub Answers : Type 0
+Answers =
+    (s : RefT (List ℕ)) (v : View) → ViewOf s v →
+    ((a : HeaderAnswer) → HeaderSeen (now (v .bytes)) (v .units) (v .scenes) a → a ≡ headerAnswer (now s))
+    × ((j : ℕ) (a : UnitAnswer) → UnitSeen (now (v .bytes)) (v .units) (v .scenes) j a → a ≡ unitAnswer (now s) j)
+    × ((j : ℕ) (a : SceneAnswer) → SceneSeen (now (v .bytes)) (v .units) (v .scenes) j a → a ≡ sceneAnswer (now s) j)

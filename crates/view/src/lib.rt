@@ -2,7 +2,7 @@
 ghost use mathlib.Core.Path.{_≡_};
 ghost use mathlib.Core.Bool.{true};
 ghost use Rattle.rules.specs.Reading.{headerAnswer, unitAnswer, sceneAnswer};
-ghost use Rattle.view.specs.Seen.{unitsOf, scenesOf, Fit, HeaderSeen, UnitSeen, SceneSeen};
+ghost use Rattle.view.specs.Seen.{unitsOf, scenesOf, Fit, HeaderSeen, UnitSeen, SceneSeen, ViewOf};
 use record::Opened;
 use rules::HeaderAnswer;
 use rules::SceneAnswer;
@@ -38,7 +38,7 @@ pub fn counts_in(bytes: &[u8]) -> Counts
     }
 }
 
-// Whether the rows of so many units and scenes stand in the bytes. An accepted record passes with its own counts, a refused one with none of its own.
+// Whether the bytes say so many units and hold the rows of so many units and scenes. An accepted record passes with its own counts; 0 and 0 never pass.
 fn fit(bytes: &[u8], units: usize, scenes: usize) -> bool
     ensures { λ r. ⌜ (r ≡ true → Fit (now (bytes .entry)) units scenes) ⌝ }
 {
@@ -57,7 +57,7 @@ fn fit(bytes: &[u8], units: usize, scenes: usize) -> bool
     words::word32(bytes, 8) as usize == units
 }
 
-// The header's figures. Where the rows do not fit, as in a refused record, the whole record is read.
+// The header's figures, or the refusal. Where the counts do not fit, as a refused record's do not, the whole record is read.
 pub fn header_at(bytes: &[u8], units: usize, scenes: usize) -> HeaderAnswer
     ensures { λ r. ⌜ HeaderSeen (now (bytes .entry)) units scenes r ⌝ }
 {
@@ -101,7 +101,7 @@ pub fn scene_at(bytes: &[u8], units: usize, scenes: usize, j: usize) -> SceneAns
 
 // The view of a record, accepted or refused.
 pub fn open<'a>(bytes: &'a [u8]) -> View<'a>
-    ensures { λ r. ⌜ (r .bytes ≡ bytes .entry) × (r .units ≡ unitsOf (now (bytes .entry))) × (r .scenes ≡ scenesOf (now (bytes .entry))) ⌝ }
+    ensures { λ r. ⌜ ViewOf (bytes .entry) r ⌝ }
 {
     let counts = counts_in(bytes);
     View {
@@ -127,4 +127,23 @@ pub fn scene<'a>(v: View<'a>, j: usize) -> SceneAnswer
     ensures { λ r. ⌜ SceneSeen (now (v .entry .bytes)) (v .entry .units) (v .entry .scenes) j r ⌝ }
 {
     scene_at(v.bytes, v.units, v.scenes, j)
+}
+
+// For every other caller: the record is opened, and its view is asked.
+pub fn read_header(bytes: &[u8]) -> HeaderAnswer
+    ensures { λ r. ⌜ r ≡ headerAnswer (now (bytes .entry)) ⌝ }
+{
+    header(open(bytes))
+}
+
+pub fn read_unit(bytes: &[u8], j: usize) -> UnitAnswer
+    ensures { λ r. ⌜ r ≡ unitAnswer (now (bytes .entry)) j ⌝ }
+{
+    unit(open(bytes), j)
+}
+
+pub fn read_scene(bytes: &[u8], j: usize) -> SceneAnswer
+    ensures { λ r. ⌜ r ≡ sceneAnswer (now (bytes .entry)) j ⌝ }
+{
+    scene(open(bytes), j)
 }
