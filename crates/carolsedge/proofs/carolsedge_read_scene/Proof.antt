@@ -1,0 +1,46 @@
+-- `carolsedge_read_scene` meets its contract, by the two cases of an answer. Assumes nothing.
+use Rattle.carolsedge.proofs.Answers.{scene-done, scene-refused}
+use borrow.Author.Needs.{needs}
+use Rattle.carolsedge.proofs.carolsedge_read_scene.Statement.{statement}
+use Rattle.carolsedge.proofs.carolsedge_read_scene.Tie as tie
+
+element-copy-out-units : tie.Need-element-copy-out-units
+element-copy-out-units c = search needs
+
+element-copy-out-scenes : tie.Need-element-copy-out-scenes
+element-copy-out-scenes c = search needs
+
+scene-at-requires : tie.Need-scene-at-requires
+scene-at-requires c κs = search needs
+
+enum-known-s : tie.Need-enum-known-s
+enum-known-s c = search needs
+
+put-scene-requires : tie.Need-put-scene-requires
+put-scene-requires c κs = search needs
+
+enum-known-number : tie.Need-enum-known-number
+enum-known-number c = search needs
+
+listed-number-requires : tie.Need-listed-number-requires
+listed-number-requires c κs = search needs
+
+returns : tie.Need-returns
+returns c = scene-done _ (c .before .before .before .before .before .before .before .before .before .args .figures .now) (c .before .before .before .before .before .before .before .before .before .args .j) _ _ (c .before .before .before .before .before .scene-at .ensures) _ _ (c .before .before .before .s .given .1) (c .put-scene .ensures)
+
+returns-2 : tie.Need-returns-2
+returns-2 c = scene-refused _ (c .before .before .before .before .before .before .before .before .args .figures .now) (c .before .before .before .before .before .before .before .before .args .j) _ _ (c .before .before .before .before .scene-at .ensures) _ _ _ (c .before .before .number .given .1) (c .listed-number .ensures)
+
+pub carolsedge-read-scene-spec : {M : Type 1} → statement M
+carolsedge-read-scene-spec =
+    tie.close
+    (tie.spec
+    element-copy-out-units
+    element-copy-out-scenes
+    scene-at-requires
+    enum-known-s
+    put-scene-requires
+    enum-known-number
+    listed-number-requires
+    returns
+    returns-2)

@@ -1,0 +1,34 @@
+-- What a reading leaves in the lent array: the figures in document 01's order of the header and of the rows; after a refusal what stood there.
+use Prim.Native.Nat.{ℕ}
+use mathlib.Core.List.{List, [], _∷_}
+use Rattle.rules.specs.declared.Header.{Header}
+use Rattle.rules.specs.declared.UnitRow.{UnitRow}
+use Rattle.rules.specs.declared.SceneRow.{SceneRow}
+use Rattle.rules.specs.declared.HeaderAnswer.{HeaderAnswer}
+use Rattle.rules.specs.declared.UnitAnswer.{UnitAnswer}
+use Rattle.rules.specs.declared.SceneAnswer.{SceneAnswer}
+use Rattle.rules.specs.declared.HeaderAnswer.the-variants as of-header
+use Rattle.rules.specs.declared.UnitAnswer.the-variants as of-unit
+use Rattle.rules.specs.declared.SceneAnswer.the-variants as of-scene
+
+abbrev pub figuresOf : Header → List ℕ
+figuresOf h =
+    h .units ∷ h .scenes ∷ h .width ∷ h .height ∷ h .time ∷ h .pid ∷ h .pictures ∷ h .frames ∷ h .skipped ∷ h .bad ∷ h .index ∷ []
+
+abbrev pub unitFigures : UnitRow → List ℕ
+unitFigures u = u .least ∷ u .greatest ∷ u .size ∷ u .packets ∷ u .lost ∷ []
+
+abbrev pub sceneFigures : SceneRow → List ℕ
+sceneFigures s = s .first ∷ s .pictures ∷ s .repeated ∷ s .longest ∷ s .score ∷ s .peak ∷ s .change ∷ []
+
+abbrev pub headerInto : HeaderAnswer → List ℕ → List ℕ
+headerInto (of-header.Given h) old = figuresOf h
+headerInto (of-header.Refused k p) old = old
+
+abbrev pub unitInto : UnitAnswer → List ℕ → List ℕ
+unitInto (of-unit.Given u) old = unitFigures u
+unitInto (of-unit.Refused k p) old = old
+
+abbrev pub sceneInto : SceneAnswer → List ℕ → List ℕ
+sceneInto (of-scene.Given s) old = sceneFigures s
+sceneInto (of-scene.Refused k p) old = old

@@ -1,0 +1,36 @@
+-- An answer's case as two numbers: document 01's number, 0 where the call is done, and the value, which is what the call answers or the refusal's place.
+use Prim.Native.Nat.{ℕ}
+use Rattle.rules.specs.declared.Answer.{Answer}
+use Rattle.rules.specs.declared.Answer.the-variants.{Done, Refused}
+use Rattle.rules.specs.declared.HeaderAnswer.{HeaderAnswer}
+use Rattle.rules.specs.declared.UnitAnswer.{UnitAnswer}
+use Rattle.rules.specs.declared.SceneAnswer.{SceneAnswer}
+use Rattle.rules.specs.declared.HeaderAnswer.the-variants as of-header
+use Rattle.rules.specs.declared.UnitAnswer.the-variants as of-unit
+use Rattle.rules.specs.declared.SceneAnswer.the-variants as of-scene
+use Rattle.rules.specs.Bytes.{pick, within}
+
+-- a refusal's number. No refusal of the rules has one outside 1 to 19 (proofs/Listed); a state that somebody else wrote on can, and gets 18
+abbrev pub listed : ℕ → ℕ
+listed k = pick (within 1 19 k) k 18
+
+abbrev pub numberOf : Answer → ℕ
+numberOf (Done n) = 0
+numberOf (Refused k p) = listed k
+
+abbrev pub valueOf : Answer → ℕ
+valueOf (Done n) = n
+valueOf (Refused k p) = p
+
+-- of a reading, whose refusals all stand at 0
+abbrev pub headerNumber : HeaderAnswer → ℕ
+headerNumber (of-header.Given h) = 0
+headerNumber (of-header.Refused k p) = listed k
+
+abbrev pub unitNumber : UnitAnswer → ℕ
+unitNumber (of-unit.Given u) = 0
+unitNumber (of-unit.Refused k p) = listed k
+
+abbrev pub sceneNumber : SceneAnswer → ℕ
+sceneNumber (of-scene.Given s) = 0
+sceneNumber (of-scene.Refused k p) = listed k

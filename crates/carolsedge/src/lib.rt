@@ -1,0 +1,220 @@
+// The calls as C functions. A slice goes as a pointer and a length, an array as a pointer. Each function is thin: it hands its memory to the call of `sample`,
+// `record` or `view` and splits the answer into numbers. A number is 0 where the call is done, and otherwise that of document 01's table.
+ghost use mathlib.Core.Path.{_≡_};
+ghost use Rattle.carolsedge.specs.Numbers.{listed, numberOf, valueOf};
+ghost use Rattle.carolsedge.specs.Figures.{figuresOf, unitFigures, sceneFigures};
+ghost use Rattle.carolsedge.specs.Contract.{Opened, FedCapture, FedLuma, Sealed, HeaderRead, UnitRead, SceneRead};
+use rules::Answer;
+use rules::Header;
+use rules::HeaderAnswer;
+use rules::Opening;
+use rules::SceneAnswer;
+use rules::SceneRow;
+use rules::UnitAnswer;
+use rules::UnitRow;
+
+// A refusal's number. Only a state that somebody else wrote on can hold one that is not in the table.
+fn listed_number(number: u64) -> u32
+    ensures { λ r. ⌜ r ≡ listed number ⌝ }
+{
+    if number < 1 {
+        return 18;
+    }
+    if 19 < number {
+        return 18;
+    }
+    number as u32
+}
+
+fn number_of(a: Answer) -> u32
+    ensures { λ r. ⌜ r ≡ numberOf a ⌝ }
+{
+    match a {
+        Answer::Done(_) => 0,
+        Answer::Refused { number, place: _ } => listed_number(number),
+    }
+}
+
+fn value_of(a: Answer) -> u64
+    ensures { λ r. ⌜ r ≡ valueOf a ⌝ }
+{
+    match a {
+        Answer::Done(n) => n,
+        Answer::Refused { number: _, place } => place,
+    }
+}
+
+// ---- a sample
+
+// Opens a sample. The place of 1, 2 and 3 is 0.
+#[no_mangle]
+pub extern "C" fn carolsedge_open(
+    capture: &mut [u64; 3840],
+    luma: &mut [u64; 1600],
+    sums: &mut [u32; 240],
+    bins: &mut [u32; 720],
+    picture: &mut [u8; 14104],
+    width: u32,
+    height: u32,
+    time: u32,
+    pid: u32,
+) -> u32
+    ensures { λ r. ⌜ Opened (record { width = width; height = height; time = time; pid = pid }) r (record { capture = now (capture .exit); luma = now (luma .exit); sums = now (sums .exit); bins = now (bins .exit); picture = now (picture .exit) }) ⌝ }
+{
+    let o = Opening {
+        width: width,
+        height: height,
+        time: time,
+        pid: pid,
+    };
+    let a = sample::open(capture, luma, sums, bins, picture, o);
+    number_of(a)
+}
+
+// Feeds a piece of the capture. The value is the piece's length, or the refusal's place.
+#[no_mangle]
+pub extern "C" fn carolsedge_feed_capture(
+    capture: &mut [u64; 3840],
+    piece: &[u8],
+    value: &mut u64,
+) -> u32
+    ensures { λ r. ⌜ FedCapture (now (capture .entry)) (now (piece .entry)) r (now (value .exit)) (now (capture .exit)) ⌝ }
+{
+    let a = sample::feed_capture(capture, piece);
+    *value = value_of(a);
+    number_of(a)
+}
+
+// Feeds a piece of the luma. The value is the piece's length, or the refusal's place.
+#[no_mangle]
+pub extern "C" fn carolsedge_feed_luma(
+    luma: &mut [u64; 1600],
+    sums: &mut [u32; 240],
+    bins: &mut [u32; 720],
+    picture: &mut [u8; 14104],
+    piece: &[u8],
+    value: &mut u64,
+) -> u32
+    ensures { λ r. ⌜ FedLuma (now (luma .entry)) (now (sums .entry)) (now (bins .entry)) (now (picture .entry)) (now (piece .entry)) r (now (value .exit)) (now (luma .exit)) (now (sums .exit)) (now (bins .exit)) (now (picture .exit)) ⌝ }
+{
+    let a = sample::feed_luma(luma, sums, bins, picture, piece);
+    *value = value_of(a);
+    number_of(a)
+}
+
+// Seals what was fed into the buffer. The value is the record's length, or the refusal's place; of 15 that is the length needed.
+#[no_mangle]
+pub extern "C" fn carolsedge_seal(
+    capture: &[u64; 3840],
+    luma: &[u64; 1600],
+    buffer: &mut [u8],
+    value: &mut u64,
+) -> u32
+    ensures { λ r. ⌜ Sealed (now (capture .entry)) (now (luma .entry)) (now (buffer .entry)) r (now (value .exit)) (now (buffer .exit)) ⌝ }
+{
+    let a = sample::seal(capture, luma, buffer);
+    *value = value_of(a);
+    number_of(a)
+}
+
+// ---- a record
+
+fn put_header(figures: &mut [u64; 11], h: Header)
+    ensures { λ _. ⌜ now (figures .exit) ≡ figuresOf h ⌝ }
+{
+    *figures = [
+        h.units as u64,
+        h.scenes as u64,
+        h.width as u64,
+        h.height as u64,
+        h.time as u64,
+        h.pid as u64,
+        h.pictures as u64,
+        h.frames as u64,
+        h.skipped as u64,
+        h.bad as u64,
+        h.index,
+    ];
+}
+
+fn put_unit(row: &mut [u64; 5], u: UnitRow)
+    ensures { λ _. ⌜ now (row .exit) ≡ unitFigures u ⌝ }
+{
+    *row = [
+        u.least,
+        u.greatest,
+        u.size as u64,
+        u.packets as u64,
+        u.lost as u64,
+    ];
+}
+
+fn put_scene(row: &mut [u64; 7], s: SceneRow)
+    ensures { λ _. ⌜ now (row .exit) ≡ sceneFigures s ⌝ }
+{
+    *row = [
+        s.first as u64,
+        s.pictures as u64,
+        s.repeated as u64,
+        s.longest as u64,
+        s.score as u64,
+        s.peak as u64,
+        s.change as u64,
+    ];
+}
+
+// Tests the whole record, and gives its header's figures. The place of 16 to 19 is 0; on a refusal the lent array stands as it was.
+#[no_mangle]
+pub extern "C" fn carolsedge_read_header(bytes: &[u8], figures: &mut [u64; 11]) -> u32
+    ensures { λ r. ⌜ HeaderRead (now (bytes .entry)) (now (figures .entry)) r (now (figures .exit)) ⌝ }
+{
+    match record::header(bytes) {
+        HeaderAnswer::Given(h) => {
+            put_header(figures, h);
+            0
+        }
+        HeaderAnswer::Refused { number, place: _ } => listed_number(number),
+    }
+}
+
+// Unit row j of a record with these header figures. The record is not tested again: figures that are not its own get free answers.
+#[no_mangle]
+pub extern "C" fn carolsedge_read_unit(
+    bytes: &[u8],
+    figures: &[u64; 11],
+    j: usize,
+    row: &mut [u64; 5],
+) -> u32
+    ensures { λ r. ⌜ UnitRead (now (bytes .entry)) (now (figures .entry)) j (now (row .entry)) r (now (row .exit)) ⌝ }
+{
+    let units = figures[0] as usize;
+    let scenes = figures[1] as usize;
+    match view::unit_at(bytes, units, scenes, j) {
+        UnitAnswer::Given(u) => {
+            put_unit(row, u);
+            0
+        }
+        UnitAnswer::Refused { number, place: _ } => listed_number(number),
+    }
+}
+
+// Scene row j, likewise.
+#[no_mangle]
+pub extern "C" fn carolsedge_read_scene(
+    bytes: &[u8],
+    figures: &[u64; 11],
+    j: usize,
+    row: &mut [u64; 7],
+) -> u32
+    ensures { λ r. ⌜ SceneRead (now (bytes .entry)) (now (figures .entry)) j (now (row .entry)) r (now (row .exit)) ⌝ }
+{
+    let units = figures[0] as usize;
+    let scenes = figures[1] as usize;
+    match view::scene_at(bytes, units, scenes, j) {
+        SceneAnswer::Given(s) => {
+            put_scene(row, s);
+            0
+        }
+        SceneAnswer::Refused { number, place: _ } => listed_number(number),
+    }
+}
