@@ -1,0 +1,52 @@
+//! Measures a streamed seat: a packet capture and up to 750 luma pictures go in, and one small record comes out, 64 bytes and a row of 32 for each unit and
+//! each scene. The work is done by a library in which every call is proved to answer what the written rule (`docs/RULE.md`) says, however the bytes are cut
+//! into pieces; this crate is the thin way to it.
+//!
+//! ```
+//! use carolsedge::{Opening, Record, Sample, RECORD_MOST};
+//!
+//! # fn main() -> Result<(), carolsedge::Refusal> {
+//! # // A capture of one frame, at 10 s 5 µs, with one packet of PID 256.
+//! # let mut capture = vec![0xD4, 0xC3, 0xB2, 0xA1, 2, 0, 4, 0, 0, 0, 0, 0, 0, 0, 0, 0, 0xFF, 0xFF, 0, 0, 1, 0, 0, 0];
+//! # capture.extend([10, 0, 0, 0, 5, 0, 0, 0, 230, 0, 0, 0, 230, 0, 0, 0]);
+//! # let mut frame = [0u8; 230];
+//! # frame[12..15].copy_from_slice(&[8, 0, 0x45]);
+//! # frame[16..18].copy_from_slice(&216u16.to_be_bytes());
+//! # frame[23] = 17;
+//! # frame[38..40].copy_from_slice(&196u16.to_be_bytes());
+//! # frame[42..46].copy_from_slice(&[0x47, 0x41, 0, 0x10]);
+//! # capture.extend(frame);
+//! # let luma = [0u8; 2 * 30 * 30];
+//! let mut sample = Sample::open(Opening { width: 30, height: 30, time: 40_000, pid: 256 })?;
+//! for piece in capture.chunks(100) {
+//!     sample.feed_capture(piece)?;
+//! }
+//! sample.feed_luma(&luma)?;
+//! let mut buffer = [0; RECORD_MOST];
+//! let length = sample.seal(&mut buffer)?;
+//!
+//! let record = Record::read(&buffer[..length])?;
+//! assert_eq!(record.header().index, 3.0);
+//! for unit in record.units() {
+//!     println!("{} packets, {} lost, from {} on", unit.packets, unit.lost, unit.least);
+//! }
+//! assert_eq!(record.scenes().len(), 1);
+//! # Ok(())
+//! # }
+//! ```
+//!
+//! The archive `libcarolsedge.a` is for x86-64 Linux. The build looks for it in the folder that the environment variable `CAROLSEDGE_LIB_DIR` names, and
+//! otherwise in `target/staticlib` at the top of the repository, where `rt staticlib carolsedge` writes it.
+#![deny(missing_docs)]
+
+mod raw;
+mod record;
+mod refusal;
+mod sample;
+
+pub use record::{Header, Record, Scene, Unit};
+pub use refusal::Refusal;
+pub use sample::{Opening, Sample};
+
+/// No record is longer: 64 bytes, and 32 for each of 750 units and 250 scenes.
+pub const RECORD_MOST: usize = 32_064;

@@ -1,0 +1,56 @@
+use std::error::Error;
+use std::fmt;
+
+/// A call that was refused: document 01's number, 1 to 19, and the place.
+///
+/// The place counts bytes from 0. Of 4 to 10 it is where the refusal shows, of 11 and 13 how many bytes that side was fed, of 15 how long a buffer the
+/// record needs, and of all others 0.
+#[derive(Debug, Clone, Copy, PartialEq, Eq, Hash)]
+pub struct Refusal {
+    /// 1 to 3: opening; 4 to 9: the capture; 10: the luma; 11 to 15: sealing; 16 to 19: reading.
+    pub number: u32,
+    /// Where, or 0 where no place is named.
+    pub place: u64,
+}
+
+impl Refusal {
+    /// What the number says, in words.
+    pub fn meaning(&self) -> &'static str {
+        match self.number {
+            1 => "height outside 30 to 1088, width outside 15 to 1920, height above twice the width, or width above four times the height",
+            2 => "display time outside 10,000 to 200,000 microseconds",
+            3 => "packet identifier above 8191",
+            4 => "the capture is longer than 268,435,456 bytes",
+            5 => "the capture's first four bytes are not D4 C3 B2 A1: no little-endian libpcap file with microseconds",
+            6 => "the capture's link type is not 1, Ethernet",
+            7 => "a frame's microseconds are above 999,999",
+            8 => "a frame's stored length is above 65,535",
+            9 => "a 751st unit begins",
+            10 => "the luma is longer than 750 pictures",
+            11 => "the capture ends inside its header or a frame",
+            12 => "the capture has no packet with the identifier",
+            13 => "the luma ends inside a picture",
+            14 => "there is no picture",
+            15 => "the buffer is shorter than the record",
+            16 => "the record has fewer than 64 bytes",
+            17 => "the record's edition is not 1",
+            18 => "the record is not allowed",
+            19 => "the record has no row with that number",
+            _ => "a number that is not in the table",
+        }
+    }
+}
+
+impl fmt::Display for Refusal {
+    fn fmt(&self, f: &mut fmt::Formatter<'_>) -> fmt::Result {
+        write!(f, "refused {}: {}", self.number, self.meaning())?;
+        match self.number {
+            4..=10 => write!(f, " (at byte {})", self.place),
+            11 | 13 => write!(f, " ({} bytes fed)", self.place),
+            15 => write!(f, " ({} bytes needed)", self.place),
+            _ => Ok(()),
+        }
+    }
+}
+
+impl Error for Refusal {}

@@ -1,0 +1,70 @@
+use crate::raw::State;
+use crate::Refusal;
+use std::fmt;
+
+/// What a sample is opened with.
+#[derive(Debug, Clone, Copy, PartialEq, Eq, Hash)]
+pub struct Opening {
+    /// Width W of a picture, in bytes: 15 to 1920.
+    pub width: u32,
+    /// Height H of a picture, in rows: 30 to 1088, at most 2 W, at least W / 4.
+    pub height: u32,
+    /// Display time d of a picture, in microseconds: 10,000 to 200,000.
+    pub time: u32,
+    /// The identifier of the packets that are measured: at most 8191.
+    pub pid: u32,
+}
+
+/// A sample: opened, fed on two sides in pieces of any length and in any order, sealed as often as wanted.
+///
+/// Its state is 61,464 bytes on the heap; no call allocates. A clone goes on by itself.
+#[derive(Clone)]
+pub struct Sample {
+    state: Box<State>,
+}
+
+impl Sample {
+    /// Opens a sample, or gives refusal 1, 2 or 3.
+    ///
+    /// In the C interface a refused opening leaves a state of which every feed and seal repeats the number. Here it leaves no sample, so there is nothing
+    /// to feed.
+    pub fn open(opening: Opening) -> Result<Sample, Refusal> {
+        let mut state = State::new();
+        match state.open(opening.width, opening.height, opening.time, opening.pid) {
+            0 => Ok(Sample { state }),
+            number => Err(Refusal { number, place: 0 }),
+        }
+    }
+
+    /// Feeds a piece of the capture, and gives the piece's length, or refusal 4 to 9, which later feeds of this side and seals repeat.
+    ///
+    /// Bytes before the refusal's place are taken in, and later ones are ignored. The luma side goes on.
+    pub fn feed_capture(&mut self, piece: &[u8]) -> Result<usize, Refusal> {
+        answer(self.state.feed_capture(piece))
+    }
+
+    /// Feeds a piece of the luma, and gives the piece's length, or refusal 10, which later feeds of this side and seals repeat.
+    pub fn feed_luma(&mut self, piece: &[u8]) -> Result<usize, Refusal> {
+        answer(self.state.feed_luma(piece))
+    }
+
+    /// Seals what was fed: writes the record to the front of the buffer and gives its length, or gives the refusal (4 to 15) and leaves the buffer as it was.
+    ///
+    /// The sample does not change, so feeding may go on. No record is longer than [`RECORD_MOST`](crate::RECORD_MOST) bytes.
+    pub fn seal(&self, buffer: &mut [u8]) -> Result<usize, Refusal> {
+        answer(self.state.seal(buffer))
+    }
+}
+
+fn answer((number, value): (u32, u64)) -> Result<usize, Refusal> {
+    match number {
+        0 => Ok(value as usize),
+        number => Err(Refusal { number, place: value }),
+    }
+}
+
+impl fmt::Debug for Sample {
+    fn fmt(&self, f: &mut fmt::Formatter<'_>) -> fmt::Result {
+        f.debug_struct("Sample").finish_non_exhaustive()
+    }
+}

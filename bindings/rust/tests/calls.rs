@@ -1,0 +1,206 @@
+//! The calls from Rust: document 01's worked sample, cuts, every refusal with its place, and that a refusal leaves lent memory as it was.
+use carolsedge::{Opening, Record, Refusal, Sample, Scene, Unit, RECORD_MOST};
+
+const BLACK: Opening = Opening { width: 30, height: 30, time: 40_000, pid: 256 };
+const PICTURE: usize = 900;
+
+fn file_header() -> Vec<u8> {
+    let mut header = vec![0; 24];
+    header[..4].copy_from_slice(&[0xD4, 0xC3, 0xB2, 0xA1]);
+    header[20] = 1;
+    header
+}
+
+// A frame with these packets, or with a body of any other kind.
+fn frame(seconds: u32, microseconds: u32, body: &[u8]) -> Vec<u8> {
+    let length = body.len() as u32;
+    [seconds, microseconds, length, length].iter().flat_map(|word| word.to_le_bytes()).chain(body.iter().copied()).collect()
+}
+
+fn carrying(packets: &[[u8; 188]]) -> Vec<u8> {
+    let udp = 8 + 188 * packets.len() as u16;
+    let mut body = vec![0; 42];
+    body[12..15].copy_from_slice(&[8, 0, 0x45]);
+    body[16..18].copy_from_slice(&(udp + 20).to_be_bytes());
+    body[23] = 17;
+    body[38..40].copy_from_slice(&udp.to_be_bytes());
+    body.extend(packets.concat());
+    body
+}
+
+fn packet(pid: u16, start: bool, counter: u8) -> [u8; 188] {
+    let mut packet = [0; 188];
+    packet[..4].copy_from_slice(&[0x47, (pid >> 8) as u8 | if start { 0x40 } else { 0 }, pid as u8, 0x10 | counter]);
+    packet
+}
+
+fn worked_capture() -> Vec<u8> {
+    [file_header(), frame(10, 5, &carrying(&[packet(256, true, 0)]))].concat()
+}
+
+fn refusal(number: u32, place: u64) -> Refusal {
+    Refusal { number, place }
+}
+
+fn sealed(sample: &Sample) -> Result<Vec<u8>, Refusal> {
+    let mut buffer = vec![0xAA; RECORD_MOST];
+    let answer = sample.seal(&mut buffer);
+    let behind = answer.unwrap_or(0);
+    assert!(buffer[behind..].iter().all(|&b| b == 0xAA), "bytes behind the record, or of a refused seal, were written");
+    buffer.truncate(answer?);
+    Ok(buffer)
+}
+
+// The worked sample, with the capture and the luma given.
+fn fed(capture: &[u8], luma: &[u8]) -> Sample {
+    let mut sample = Sample::open(BLACK).unwrap();
+    let _ = sample.feed_capture(capture);
+    let _ = sample.feed_luma(luma);
+    sample
+}
+
+#[test]
+fn worked_sample() {
+    let bytes = sealed(&fed(&worked_capture(), &[0; 2 * PICTURE])).unwrap();
+    assert_eq!(bytes.len(), 128);
+    let record = Record::read(&bytes).unwrap();
+    let h = record.header();
+    assert_eq!((h.units, h.scenes, h.width, h.height, h.time, h.pid), (1, 1, 30, 30, 40_000, 256));
+    assert_eq!((h.pictures, h.frames, h.skipped, h.bad, h.index.to_bits()), (2, 1, 0, 0, 0x4008_0000_0000_0000));
+    let unit = Unit { least: 10_000_005, greatest: 10_000_005, size: 184, packets: 1, lost: 0 };
+    let scene = Scene { first: 0, pictures: 2, repeated: 1, longest: 1, score: 0, peak: 0, change: 0 };
+    assert_eq!(record.units().collect::<Vec<_>>(), [unit]);
+    assert_eq!(record.scenes().collect::<Vec<_>>(), [scene]);
+    assert_eq!((record.unit(0), record.scene(0)), (Ok(unit), Ok(scene)));
+    assert_eq!((record.units().len(), record.scenes().len()), (1, 1));
+}
+
+#[test]
+fn cuts_do_not_matter() {
+    let capture = [worked_capture(), frame(11, 0, &carrying(&[packet(256, false, 3), packet(256, true, 4)])), frame(12, 0, b"another")].concat();
+    let luma: Vec<u8> = (0..7 * PICTURE).map(|i| (i / PICTURE * 37 + i % 23) as u8).collect();
+    let whole = sealed(&fed(&capture, &luma)).unwrap();
+    let mut sample = Sample::open(BLACK).unwrap();
+    let (mut captures, mut lumas) = (capture.chunks(7), luma.chunks(13));
+    loop {
+        let (piece, rows) = (captures.next(), lumas.next());
+        if piece.is_none() && rows.is_none() {
+            break;
+        }
+        let (piece, rows) = (piece.unwrap_or(&[]), rows.unwrap_or(&[]));
+        assert_eq!(sample.feed_capture(piece), Ok(piece.len()));
+        assert_eq!(sample.feed_luma(rows), Ok(rows.len()));
+        let _ = sealed(&sample);
+    }
+    assert_eq!(sealed(&sample).unwrap(), whole);
+    assert_eq!(Record::read(&whole).unwrap().units().map(|u| (u.packets, u.lost)).collect::<Vec<_>>(), [(2, 2), (1, 0)]);
+}
+
+#[test]
+fn openings() {
+    let opened = |width, height, time, pid| Sample::open(Opening { width, height, time, pid }).map(|_| ());
+    assert_eq!(opened(1920, 1080, 40_000, 8191), Ok(()));
+    assert_eq!(opened(640, 29, 40_000, 256), Err(refusal(1, 0)));
+    assert_eq!(opened(u32::MAX, u32::MAX, 0, u32::MAX), Err(refusal(1, 0)));
+    assert_eq!(opened(640, 480, 9_999, 256), Err(refusal(2, 0)));
+    assert_eq!(opened(640, 480, 40_000, 8192), Err(refusal(3, 0)));
+}
+
+#[test]
+fn refused_captures() {
+    let header = file_header();
+    let is_refused = |capture: &[u8], expected: Refusal| {
+        let mut sample = Sample::open(BLACK).unwrap();
+        assert_eq!(sample.feed_capture(capture), Err(expected));
+        assert_eq!(sample.feed_capture(&[]), Err(expected), "a later feed repeats it");
+        assert_eq!(sample.feed_luma(&[0; 2 * PICTURE]), Ok(2 * PICTURE), "the other side goes on");
+        assert_eq!(sealed(&sample), Err(expected));
+    };
+    is_refused(&[0xA1, 0xB2, 0xC3, 0xD4], refusal(5, 3));
+    is_refused(&[&header[..20], &[101, 0, 0, 0]].concat(), refusal(6, 23));
+    is_refused(&[header.clone(), frame(0, 1_000_000, &[])].concat(), refusal(7, 31));
+    is_refused(&[header.clone(), frame(0, 0, &[0; 65_536])].concat(), refusal(8, 35));
+    let starts: Vec<u8> = (0..751u32).flat_map(|i| frame(i, 0, &carrying(&[packet(256, true, i as u8 % 16)]))).collect();
+    is_refused(&[header, starts].concat(), refusal(9, 24 + 750 * 246 + 16 + 42 + 3));
+}
+
+#[test]
+fn capture_past_its_length() {
+    let mut sample = Sample::open(BLACK).unwrap();
+    sample.feed_capture(&file_header()).unwrap();
+    let other = frame(0, 0, &[0; 65_519]);
+    let mut left = 268_435_456 - 24;
+    while left > 0 {
+        let n = other.len().min(left);
+        assert_eq!(sample.feed_capture(&other[..n]), Ok(n));
+        left -= n;
+    }
+    assert_eq!(sample.feed_capture(&[0]), Err(refusal(4, 268_435_456)));
+}
+
+#[test]
+fn refused_luma() {
+    let mut sample = fed(&worked_capture(), &[7; 750 * PICTURE]);
+    assert_eq!(sample.feed_luma(&[7]), Err(refusal(10, 675_000)));
+    assert_eq!(sample.feed_capture(&frame(11, 0, b"")), Ok(16), "the other side goes on");
+    assert_eq!(sealed(&sample), Err(refusal(10, 675_000)));
+}
+
+#[test]
+fn refused_seals() {
+    let black = [0; 2 * PICTURE];
+    assert_eq!(sealed(&fed(&[], &black)), Err(refusal(11, 0)));
+    assert_eq!(sealed(&fed(&worked_capture()[..100], &black)), Err(refusal(11, 100)));
+    assert_eq!(sealed(&fed(&file_header(), &black)), Err(refusal(12, 0)));
+    assert_eq!(sealed(&fed(&worked_capture(), &[0])), Err(refusal(13, 1)));
+    assert_eq!(sealed(&fed(&worked_capture(), &[])), Err(refusal(14, 0)));
+    let mut short = [0xAA; 127];
+    assert_eq!(fed(&worked_capture(), &black).seal(&mut short), Err(refusal(15, 128)));
+    assert_eq!(short, [0xAA; 127]);
+    assert_eq!(fed(&worked_capture(), &black).seal(&mut []), Err(refusal(15, 128)));
+}
+
+#[test]
+fn refused_readings() {
+    let read = |bytes: &[u8]| Record::read(bytes).map(|_| ());
+    let bytes = sealed(&fed(&worked_capture(), &[0; 2 * PICTURE])).unwrap();
+    let altered = |at: usize| {
+        let mut other = bytes.clone();
+        other[at] ^= 1;
+        other
+    };
+    assert_eq!(read(&bytes), Ok(()));
+    assert_eq!(read(&[]), Err(refusal(16, 0)));
+    assert_eq!(read(&bytes[..63]), Err(refusal(16, 0)));
+    assert_eq!(read(&altered(0)), Err(refusal(17, 0)));
+    assert_eq!(read(&altered(64 + 28)), Err(refusal(18, 0)));
+    assert_eq!(read(&bytes[..127]), Err(refusal(18, 0)));
+    let record = Record::read(&bytes).unwrap();
+    for j in [1, 2, 750, usize::MAX] {
+        assert_eq!(record.unit(j), Err(refusal(19, 0)));
+        assert_eq!(record.scene(j), Err(refusal(19, 0)));
+    }
+}
+
+#[test]
+fn a_clone_goes_on_by_itself() {
+    let mut sample = fed(&worked_capture(), &[0; 2 * PICTURE]);
+    let before = sealed(&sample).unwrap();
+    let kept = sample.clone();
+    sample.feed_luma(&[9; PICTURE]).unwrap();
+    assert_eq!(sealed(&kept).unwrap(), before);
+    assert_ne!(sealed(&sample).unwrap(), before);
+}
+
+#[test]
+fn words() {
+    let said: Vec<String> = (1..=19).map(|number| refusal(number, 0).meaning().to_string()).collect();
+    for (i, words) in said.iter().enumerate() {
+        assert!(!said[..i].contains(words), "two numbers say: {words}");
+    }
+    assert_eq!(refusal(15, 128).to_string(), "refused 15: the buffer is shorter than the record (128 bytes needed)");
+    assert_eq!(refusal(6, 23).to_string(), "refused 6: the capture's link type is not 1, Ethernet (at byte 23)");
+    assert_eq!(refusal(14, 0).to_string(), "refused 14: there is no picture");
+    let error: Box<dyn std::error::Error> = refusal(12, 0).into();
+    assert_eq!(error.to_string(), "refused 12: the capture has no packet with the identifier");
+}

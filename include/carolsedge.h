@@ -1,0 +1,146 @@
+/* Carolsedge: measures a sample, one packet capture and up to 750 luma pictures of a stream, into a record of 64 bytes and rows of 32.
+ *
+ * Link target/staticlib/libcarolsedge.a (rt staticlib carolsedge writes it, for x86-64 Linux). It needs memcpy and memset, allocates nothing, keeps no
+ * memory of its own and does no input or output. Each function is proved to give the number and the value that document 01 gives.
+ *
+ * What a caller owes, of every call:
+ *  - A pointer to an array or a structure is valid for the whole of it and aligned. A pointer with a length is valid for so many bytes; it is not null,
+ *    even where the length is 0 (the carolsedge_sample_ functions take null with length 0).
+ *  - Memory that a call writes to overlaps no other memory of the same call, and nobody else uses it meanwhile.
+ *  - A sample is opened before it is fed or sealed. Memory that somebody else wrote on gets free answers; the calls are safe on any contents of it.
+ * Calls on different samples may run at the same time. A sample is plain memory: between calls it may be copied, stored and moved.
+ */
+#ifndef CAROLSEDGE_H
+#define CAROLSEDGE_H
+
+#include <stddef.h>
+#include <stdint.h>
+
+#ifdef __cplusplus
+#define CAROLSEDGE_ASSERT(fact, words) static_assert(fact, words)
+extern "C" {
+#else
+#define CAROLSEDGE_ASSERT(fact, words) _Static_assert(fact, words)
+#endif
+
+/* ---- what a call returns: 0, or the number of a refusal. Places count bytes from 0; a place that is not named is 0. */
+enum {
+    CAROLSEDGE_DONE = 0,
+    CAROLSEDGE_REFUSED_SIZE = 1,            /* H outside 30 to 1088, W outside 15 to 1920, H above 2 W, or W above 4 H */
+    CAROLSEDGE_REFUSED_TIME = 2,            /* d outside 10,000 to 200,000 */
+    CAROLSEDGE_REFUSED_PID = 3,             /* PID above 8191 */
+    CAROLSEDGE_REFUSED_CAPTURE_LENGTH = 4,  /* a byte of the capture past 268,435,456; place: that byte */
+    CAROLSEDGE_REFUSED_MAGIC = 5,           /* the capture's first four bytes are not D4 C3 B2 A1; place: 3 */
+    CAROLSEDGE_REFUSED_LINK_TYPE = 6,       /* the capture's link type is not 1; place: 23 */
+    CAROLSEDGE_REFUSED_MICROSECONDS = 7,    /* a frame's microseconds above 999,999; place: their last byte */
+    CAROLSEDGE_REFUSED_FRAME_LENGTH = 8,    /* a frame's stored length above 65,535; place: its last byte */
+    CAROLSEDGE_REFUSED_UNITS = 9,           /* a 751st unit begins; place: byte 3 of the packet that begins it */
+    CAROLSEDGE_REFUSED_LUMA_LENGTH = 10,    /* a byte of the luma past 750 pictures; place: that byte */
+    CAROLSEDGE_REFUSED_CAPTURE_INSIDE = 11, /* seal: the capture ends inside its header or a frame; place: its bytes fed */
+    CAROLSEDGE_REFUSED_NO_PACKET = 12,      /* seal: no packet of PID */
+    CAROLSEDGE_REFUSED_LUMA_INSIDE = 13,    /* seal: the luma ends inside a picture; place: its bytes fed */
+    CAROLSEDGE_REFUSED_NO_PICTURE = 14,     /* seal: no picture */
+    CAROLSEDGE_REFUSED_BUFFER = 15,         /* seal: the buffer is shorter than the record; place: the length needed */
+    CAROLSEDGE_REFUSED_SHORT = 16,          /* reading: under 64 bytes */
+    CAROLSEDGE_REFUSED_EDITION = 17,        /* reading: the edition is not 1 */
+    CAROLSEDGE_REFUSED_RECORD = 18,         /* reading: not allowed */
+    CAROLSEDGE_REFUSED_ROW = 19             /* reading: a row's number at or past the count */
+};
+
+/* ---- a sample */
+
+enum {
+    CAROLSEDGE_CAPTURE_WORDS = 3840,
+    CAROLSEDGE_LUMA_WORDS = 1600,
+    CAROLSEDGE_SUMS = 240,
+    CAROLSEDGE_BINS = 720,
+    CAROLSEDGE_PICTURE_BYTES = 14104,
+    CAROLSEDGE_RECORD_MOST = 32064 /* no record is longer: 64 bytes, and 32 for each of 750 units and 250 scenes */
+};
+
+/* The whole state of a sample. Its contents are the library's own. */
+struct carolsedge_sample {
+    uint64_t capture[CAROLSEDGE_CAPTURE_WORDS];
+    uint64_t luma[CAROLSEDGE_LUMA_WORDS];
+    uint32_t sums[CAROLSEDGE_SUMS];
+    uint32_t bins[CAROLSEDGE_BINS];
+    uint8_t picture[CAROLSEDGE_PICTURE_BYTES];
+};
+CAROLSEDGE_ASSERT(sizeof(struct carolsedge_sample) <= 65536, "the state of a sample stays within 64 KiB");
+
+/* The functions of the library take the state's arrays apart. The carolsedge_sample_ functions below take the structure. */
+uint32_t carolsedge_open(uint64_t *capture, uint64_t *luma, uint32_t *sums, uint32_t *bins, uint8_t *picture,
+                         uint32_t width, uint32_t height, uint32_t time, uint32_t pid);
+uint32_t carolsedge_feed_capture(uint64_t *capture, const uint8_t *piece, size_t length, uint64_t *value);
+uint32_t carolsedge_feed_luma(uint64_t *luma, uint32_t *sums, uint32_t *bins, uint8_t *picture,
+                              const uint8_t *piece, size_t length, uint64_t *value);
+uint32_t carolsedge_seal(const uint64_t *capture, const uint64_t *luma, uint8_t *buffer, size_t length, uint64_t *value);
+
+/* Opens a sample: width W and height H of a picture, its display time d in microseconds, packet identifier PID. Refused: 1, 2 or 3, which its feeds and
+ * seals then repeat. */
+static inline uint32_t carolsedge_sample_open(struct carolsedge_sample *s, uint32_t width, uint32_t height, uint32_t time, uint32_t pid)
+{
+    return carolsedge_open(s->capture, s->luma, s->sums, s->bins, s->picture, width, height, time, pid);
+}
+
+/* Feeds a piece of the capture, of any length. *value is the length, or the refusal's place (4 to 9, which later feeds of this side repeat). */
+static inline uint32_t carolsedge_sample_feed_capture(struct carolsedge_sample *s, const uint8_t *piece, size_t length, uint64_t *value)
+{
+    const uint8_t none = 0;
+    return carolsedge_feed_capture(s->capture, length ? piece : &none, length, value);
+}
+
+/* Feeds a piece of the luma, of any length. *value is the length, or the refusal's place (10). */
+static inline uint32_t carolsedge_sample_feed_luma(struct carolsedge_sample *s, const uint8_t *piece, size_t length, uint64_t *value)
+{
+    const uint8_t none = 0;
+    return carolsedge_feed_luma(s->luma, s->sums, s->bins, s->picture, length ? piece : &none, length, value);
+}
+
+/* Seals what was fed: the record goes to the front of the buffer, and *value is its length; bytes behind it stand. Refused: the opening's number, a feed's,
+ * or 11 to 15; the buffer stands, and *value is the place. The state does not change, so feeding may go on, and a length of 0 asks how long the record is. */
+static inline uint32_t carolsedge_sample_seal(const struct carolsedge_sample *s, uint8_t *buffer, size_t length, uint64_t *value)
+{
+    uint8_t none = 0;
+    return carolsedge_seal(s->capture, s->luma, length ? buffer : &none, length, value);
+}
+
+/* ---- a record */
+
+struct carolsedge_header {
+    uint64_t units, scenes;           /* rows of each kind */
+    uint64_t width, height, time, pid; /* of the opening */
+    uint64_t pictures;
+    uint64_t frames, skipped;         /* of the capture; skipped: those that carry nothing */
+    uint64_t bad;                     /* packets that do not begin with 0x47 */
+    uint64_t index;                   /* the bits of a binary64 */
+};
+
+struct carolsedge_unit {
+    uint64_t least, greatest; /* times of its packets, in microseconds */
+    uint64_t size;            /* 184 for each packet */
+    uint64_t packets, lost;
+};
+
+struct carolsedge_scene {
+    uint64_t first, pictures;   /* its first picture, how many it has */
+    uint64_t repeated, longest; /* repeated pictures, the longest run of them */
+    uint64_t score, peak;       /* sum and greatest of the cut scores */
+    uint64_t change;            /* sum of the changes */
+};
+CAROLSEDGE_ASSERT(sizeof(struct carolsedge_header) == 88 && sizeof(struct carolsedge_unit) == 40 && sizeof(struct carolsedge_scene) == 56,
+                  "the figures are 64-bit numbers without gaps");
+
+/* Tests a whole record, which has the length given, and gives the figures of its header. Refused: 16, 17 or 18, and *header stands. */
+uint32_t carolsedge_read_header(const uint8_t *record, size_t length, struct carolsedge_header *header);
+
+/* Unit row j and scene row j, from 0, of a record whose header was read. The record is not tested again; *header has to be its own, or the answer is free.
+ * Refused: 19 where j is at or past the count, and *row stands. */
+uint32_t carolsedge_read_unit(const uint8_t *record, size_t length, const struct carolsedge_header *header, size_t j, struct carolsedge_unit *row);
+uint32_t carolsedge_read_scene(const uint8_t *record, size_t length, const struct carolsedge_header *header, size_t j, struct carolsedge_scene *row);
+
+#ifdef __cplusplus
+}
+#endif
+
+#endif
