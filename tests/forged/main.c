@@ -1,0 +1,466 @@
+/* Calls every function of the C interface on forged states, records and figures. Every lent array, piece, buffer and record stands against a page that
+ * cannot be read or written, in front of it or behind it, so a single byte outside ends the run; what is lent to be read only cannot be written, always or in
+ * some of the calls; and what is left of a page is compared afterwards. A call that takes longer than LIMIT seconds, an answer that is not 0 to 19, a refusal that wrote to its buffer,
+ * and an opening that answers something else than document 01 says end the run too.
+ *
+ * Usage: forged CALLS SEED. Makes so many calls of each function, and prints what they answered.
+ */
+#define _GNU_SOURCE
+#include <inttypes.h>
+#include <signal.h>
+#include <stdio.h>
+#include <stdlib.h>
+#include <string.h>
+#include <sys/mman.h>
+#include <sys/time.h>
+#include <time.h>
+#include <unistd.h>
+
+#include "carolsedge.h"
+
+#ifndef LIMIT
+#define LIMIT 5 /* seconds that a call may take */
+#endif
+
+enum { OPEN, FEED_CAPTURE, FEED_LUMA, SEAL, READ_HEADER, READ_UNIT, READ_SCENE, FUNCTIONS };
+static const char *const name[FUNCTIONS] = {"open", "feed_capture", "feed_luma", "seal", "read_header", "read_unit", "read_scene"};
+static uint64_t answers[FUNCTIONS][20], calls[FUNCTIONS], longest, seed;
+static volatile int under_way;
+static volatile sig_atomic_t ticks;
+
+static void fail(const char *what)
+{
+    printf("forged: FAILED: %s, at call %" PRIu64 " of %s, seed %" PRIu64 "\n", what, calls[under_way], name[under_way], seed);
+    fflush(stdout);
+    _exit(1);
+}
+
+static void outside(int signal) { (void)signal; fail("memory outside was read or written"); }
+static void tick(int signal) { (void)signal; if (++ticks > LIMIT) fail("a call does not end"); }
+
+/* ---- chance */
+
+static uint64_t state_of_chance;
+static uint64_t chance(void)
+{
+    uint64_t z = (state_of_chance += 0x9E3779B97F4A7C15u);
+    z = (z ^ (z >> 30)) * 0xBF58476D1CE4E5B9u;
+    z = (z ^ (z >> 27)) * 0x94D049BB133111EBu;
+    return z ^ (z >> 31);
+}
+static uint64_t below(uint64_t n) { return chance() % n; }
+
+/* A number of any size, a small one, or one at an edge. */
+static uint64_t figure(void)
+{
+    static const uint64_t edges[] = {0, 1, 2, 4, 16, 18, 19, 20, 23, 24, 30, 42, 58, 64, 188, 249, 250, 251, 749, 750, 751, 1088, 1600, 1920, 3840, 8191,
+                                     65535, 65536, 268435455, 268435456, 268435457, UINT32_MAX, (uint64_t)1 << 32, INT64_MAX, UINT64_MAX - 1, UINT64_MAX};
+    switch (below(4)) {
+    case 0: return chance();
+    case 1: return chance() >> below(64);
+    case 2: return below(1000);
+    default: return edges[below(sizeof edges / sizeof *edges)];
+    }
+}
+
+/* ---- memory between two pages that nobody may touch */
+
+struct room { uint8_t *start; size_t size, used; int back; };
+enum { PAGE = 4096, SLACK = 0xC5 };
+
+static struct room room_of(size_t most)
+{
+    struct room r = {NULL, (most + PAGE - 1) / PAGE * PAGE, 0, 0};
+    uint8_t *all = mmap(NULL, r.size + 2 * PAGE, PROT_NONE, MAP_PRIVATE | MAP_ANONYMOUS, -1, 0);
+    if (all == MAP_FAILED || mprotect(all + PAGE, r.size, PROT_READ | PROT_WRITE) != 0) {
+        perror("forged: mmap");
+        exit(2);
+    }
+    r.start = all + PAGE;
+    memset(r.start, SLACK, r.size);
+    return r;
+}
+
+static uint8_t *at(const struct room *r) { return r->back ? r->start + r->size - r->used : r->start; }
+
+/* So many bytes at one of the two edges; what is left of the room is marked. */
+static uint8_t *lend(struct room *r, size_t n)
+{
+    memset(at(r), SLACK, r->used);
+    r->used = n;
+    r->back = (int)below(2);
+    return at(r);
+}
+
+static int untouched(const uint8_t *p, size_t n) { return n == 0 || (p[0] == SLACK && memcmp(p, p + 1, n - 1) == 0); }
+
+static void check_slack(const struct room *r)
+{
+    if (!untouched(r->back ? r->start : r->start + r->used, r->size - r->used))
+        fail("memory beside a lent array was written");
+}
+
+static void protect(const struct room *r, int how)
+{
+    if (mprotect(r->start, r->size, how) != 0) {
+        perror("forged: mprotect");
+        exit(2);
+    }
+}
+
+/* ---- a call */
+
+static struct timespec began;
+static void begin(int function)
+{
+    under_way = function;
+    ticks = 0;
+    clock_gettime(CLOCK_MONOTONIC, &began);
+}
+
+static uint32_t end(uint32_t number)
+{
+    struct timespec now;
+    clock_gettime(CLOCK_MONOTONIC, &now);
+    uint64_t took = (uint64_t)(now.tv_sec - began.tv_sec) * 1000000000 + (uint64_t)now.tv_nsec - (uint64_t)began.tv_nsec;
+    if (took > longest)
+        longest = took;
+    if (number > 19)
+        fail("an answer that is not in the table");
+    answers[under_way][number]++;
+    calls[under_way]++;
+    return number;
+}
+
+/* ---- a true sample, and its records */
+
+enum { TRUE_STATES = 24, TRUE_RECORDS = 8 };
+static struct carolsedge_sample truth[TRUE_STATES];
+static uint8_t true_record[TRUE_RECORDS][CAROLSEDGE_RECORD_MOST];
+static size_t true_length[TRUE_RECORDS];
+
+static void put32(uint8_t *p, uint32_t x) { for (int i = 0; i < 4; i++) p[i] = (uint8_t)(x >> 8 * i); }
+
+/* A frame with n packets of PID 256, other packets and bad ones among them; or one that is skipped. */
+static size_t frame(uint8_t *p, uint32_t seconds, size_t n)
+{
+    size_t length = 42 + 188 * n, udp = 8 + 188 * n;
+    memset(p, 0, 16 + length);
+    put32(p, seconds);
+    put32(p + 4, (uint32_t)below(1000000));
+    put32(p + 8, (uint32_t)length);
+    uint8_t *b = p + 16;
+    b[12] = below(8) ? 8 : 6;
+    b[14] = 0x45;
+    b[16] = (uint8_t)((udp + 20) >> 8), b[17] = (uint8_t)(udp + 20);
+    b[23] = 17;
+    b[38] = (uint8_t)(udp >> 8), b[39] = (uint8_t)udp;
+    for (size_t i = 0; i < n; i++) {
+        uint8_t *cell = b + 42 + 188 * i;
+        cell[0] = below(20) ? 0x47 : 0x48;
+        cell[1] = (uint8_t)((below(10) ? 1 : 2) | (below(3) ? 0 : 0x40));
+        cell[3] = (uint8_t)chance();
+    }
+    return 16 + length;
+}
+
+static size_t file_header(uint8_t *p)
+{
+    static const uint8_t magic[4] = {0xD4, 0xC3, 0xB2, 0xA1};
+    memset(p, 0, 24);
+    memcpy(p, magic, 4);
+    p[20] = 1;
+    return 24;
+}
+
+/* Feeds state i some true bytes: frames to the capture, pictures of 40 by 30 to the luma, dark and bright in turn; in half of the states the last piece is cut. */
+static void make_true(int i)
+{
+    static uint8_t piece[65536];
+    uint64_t value;
+    struct carolsedge_sample *s = &truth[i];
+    carolsedge_sample_open(s, 40, 30, 200000, 256);
+    size_t n = file_header(piece);
+    carolsedge_sample_feed_capture(s, piece, n, &value);
+    for (int j = 0; j < 1 + 40 * i; j++) {
+        n = frame(piece, (uint32_t)j, 1 + below(7));
+        carolsedge_sample_feed_capture(s, piece, n, &value);
+    }
+    for (int j = 0; j < 1 + 25 * i; j++) {
+        memset(piece, j / 6 % 2 ? 200 : 20, 1200);
+        for (int k = 0; k < 30; k++)
+            piece[below(1200)] = (uint8_t)chance();
+        carolsedge_sample_feed_luma(s, piece, 1200, &value);
+    }
+    if (i < TRUE_RECORDS) {
+        if (carolsedge_sample_seal(s, true_record[i], CAROLSEDGE_RECORD_MOST, &value) != CAROLSEDGE_DONE)
+            fail("a true sample is not sealed");
+        true_length[i] = (size_t)value;
+    } else if (i % 2) {
+        carolsedge_sample_feed_capture(s, piece, 1 + below(60), &value);
+        carolsedge_sample_feed_luma(s, piece, 1 + below(1199), &value);
+    }
+}
+
+/* ---- forging */
+
+static struct room capture, luma, sums, bins, picture, out, header, lent;
+
+/* The words of a lent array, by one way of forging. */
+static void forge(uint8_t *p, size_t size, const void *true_words, size_t word, int way)
+{
+    uint64_t x;
+    if (way == 0)
+        for (size_t i = 0; i < size; i += 8)
+            x = chance(), memcpy(p + i, &x, 8);
+    else if (way == 1)
+        memset(p, 0, size);
+    else
+        memcpy(p, true_words, size);
+    for (uint64_t i = way == 0 ? 0 : below(12); i > 0; i--) {
+        /* the words that steer are the first ones */
+        size_t w = below(2) ? below(16) : below(size / word);
+        x = figure();
+        memcpy(p + w * word, &x, word);
+    }
+}
+
+static void forge_state(void)
+{
+    const struct carolsedge_sample *t = &truth[below(TRUE_STATES)];
+    int way = (int)below(8);
+    forge(lend(&capture, sizeof t->capture), sizeof t->capture, t->capture, 8, way);
+    forge(lend(&luma, sizeof t->luma), sizeof t->luma, t->luma, 8, way);
+    forge(lend(&sums, sizeof t->sums), sizeof t->sums, t->sums, 4, way);
+    forge(lend(&bins, sizeof t->bins), sizeof t->bins, t->bins, 4, way);
+    forge(lend(&picture, sizeof t->picture), sizeof t->picture, t->picture, 1, way);
+}
+
+/* A status refuses at once, and wild numbers soon: between two calls the words that steer are often set so that the next one goes on. */
+static void alter_state(void)
+{
+    uint64_t *c = (uint64_t *)(void *)at(&capture), *l = (uint64_t *)(void *)at(&luma);
+    switch (below(4)) {
+    case 0: /* any way through the engines */
+        c[0] = 0, c[3] = 24 + below(1000), c[4] = below(80), c[6] = below(200);
+        l[0] = 0, l[3] = below(752), l[5] = below(40), l[6] = below(8), l[7] = below(400), l[8] = below(4096);
+        l[12] = 15 + below(400), l[13] = 30 + below(200), l[14] = 10000 + below(190001), l[15] = 256;
+        break;
+    case 1: /* ready for a seal, but for the counts */
+        c[0] = 0, c[3] = 1000, c[4] = 0, c[11] = below(800);
+        l[0] = 0, l[3] = below(760), l[5] = l[6] = l[7] = 0;
+        break;
+    case 2:
+        c[below(2) ? below(16) : below(CAROLSEDGE_CAPTURE_WORDS)] = figure();
+        l[below(2) ? below(16) : below(CAROLSEDGE_LUMA_WORDS)] = figure();
+        break;
+    default: break;
+    }
+}
+
+/* Pieces stand in rooms of their own, which are only read: wild bytes, zeros, frames, an altered file. */
+enum { POOLS = 64 };
+static struct room pool[POOLS];
+
+static void make_pools(void)
+{
+    for (int i = 0; i < POOLS; i++) {
+        size_t size = i == 0 ? 1 << 20 : PAGE * (1 + below(3)), n = 0;
+        pool[i] = room_of(size);
+        uint8_t *p = pool[i].start;
+        memset(p, i % 4 ? 0 : (int)below(256), pool[i].size);
+        if (i % 4 == 1)
+            for (; n < pool[i].size; n++)
+                p[n] = (uint8_t)chance();
+        if (i % 4 == 2)
+            n = file_header(p);
+        if (i % 4 >= 2)
+            while (n + 16 + 42 + 188 * 7 < pool[i].size)
+                n += frame(p + n, (uint32_t)chance(), below(8));
+        for (uint64_t k = below(20); k > 0; k--)
+            p[below(pool[i].size)] = (uint8_t)chance();
+        protect(&pool[i], PROT_READ);
+    }
+}
+
+static const uint8_t *piece_of(size_t *length)
+{
+    struct room *r = &pool[below(2000) ? 1 + below(POOLS - 1) : 0];
+    *length = below(3) ? below(300) : below(20) ? below(2500) : below(r->size + 1);
+    if (*length > r->size)
+        *length = r->size;
+    return below(2) ? r->start : r->start + r->size - *length;
+}
+
+/* ---- the calls */
+
+static void check_state(void)
+{
+    check_slack(&capture), check_slack(&luma), check_slack(&sums), check_slack(&bins), check_slack(&picture), check_slack(&lent);
+}
+
+static uint32_t fault_of(uint32_t w, uint32_t h, uint32_t d, uint32_t pid)
+{
+    if (h < 30 || h > 1088 || w < 15 || w > 1920 || h > 2 * w || w > 4 * h)
+        return CAROLSEDGE_REFUSED_SIZE;
+    return d < 10000 || d > 200000 ? CAROLSEDGE_REFUSED_TIME : pid > 8191 ? CAROLSEDGE_REFUSED_PID : CAROLSEDGE_DONE;
+}
+
+static void call_open(void)
+{
+    uint32_t w = below(3) ? 15 + (uint32_t)below(1906) : (uint32_t)figure(), h = below(3) ? w / 4 + (uint32_t)below(1100) : (uint32_t)figure();
+    uint32_t d = below(3) ? 10000 + (uint32_t)below(190001) : (uint32_t)figure(), pid = below(3) ? (uint32_t)below(8192) : (uint32_t)figure();
+    begin(OPEN);
+    uint32_t k = end(carolsedge_open((uint64_t *)(void *)at(&capture), (uint64_t *)(void *)at(&luma), (uint32_t *)(void *)at(&sums),
+                                     (uint32_t *)(void *)at(&bins), at(&picture), w, h, d, pid));
+    check_state();
+    if (k != fault_of(w, h, d, pid))
+        fail("another answer than document 01's");
+}
+
+static void call_feed_capture(void)
+{
+    size_t n;
+    const uint8_t *piece = piece_of(&n);
+    uint64_t *value = (uint64_t *)(void *)lend(&lent, 8);
+    begin(FEED_CAPTURE);
+    end(carolsedge_feed_capture((uint64_t *)(void *)at(&capture), piece, n, value));
+    check_state();
+}
+
+static void call_feed_luma(void)
+{
+    size_t n;
+    const uint8_t *piece = piece_of(&n);
+    uint64_t *value = (uint64_t *)(void *)lend(&lent, 8);
+    begin(FEED_LUMA);
+    end(carolsedge_feed_luma((uint64_t *)(void *)at(&luma), (uint32_t *)(void *)at(&sums), (uint32_t *)(void *)at(&bins), at(&picture), piece, n, value));
+    check_state();
+}
+
+static void call_seal(void)
+{
+    size_t n = below(3) ? below(700) : below(CAROLSEDGE_RECORD_MOST + 100), done = 0;
+    uint8_t *buffer = lend(&out, n);
+    uint64_t *value = (uint64_t *)(void *)lend(&lent, 8);
+    int guarded = below(16) == 0;
+    if (guarded)
+        protect(&capture, PROT_READ), protect(&luma, PROT_READ);
+    begin(SEAL);
+    uint32_t k = end(carolsedge_seal((const uint64_t *)(void *)at(&capture), (const uint64_t *)(void *)at(&luma), buffer, n, value));
+    if (guarded)
+        protect(&capture, PROT_READ | PROT_WRITE), protect(&luma, PROT_READ | PROT_WRITE);
+    if (k == CAROLSEDGE_DONE && (*value > n || *value < 128))
+        fail("a record's length that is none");
+    if (k == CAROLSEDGE_DONE)
+        done = (size_t)*value;
+    if (!untouched(buffer + done, n - done))
+        fail("a byte behind the record, or of a refused seal's buffer, was written");
+    check_slack(&out);
+    check_state();
+}
+
+/* A record's bytes: true ones with a few altered, or wild ones; cut now and then. */
+static const uint8_t *forge_record(size_t *length)
+{
+    int i = (int)below(TRUE_RECORDS);
+    size_t n = below(4) ? true_length[i] : below(CAROLSEDGE_RECORD_MOST);
+    if (below(8) == 0)
+        n = below(200);
+    uint8_t *p = lend(&out, n);
+    if (below(8))
+        memcpy(p, true_record[i], n);
+    else
+        for (size_t k = 0; k < n && k < 400; k++)
+            p[k] = (uint8_t)chance();
+    for (uint64_t k = n == 0 || below(3) == 0 ? 0 : below(4); k > 0; k--)
+        p[below(2) ? below(n) : below(n < 64 ? n : 64)] = (uint8_t)figure();
+    *length = n;
+    return p;
+}
+
+static int out_guarded; /* the record cannot be written just now */
+
+static const uint8_t *call_read_header(size_t *n)
+{
+    const uint8_t *p = forge_record(n);
+    struct carolsedge_header *h = (struct carolsedge_header *)(void *)lend(&header, sizeof *h);
+    if ((out_guarded = below(4) == 0))
+        protect(&out, PROT_READ);
+    begin(READ_HEADER);
+    if (end(carolsedge_read_header(p, *n, h)) != CAROLSEDGE_DONE) {
+        if (!untouched(at(&header), sizeof *h))
+            fail("a refused reading wrote to its header");
+        h->units = below(2) ? below(800) : figure();
+        h->scenes = below(2) ? below(300) : figure();
+    } else if (below(8) == 0) {
+        h->units = figure();
+    }
+    check_slack(&header);
+    return p;
+}
+
+static void call_readings(void)
+{
+    size_t n;
+    const uint8_t *p = call_read_header(&n);
+    const struct carolsedge_header *h = (const struct carolsedge_header *)(void *)at(&header);
+    int guarded = below(4) == 0;
+    if (guarded)
+        protect(&header, PROT_READ);
+    for (int i = 0; i < 2; i++) {
+        size_t j = below(4) ? below(40) : (size_t)figure(), size = i ? sizeof(struct carolsedge_scene) : sizeof(struct carolsedge_unit);
+        uint8_t *row = lend(&lent, size);
+        begin(i ? READ_SCENE : READ_UNIT);
+        uint32_t k = i ? carolsedge_read_scene(p, n, h, j, (struct carolsedge_scene *)(void *)row)
+                       : carolsedge_read_unit(p, n, h, j, (struct carolsedge_unit *)(void *)row);
+        if (end(k) != CAROLSEDGE_DONE && !untouched(row, size))
+            fail("a refused reading wrote to its row");
+        check_slack(&lent);
+    }
+    if (guarded)
+        protect(&header, PROT_READ | PROT_WRITE);
+    if (out_guarded)
+        protect(&out, PROT_READ | PROT_WRITE);
+}
+
+/* A forged state, and a few calls on it. */
+static void round_of_calls(uint64_t most)
+{
+    static void (*const feeds[])(void) = {call_feed_capture, call_feed_luma, call_seal};
+    forge_state();
+    for (int i = 0; i < 24; i++) {
+        if (calls[FEED_CAPTURE + i % 3] < most)
+            feeds[i % 3]();
+        alter_state();
+    }
+    for (int i = 0; i < 8 && calls[OPEN] < most; i++)
+        call_open();
+    for (int i = 0; i < 8 && calls[READ_HEADER] < most; i++)
+        call_readings();
+}
+
+int main(int words, char **word)
+{
+    uint64_t most = words > 1 ? strtoull(word[1], NULL, 10) : 1000000, total = 0;
+    seed = state_of_chance = words > 2 ? strtoull(word[2], NULL, 10) : 1;
+    signal(SIGSEGV, outside), signal(SIGBUS, outside), signal(SIGALRM, tick);
+    setitimer(ITIMER_REAL, &(struct itimerval){{1, 0}, {1, 0}}, NULL);
+    for (int i = 0; i < TRUE_STATES; i++)
+        make_true(i);
+    make_pools();
+    capture = room_of(sizeof truth->capture), luma = room_of(sizeof truth->luma), sums = room_of(sizeof truth->sums), bins = room_of(sizeof truth->bins);
+    picture = room_of(sizeof truth->picture), out = room_of(CAROLSEDGE_RECORD_MOST + 100), header = room_of(128), lent = room_of(128);
+    while (calls[SEAL] < most || calls[OPEN] < most || calls[READ_HEADER] < most)
+        round_of_calls(most);
+    for (int f = 0; f < FUNCTIONS; f++) {
+        printf("forged: %-12s %" PRIu64 " calls; answers", name[f], calls[f]);
+        for (int k = 0; k < 20; k++)
+            if (answers[f][k])
+                printf(" %d:%" PRIu64, k, answers[f][k]);
+        printf("\n");
+        total += calls[f];
+    }
+    printf("forged: %" PRIu64 " calls, seed %" PRIu64 ": no byte outside was touched; the longest call took %.3f ms\n", total, seed, (double)longest / 1e6);
+    return 0;
+}
