@@ -1,3 +1,4 @@
 pub mod Numbers
 pub mod Figures
 pub mod Contract
+pub mod Calls

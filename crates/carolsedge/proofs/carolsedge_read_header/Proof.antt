@@ -20,10 +20,14 @@ listed-number-requires : tie.Need-listed-number-requires
 listed-number-requires c κs = search needs
 
 returns : tie.Need-returns
-returns c = header-done _ _ _ (c .before .before .before .before .before .header .ensures) _ _ (c .before .before .before .h .given .1) (c .put-header .ensures)
+returns c =
+    let known = c .before .before .before in
+    header-done _ _ _ (known .before .before .header .ensures) _ _ (known .h .given .1) (c .put-header .ensures)
 
 returns-2 : tie.Need-returns-2
-returns-2 c = header-refused _ _ _ (c .before .before .before .before .header .ensures) _ _ _ (c .before .before .number .given .1) (c .listed-number .ensures)
+returns-2 c =
+    let known = c .before .before in
+    header-refused _ _ _ (known .before .before .header .ensures) _ _ _ (known .number .given .1) (c .listed-number .ensures)
 
 pub carolsedge-read-header-spec : {M : Type 1} → statement M
 carolsedge-read-header-spec =
