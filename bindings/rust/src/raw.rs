@@ -26,7 +26,12 @@ extern "C" {
         time: u32,
         pid: u32,
     ) -> u32;
-    fn carolsedge_feed_capture(capture: &mut [u64; 3840], piece: *const u8, length: usize, value: &mut u64) -> u32;
+    fn carolsedge_feed_capture(
+        capture: &mut [u64; 3840],
+        piece: *const u8,
+        length: usize,
+        value: &mut u64,
+    ) -> u32;
     fn carolsedge_feed_luma(
         luma: &mut [u64; 1600],
         sums: &mut [u32; 240],
@@ -36,28 +41,66 @@ extern "C" {
         length: usize,
         value: &mut u64,
     ) -> u32;
-    fn carolsedge_seal(capture: &[u64; 3840], luma: &[u64; 1600], buffer: *mut u8, length: usize, value: &mut u64) -> u32;
+    fn carolsedge_seal(
+        capture: &[u64; 3840],
+        luma: &[u64; 1600],
+        buffer: *mut u8,
+        length: usize,
+        value: &mut u64,
+    ) -> u32;
     fn carolsedge_read_header(record: *const u8, length: usize, figures: &mut Figures) -> u32;
-    fn carolsedge_read_unit(record: *const u8, length: usize, figures: &Figures, j: usize, row: &mut UnitFigures) -> u32;
-    fn carolsedge_read_scene(record: *const u8, length: usize, figures: &Figures, j: usize, row: &mut SceneFigures) -> u32;
+    fn carolsedge_read_unit(
+        record: *const u8,
+        length: usize,
+        figures: &Figures,
+        j: usize,
+        row: &mut UnitFigures,
+    ) -> u32;
+    fn carolsedge_read_scene(
+        record: *const u8,
+        length: usize,
+        figures: &Figures,
+        j: usize,
+        row: &mut SceneFigures,
+    ) -> u32;
 }
 
 impl State {
     pub fn new() -> Box<State> {
-        Box::new(State { capture: [0; 3840], luma: [0; 1600], sums: [0; 240], bins: [0; 720], picture: [0; 14104] })
+        Box::new(State {
+            capture: [0; 3840],
+            luma: [0; 1600],
+            sums: [0; 240],
+            bins: [0; 720],
+            picture: [0; 14104],
+        })
     }
 
     /// The refusal's number, or 0.
     pub fn open(&mut self, width: u32, height: u32, time: u32, pid: u32) -> u32 {
         // SAFETY: the arrays have the sizes that the function writes to, and are borrowed apart.
-        unsafe { carolsedge_open(&mut self.capture, &mut self.luma, &mut self.sums, &mut self.bins, &mut self.picture, width, height, time, pid) }
+        unsafe {
+            carolsedge_open(
+                &mut self.capture,
+                &mut self.luma,
+                &mut self.sums,
+                &mut self.bins,
+                &mut self.picture,
+                width,
+                height,
+                time,
+                pid,
+            )
+        }
     }
 
     /// The refusal's number, or 0, and the value.
     pub fn feed_capture(&mut self, piece: &[u8]) -> (u32, u64) {
         let mut value = 0;
         // SAFETY: the array has the size that the function uses; pointer and length are a slice's; all are borrowed apart.
-        let number = unsafe { carolsedge_feed_capture(&mut self.capture, piece.as_ptr(), piece.len(), &mut value) };
+        let number = unsafe {
+            carolsedge_feed_capture(&mut self.capture, piece.as_ptr(), piece.len(), &mut value)
+        };
         (number, value)
     }
 
@@ -66,7 +109,15 @@ impl State {
         let mut value = 0;
         // SAFETY: the arrays have the sizes that the function uses; pointer and length are a slice's; all are borrowed apart.
         let number = unsafe {
-            carolsedge_feed_luma(&mut self.luma, &mut self.sums, &mut self.bins, &mut self.picture, piece.as_ptr(), piece.len(), &mut value)
+            carolsedge_feed_luma(
+                &mut self.luma,
+                &mut self.sums,
+                &mut self.bins,
+                &mut self.picture,
+                piece.as_ptr(),
+                piece.len(),
+                &mut value,
+            )
         };
         (number, value)
     }
@@ -75,7 +126,15 @@ impl State {
     pub fn seal(&self, buffer: &mut [u8]) -> (u32, u64) {
         let mut value = 0;
         // SAFETY: the arrays have the sizes that the function reads; pointer and length are those of a slice that is borrowed alone.
-        let number = unsafe { carolsedge_seal(&self.capture, &self.luma, buffer.as_mut_ptr(), buffer.len(), &mut value) };
+        let number = unsafe {
+            carolsedge_seal(
+                &self.capture,
+                &self.luma,
+                buffer.as_mut_ptr(),
+                buffer.len(),
+                &mut value,
+            )
+        };
         (number, value)
     }
 }
@@ -92,7 +151,8 @@ pub fn read_header(record: &[u8]) -> Result<Figures, u32> {
 pub fn read_unit(record: &[u8], figures: &Figures, j: usize) -> Result<UnitFigures, u32> {
     let mut row = [0; 5];
     // SAFETY: pointer and length are a slice's; the arrays have the sizes that the function uses.
-    let number = unsafe { carolsedge_read_unit(record.as_ptr(), record.len(), figures, j, &mut row) };
+    let number =
+        unsafe { carolsedge_read_unit(record.as_ptr(), record.len(), figures, j, &mut row) };
     given(number, row)
 }
 
@@ -100,7 +160,8 @@ pub fn read_unit(record: &[u8], figures: &Figures, j: usize) -> Result<UnitFigur
 pub fn read_scene(record: &[u8], figures: &Figures, j: usize) -> Result<SceneFigures, u32> {
     let mut row = [0; 7];
     // SAFETY: pointer and length are a slice's; the arrays have the sizes that the function uses.
-    let number = unsafe { carolsedge_read_scene(record.as_ptr(), record.len(), figures, j, &mut row) };
+    let number =
+        unsafe { carolsedge_read_scene(record.as_ptr(), record.len(), figures, j, &mut row) };
     given(number, row)
 }
 

@@ -78,7 +78,8 @@ impl<'a> Record<'a> {
 
     /// The header's figures.
     pub fn header(&self) -> Header {
-        let [units, scenes, width, height, time, pid, pictures, frames, skipped, bad, index] = self.figures;
+        let [units, scenes, width, height, time, pid, pictures, frames, skipped, bad, index] =
+            self.figures;
         Header {
             units: units as usize,
             scenes: scenes as usize,
@@ -96,27 +97,45 @@ impl<'a> Record<'a> {
 
     /// Unit row j, from 0, or refusal 19. The record is not tested again.
     pub fn unit(&self, j: usize) -> Result<Unit, Refusal> {
-        let [least, greatest, size, packets, lost] = raw::read_unit(self.bytes, &self.figures, j).map_err(unplaced)?;
-        Ok(Unit { least, greatest, size: size as u32, packets: packets as u32, lost: lost as u32 })
+        let [least, greatest, size, packets, lost] =
+            raw::read_unit(self.bytes, &self.figures, j).map_err(unplaced)?;
+        Ok(Unit {
+            least,
+            greatest,
+            size: size as u32,
+            packets: packets as u32,
+            lost: lost as u32,
+        })
     }
 
     /// Scene row j, from 0, or refusal 19. The record is not tested again.
     pub fn scene(&self, j: usize) -> Result<Scene, Refusal> {
         let row = raw::read_scene(self.bytes, &self.figures, j).map_err(unplaced)?;
-        let [first, pictures, repeated, longest, score, peak, change] = row.map(|figure| figure as u32);
-        Ok(Scene { first, pictures, repeated, longest, score, peak, change })
+        let [first, pictures, repeated, longest, score, peak, change] =
+            row.map(|figure| figure as u32);
+        Ok(Scene {
+            first,
+            pictures,
+            repeated,
+            longest,
+            score,
+            peak,
+            change,
+        })
     }
 
     /// The units, in order.
     pub fn units(&self) -> impl ExactSizeIterator<Item = Unit> + DoubleEndedIterator + 'a {
         let record = *self;
-        (0..self.header().units).map(move |j| record.unit(j).expect("an allowed record has its rows"))
+        (0..self.header().units)
+            .map(move |j| record.unit(j).expect("an allowed record has its rows"))
     }
 
     /// The scenes, in order.
     pub fn scenes(&self) -> impl ExactSizeIterator<Item = Scene> + DoubleEndedIterator + 'a {
         let record = *self;
-        (0..self.header().scenes).map(move |j| record.scene(j).expect("an allowed record has its rows"))
+        (0..self.header().scenes)
+            .map(move |j| record.scene(j).expect("an allowed record has its rows"))
     }
 }
 

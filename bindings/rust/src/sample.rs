@@ -59,7 +59,10 @@ impl Sample {
 fn answer((number, value): (u32, u64)) -> Result<usize, Refusal> {
     match number {
         0 => Ok(value as usize),
-        number => Err(Refusal { number, place: value }),
+        number => Err(Refusal {
+            number,
+            place: value,
+        }),
     }
 }
 

@@ -1,7 +1,12 @@
 //! The calls from Rust: document 01's worked sample, cuts, every refusal with its place, and that a refusal leaves lent memory as it was.
 use carolsedge::{Opening, Record, Refusal, Sample, Scene, Unit, RECORD_MOST};
 
-const BLACK: Opening = Opening { width: 30, height: 30, time: 40_000, pid: 256 };
+const BLACK: Opening = Opening {
+    width: 30,
+    height: 30,
+    time: 40_000,
+    pid: 256,
+};
 const PICTURE: usize = 900;
 
 fn file_header() -> Vec<u8> {
@@ -14,7 +19,11 @@ fn file_header() -> Vec<u8> {
 // A frame with these packets, or with a body of any other kind.
 fn frame(seconds: u32, microseconds: u32, body: &[u8]) -> Vec<u8> {
     let length = body.len() as u32;
-    [seconds, microseconds, length, length].iter().flat_map(|word| word.to_le_bytes()).chain(body.iter().copied()).collect()
+    [seconds, microseconds, length, length]
+        .iter()
+        .flat_map(|word| word.to_le_bytes())
+        .chain(body.iter().copied())
+        .collect()
 }
 
 fn carrying(packets: &[[u8; 188]]) -> Vec<u8> {
@@ -30,12 +39,21 @@ fn carrying(packets: &[[u8; 188]]) -> Vec<u8> {
 
 fn packet(pid: u16, start: bool, counter: u8) -> [u8; 188] {
     let mut packet = [0; 188];
-    packet[..4].copy_from_slice(&[0x47, (pid >> 8) as u8 | if start { 0x40 } else { 0 }, pid as u8, 0x10 | counter]);
+    packet[..4].copy_from_slice(&[
+        0x47,
+        (pid >> 8) as u8 | if start { 0x40 } else { 0 },
+        pid as u8,
+        0x10 | counter,
+    ]);
     packet
 }
 
 fn worked_capture() -> Vec<u8> {
-    [file_header(), frame(10, 5, &carrying(&[packet(256, true, 0)]))].concat()
+    [
+        file_header(),
+        frame(10, 5, &carrying(&[packet(256, true, 0)])),
+    ]
+    .concat()
 }
 
 fn refusal(number: u32, place: u64) -> Refusal {
@@ -46,7 +64,10 @@ fn sealed(sample: &Sample) -> Result<Vec<u8>, Refusal> {
     let mut buffer = vec![0xAA; RECORD_MOST];
     let answer = sample.seal(&mut buffer);
     let behind = answer.unwrap_or(0);
-    assert!(buffer[behind..].iter().all(|&b| b == 0xAA), "bytes behind the record, or of a refused seal, were written");
+    assert!(
+        buffer[behind..].iter().all(|&b| b == 0xAA),
+        "bytes behind the record, or of a refused seal, were written"
+    );
     buffer.truncate(answer?);
     Ok(buffer)
 }
@@ -65,10 +86,30 @@ fn worked_sample() {
     assert_eq!(bytes.len(), 128);
     let record = Record::read(&bytes).unwrap();
     let h = record.header();
-    assert_eq!((h.units, h.scenes, h.width, h.height, h.time, h.pid), (1, 1, 30, 30, 40_000, 256));
-    assert_eq!((h.pictures, h.frames, h.skipped, h.bad, h.index.to_bits()), (2, 1, 0, 0, 0x4008_0000_0000_0000));
-    let unit = Unit { least: 10_000_005, greatest: 10_000_005, size: 184, packets: 1, lost: 0 };
-    let scene = Scene { first: 0, pictures: 2, repeated: 1, longest: 1, score: 0, peak: 0, change: 0 };
+    assert_eq!(
+        (h.units, h.scenes, h.width, h.height, h.time, h.pid),
+        (1, 1, 30, 30, 40_000, 256)
+    );
+    assert_eq!(
+        (h.pictures, h.frames, h.skipped, h.bad, h.index.to_bits()),
+        (2, 1, 0, 0, 0x4008_0000_0000_0000)
+    );
+    let unit = Unit {
+        least: 10_000_005,
+        greatest: 10_000_005,
+        size: 184,
+        packets: 1,
+        lost: 0,
+    };
+    let scene = Scene {
+        first: 0,
+        pictures: 2,
+        repeated: 1,
+        longest: 1,
+        score: 0,
+        peak: 0,
+        change: 0,
+    };
     assert_eq!(record.units().collect::<Vec<_>>(), [unit]);
     assert_eq!(record.scenes().collect::<Vec<_>>(), [scene]);
     assert_eq!((record.unit(0), record.scene(0)), (Ok(unit), Ok(scene)));
@@ -77,8 +118,19 @@ fn worked_sample() {
 
 #[test]
 fn cuts_do_not_matter() {
-    let capture = [worked_capture(), frame(11, 0, &carrying(&[packet(256, false, 3), packet(256, true, 4)])), frame(12, 0, b"another")].concat();
-    let luma: Vec<u8> = (0..7 * PICTURE).map(|i| (i / PICTURE * 37 + i % 23) as u8).collect();
+    let capture = [
+        worked_capture(),
+        frame(
+            11,
+            0,
+            &carrying(&[packet(256, false, 3), packet(256, true, 4)]),
+        ),
+        frame(12, 0, b"another"),
+    ]
+    .concat();
+    let luma: Vec<u8> = (0..7 * PICTURE)
+        .map(|i| (i / PICTURE * 37 + i % 23) as u8)
+        .collect();
     let whole = sealed(&fed(&capture, &luma)).unwrap();
     let mut sample = Sample::open(BLACK).unwrap();
     let (mut captures, mut lumas) = (capture.chunks(7), luma.chunks(13));
@@ -93,12 +145,27 @@ fn cuts_do_not_matter() {
         let _ = sealed(&sample);
     }
     assert_eq!(sealed(&sample).unwrap(), whole);
-    assert_eq!(Record::read(&whole).unwrap().units().map(|u| (u.packets, u.lost)).collect::<Vec<_>>(), [(2, 2), (1, 0)]);
+    assert_eq!(
+        Record::read(&whole)
+            .unwrap()
+            .units()
+            .map(|u| (u.packets, u.lost))
+            .collect::<Vec<_>>(),
+        [(2, 2), (1, 0)]
+    );
 }
 
 #[test]
 fn openings() {
-    let opened = |width, height, time, pid| Sample::open(Opening { width, height, time, pid }).map(|_| ());
+    let opened = |width, height, time, pid| {
+        Sample::open(Opening {
+            width,
+            height,
+            time,
+            pid,
+        })
+        .map(|_| ())
+    };
     assert_eq!(opened(1920, 1080, 40_000, 8191), Ok(()));
     assert_eq!(opened(640, 29, 40_000, 256), Err(refusal(1, 0)));
     assert_eq!(opened(u32::MAX, u32::MAX, 0, u32::MAX), Err(refusal(1, 0)));
@@ -112,16 +179,35 @@ fn refused_captures() {
     let is_refused = |capture: &[u8], expected: Refusal| {
         let mut sample = Sample::open(BLACK).unwrap();
         assert_eq!(sample.feed_capture(capture), Err(expected));
-        assert_eq!(sample.feed_capture(&[]), Err(expected), "a later feed repeats it");
-        assert_eq!(sample.feed_luma(&[0; 2 * PICTURE]), Ok(2 * PICTURE), "the other side goes on");
+        assert_eq!(
+            sample.feed_capture(&[]),
+            Err(expected),
+            "a later feed repeats it"
+        );
+        assert_eq!(
+            sample.feed_luma(&[0; 2 * PICTURE]),
+            Ok(2 * PICTURE),
+            "the other side goes on"
+        );
         assert_eq!(sealed(&sample), Err(expected));
     };
     is_refused(&[0xA1, 0xB2, 0xC3, 0xD4], refusal(5, 3));
     is_refused(&[&header[..20], &[101, 0, 0, 0]].concat(), refusal(6, 23));
-    is_refused(&[header.clone(), frame(0, 1_000_000, &[])].concat(), refusal(7, 31));
-    is_refused(&[header.clone(), frame(0, 0, &[0; 65_536])].concat(), refusal(8, 35));
-    let starts: Vec<u8> = (0..751u32).flat_map(|i| frame(i, 0, &carrying(&[packet(256, true, i as u8 % 16)]))).collect();
-    is_refused(&[header, starts].concat(), refusal(9, 24 + 750 * 246 + 16 + 42 + 3));
+    is_refused(
+        &[header.clone(), frame(0, 1_000_000, &[])].concat(),
+        refusal(7, 31),
+    );
+    is_refused(
+        &[header.clone(), frame(0, 0, &[0; 65_536])].concat(),
+        refusal(8, 35),
+    );
+    let starts: Vec<u8> = (0..751u32)
+        .flat_map(|i| frame(i, 0, &carrying(&[packet(256, true, i as u8 % 16)])))
+        .collect();
+    is_refused(
+        &[header, starts].concat(),
+        refusal(9, 24 + 750 * 246 + 16 + 42 + 3),
+    );
 }
 
 #[test]
@@ -142,7 +228,11 @@ fn capture_past_its_length() {
 fn refused_luma() {
     let mut sample = fed(&worked_capture(), &[7; 750 * PICTURE]);
     assert_eq!(sample.feed_luma(&[7]), Err(refusal(10, 675_000)));
-    assert_eq!(sample.feed_capture(&frame(11, 0, b"")), Ok(16), "the other side goes on");
+    assert_eq!(
+        sample.feed_capture(&frame(11, 0, b"")),
+        Ok(16),
+        "the other side goes on"
+    );
     assert_eq!(sealed(&sample), Err(refusal(10, 675_000)));
 }
 
@@ -150,14 +240,23 @@ fn refused_luma() {
 fn refused_seals() {
     let black = [0; 2 * PICTURE];
     assert_eq!(sealed(&fed(&[], &black)), Err(refusal(11, 0)));
-    assert_eq!(sealed(&fed(&worked_capture()[..100], &black)), Err(refusal(11, 100)));
+    assert_eq!(
+        sealed(&fed(&worked_capture()[..100], &black)),
+        Err(refusal(11, 100))
+    );
     assert_eq!(sealed(&fed(&file_header(), &black)), Err(refusal(12, 0)));
     assert_eq!(sealed(&fed(&worked_capture(), &[0])), Err(refusal(13, 1)));
     assert_eq!(sealed(&fed(&worked_capture(), &[])), Err(refusal(14, 0)));
     let mut short = [0xAA; 127];
-    assert_eq!(fed(&worked_capture(), &black).seal(&mut short), Err(refusal(15, 128)));
+    assert_eq!(
+        fed(&worked_capture(), &black).seal(&mut short),
+        Err(refusal(15, 128))
+    );
     assert_eq!(short, [0xAA; 127]);
-    assert_eq!(fed(&worked_capture(), &black).seal(&mut []), Err(refusal(15, 128)));
+    assert_eq!(
+        fed(&worked_capture(), &black).seal(&mut []),
+        Err(refusal(15, 128))
+    );
 }
 
 #[test]
@@ -194,13 +293,27 @@ fn a_clone_goes_on_by_itself() {
 
 #[test]
 fn words() {
-    let said: Vec<String> = (1..=19).map(|number| refusal(number, 0).meaning().to_string()).collect();
+    let said: Vec<String> = (1..=19)
+        .map(|number| refusal(number, 0).meaning().to_string())
+        .collect();
     for (i, words) in said.iter().enumerate() {
         assert!(!said[..i].contains(words), "two numbers say: {words}");
     }
-    assert_eq!(refusal(15, 128).to_string(), "refused 15: the buffer is shorter than the record (128 bytes needed)");
-    assert_eq!(refusal(6, 23).to_string(), "refused 6: the capture's link type is not 1, Ethernet (at byte 23)");
-    assert_eq!(refusal(14, 0).to_string(), "refused 14: there is no picture");
+    assert_eq!(
+        refusal(15, 128).to_string(),
+        "refused 15: the buffer is shorter than the record (128 bytes needed)"
+    );
+    assert_eq!(
+        refusal(6, 23).to_string(),
+        "refused 6: the capture's link type is not 1, Ethernet (at byte 23)"
+    );
+    assert_eq!(
+        refusal(14, 0).to_string(),
+        "refused 14: there is no picture"
+    );
     let error: Box<dyn std::error::Error> = refusal(12, 0).into();
-    assert_eq!(error.to_string(), "refused 12: the capture has no packet with the identifier");
+    assert_eq!(
+        error.to_string(),
+        "refused 12: the capture has no packet with the identifier"
+    );
 }
