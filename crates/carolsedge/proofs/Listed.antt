@@ -6,7 +6,9 @@ use mathlib.Core.List.{List, [], _∷_}
 use lib.ListN.{length, drop}
 use lib.Dec.{leb, ltb, eqb}
 use Rattle.rules.specs.declared.Opening.{Opening}
+use Rattle.rules.specs.declared.Header.{Header}
 use Rattle.rules.specs.declared.UnitRow.{UnitRow}
+use Rattle.rules.specs.declared.SceneRow.{SceneRow}
 use Rattle.rules.specs.Bytes.{pick, byte, word32}
 use Rattle.rules.specs.Refusals.{Fault, none, fault, _orElse_, answer}
 use Rattle.rules.specs.Opening.{goodSize, goodTime, goodPid, openingFault, openAnswer}
@@ -15,8 +17,8 @@ use Rattle.rules.specs.Units.{Arrival, beginnings}
 use Rattle.rules.specs.Capture.{allFrames, units, shownWanted, showing, earlier, tooLong, wrongMagic, wrongLink, wrongHeader, wrongFrame, beginsAt, tooManyUnits, captureFault, captureInside}
 use Rattle.rules.specs.Pictures.{pictureSize, pictureCount, lumaFault}
 use Rattle.rules.specs.Seal.{sealedLength, captureOpen, noPacket, lumaOpen, noPicture, noRoom, sealFault, captureAnswer, lumaAnswer, sealAnswer}
-use Rattle.rules.specs.Reading.{allowed, readingFault, rowFault, unitFault, sceneFault}
-use Rattle.carolsedge.specs.Numbers.{listed, numberOf}
+use Rattle.rules.specs.Reading.{allowed, readingFault, rowFault, unitFault, sceneFault, headerOf, unitAt, sceneAt, orHeader, orUnit, orScene, headerAnswer, unitAnswer, sceneAnswer}
+use Rattle.carolsedge.specs.Numbers.{listed, numberOf, headerNumber, unitNumber, sceneNumber}
 
 -- the number is in the table
 abbrev pub Numbered : Fault → Type 0
@@ -174,3 +176,27 @@ luma-number o l n = of-answer (openingFault o orElse lumaFault o l) n (of-either
 pub seal-number : (o : Opening) (c l : List ℕ) (n : ℕ) → numberOf (sealAnswer o c l n) ≡ numberIn (sealFault o c l n)
 unfolding sealAnswer
 seal-number o c l n = of-answer (sealFault o c l n) (sealedLength o c l) (seal o c l n)
+
+of-header-answer : (f : Fault) (h : Header) → Numbered f → headerNumber (orHeader f h) ≡ numberIn f
+of-header-answer none h x = refl
+of-header-answer (fault k p) h x = x
+
+of-unit-answer : (f : Fault) (u : UnitRow) → Numbered f → unitNumber (orUnit f u) ≡ numberIn f
+of-unit-answer none u x = refl
+of-unit-answer (fault k p) u x = x
+
+of-scene-answer : (f : Fault) (s : SceneRow) → Numbered f → sceneNumber (orScene f s) ≡ numberIn f
+of-scene-answer none s x = refl
+of-scene-answer (fault k p) s x = x
+
+pub header-number : (r : List ℕ) → headerNumber (headerAnswer r) ≡ numberIn (readingFault r)
+unfolding headerAnswer
+header-number r = of-header-answer (readingFault r) (headerOf r) (reading r)
+
+pub unit-number : (r : List ℕ) (j : ℕ) → unitNumber (unitAnswer r j) ≡ numberIn (unitFault r j)
+unfolding unitAnswer
+unit-number r j = of-unit-answer (unitFault r j) (unitAt r j) (unit r j)
+
+pub scene-number : (r : List ℕ) (j : ℕ) → sceneNumber (sceneAnswer r j) ≡ numberIn (sceneFault r j)
+unfolding sceneAnswer
+scene-number r j = of-scene-answer (sceneFault r j) (sceneAt r j) (scene r j)
