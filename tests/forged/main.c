@@ -1,7 +1,7 @@
 /* Calls every function of the C interface on forged states, records and figures. Every lent array, piece, buffer and record stands against a page that
- * cannot be read or written, in front of it or behind it, so a single byte outside ends the run; what is lent to be read only cannot be written, always or in
- * some of the calls; and what is left of a page is compared afterwards. A call that takes longer than LIMIT seconds, an answer that is not 0 to 19, a refusal that wrote to its buffer,
- * and an opening that answers something else than document 01 says end the run too.
+ * cannot be read or written, in front of it or behind it, so a single byte outside ends the run. What is lent to be read only cannot be written, always or
+ * in some of the calls, and what is left of a page is compared afterwards. A call that takes longer than LIMIT seconds, an answer that is not 0 to 19, a
+ * refusal that wrote to its buffer, and an opening that answers something else than document 01 says end the run too.
  *
  * Usage: forged CALLS SEED. Makes so many calls of each function, and prints what they answered.
  */
