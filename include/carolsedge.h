@@ -13,6 +13,7 @@
 #ifndef CAROLSEDGE_H
 #define CAROLSEDGE_H
 
+#include <stdbool.h>
 #include <stddef.h>
 #include <stdint.h>
 
@@ -104,6 +105,13 @@ static inline uint32_t carolsedge_sample_seal(const struct carolsedge_sample *s,
     uint8_t none = 0;
     return carolsedge_seal(s->capture, s->luma, length ? buffer : &none, length, value);
 }
+
+/* A whole list of calls after one opening, coded in a script: five 32-bit little-endian words W, H, d, PID and a rule edition, which is ignored; then calls, each
+ * a byte C or L, a 32-bit length n and n bytes (a feed of that side), or a byte S and a 32-bit length n (a seal into n bytes of 0xA5). The list ends where the
+ * script ends inside a call or another byte stands. What the opening and every call come to goes to out, one behind the other: a byte 0 (done) or 1 (refused);
+ * the result, or the refusal's number; 0, or its place, 64 bits each; and behind a seal's its whole buffer. False where there is no room for it all; out then
+ * stands. Proved: what is written is what the rules give for the whole list. */
+bool carolsedge_replay(const uint8_t *script, size_t length, uint8_t *out, size_t room);
 
 /* ---- a record */
 

@@ -3,7 +3,7 @@
  * in some of the calls, and what is left of a page is compared afterwards. A call that takes longer than LIMIT seconds, an answer that is not 0 to 19, a
  * refusal that wrote to its buffer, and an opening that answers something else than document 01 says end the run too.
  *
- * Usage: forged CALLS SEED. Makes so many calls of each function, and prints what they answered.
+ * Usage: forged CALLS SEED. Makes so many calls of each function (of replay, which makes several, a twentieth), and prints what they answered.
  */
 #define _GNU_SOURCE
 #include <inttypes.h>
@@ -22,8 +22,8 @@
 #define LIMIT 5 /* seconds that a call may take */
 #endif
 
-enum { OPEN, FEED_CAPTURE, FEED_LUMA, SEAL, READ_HEADER, READ_UNIT, READ_SCENE, FUNCTIONS };
-static const char *const name[FUNCTIONS] = {"open", "feed_capture", "feed_luma", "seal", "read_header", "read_unit", "read_scene"};
+enum { OPEN, FEED_CAPTURE, FEED_LUMA, SEAL, READ_HEADER, READ_UNIT, READ_SCENE, REPLAY, FUNCTIONS };
+static const char *const name[FUNCTIONS] = {"open", "feed_capture", "feed_luma", "seal", "read_header", "read_unit", "read_scene", "replay"};
 static uint64_t answers[FUNCTIONS][20], calls[FUNCTIONS], longest, seed;
 static volatile int under_way;
 static volatile sig_atomic_t ticks;
@@ -204,7 +204,7 @@ static void make_true(int i)
 
 /* ---- forging */
 
-static struct room capture, luma, sums, bins, picture, out, header, lent;
+static struct room capture, luma, sums, bins, picture, out, header, lent, script;
 
 /* The words of a lent array, by one way of forging. */
 static void forge(uint8_t *p, size_t size, const void *true_words, size_t word, int way)
@@ -424,6 +424,36 @@ static void call_readings(void)
         protect(&out, PROT_READ | PROT_WRITE);
 }
 
+/* A script of up to 12 calls, now and then wild or cut: whether it has room, and what stands where it has not. */
+static void call_replay(void)
+{
+    static uint8_t made[4096];
+    size_t n = 20;
+    for (size_t i = 0; i < 20; i++)
+        made[i] = (uint8_t)chance();
+    if (below(4))
+        put32(made, 15 + (uint32_t)below(60)), put32(made + 4, 30 + (uint32_t)below(30)), put32(made + 8, 40000), put32(made + 12, 256);
+    for (uint64_t i = below(12); i > 0; i--) {
+        size_t length = below(200);
+        made[n] = below(20) ? (uint8_t)"CLS"[below(3)] : (uint8_t)chance();
+        put32(made + n + 1, below(50) ? (uint32_t)length : (uint32_t)figure());
+        if (made[n] == 'S')
+            length = 0;
+        for (size_t k = 0; k < length; k++)
+            made[n + 5 + k] = (uint8_t)chance();
+        n += 5 + length;
+    }
+    if (below(4) == 0)
+        n = below(n + 1);
+    size_t room = below(2500);
+    memcpy(lend(&script, n), made, n);
+    uint8_t *buffer = lend(&out, room);
+    begin(REPLAY);
+    if (end(carolsedge_replay(at(&script), n, buffer, room) ? 0 : 1) && !untouched(buffer, room))
+        fail("a replay that has no room wrote to its buffer");
+    check_slack(&script), check_slack(&out);
+}
+
 /* A forged state, and a few calls on it. */
 static void round_of_calls(uint64_t most)
 {
@@ -438,6 +468,8 @@ static void round_of_calls(uint64_t most)
         call_open();
     for (int i = 0; i < 8 && calls[READ_HEADER] < most; i++)
         call_readings();
+    if (calls[REPLAY] < most / 20)
+        call_replay();
 }
 
 int main(int words, char **word)
@@ -450,8 +482,8 @@ int main(int words, char **word)
         make_true(i);
     make_pools();
     capture = room_of(sizeof truth->capture), luma = room_of(sizeof truth->luma), sums = room_of(sizeof truth->sums), bins = room_of(sizeof truth->bins);
-    picture = room_of(sizeof truth->picture), out = room_of(CAROLSEDGE_RECORD_MOST + 100), header = room_of(128), lent = room_of(128);
-    while (calls[SEAL] < most || calls[OPEN] < most || calls[READ_HEADER] < most)
+    picture = room_of(sizeof truth->picture), out = room_of(CAROLSEDGE_RECORD_MOST + 100), header = room_of(128), lent = room_of(128), script = room_of(4096);
+    while (calls[SEAL] < most || calls[OPEN] < most || calls[READ_HEADER] < most || calls[REPLAY] < most / 20)
         round_of_calls(most);
     for (int f = 0; f < FUNCTIONS; f++) {
         printf("forged: %-12s %" PRIu64 " calls; answers", name[f], calls[f]);

@@ -19,6 +19,7 @@ use Rattle.rules.specs.Reading.{orHeader, headerOf, readingFault, headerAnswer}
 use Rattle.record.specs.declared.reading.Opened.the-variants.{Accepted}
 use Rattle.record.specs.Opened.{openedAs}
 use Rattle.view.specs.Seen.{UnitSeen, SceneSeen}
+use Rattle.view.proofs.Counted.{counts-opened}
 use Rattle.carolsedge.specs.Numbers.{listed}
 use Rattle.carolsedge.specs.Figures.{figuresOf, unitFigures, sceneFigures}
 use Rattle.carolsedge.specs.Contract.{HeaderRead, UnitRead, SceneRead}
@@ -57,14 +58,14 @@ opened-with b f h e g =
 
 module _ (b f : List ℕ) (j : ℕ) (old : List ℕ) (a : UnitAnswer) (seen : UnitSeen b (getD f 0 0) (getD f 1 0) j a) where
   pub unit-done : (u : UnitRow) (new : List ℕ) → a ≡ of-unit.Given u → new ≡ unitFigures u → UnitRead b f j old 0 new
-  unit-done u new g n = record { answer = a; read = λ h e x. seen (opened-with b f h e x); numbered = rw g; given = rw g n }
+  unit-done u new g n = record { answer = a; read = λ h e x. let c = counts-opened b _ _ (opened-with b f h e x) in seen (c .0) (c .1); numbered = rw g; given = rw g n }
 
   pub unit-refused : (k p r : ℕ) → a ≡ of-unit.Refused k p → r ≡ listed k → UnitRead b f j old r old
-  unit-refused k p r g n = record { answer = a; read = λ h e x. seen (opened-with b f h e x); numbered = rw g n; given = rw g }
+  unit-refused k p r g n = record { answer = a; read = λ h e x. let c = counts-opened b _ _ (opened-with b f h e x) in seen (c .0) (c .1); numbered = rw g n; given = rw g }
 
 module _ (b f : List ℕ) (j : ℕ) (old : List ℕ) (a : SceneAnswer) (seen : SceneSeen b (getD f 0 0) (getD f 1 0) j a) where
   pub scene-done : (s : SceneRow) (new : List ℕ) → a ≡ of-scene.Given s → new ≡ sceneFigures s → SceneRead b f j old 0 new
-  scene-done s new g n = record { answer = a; read = λ h e x. seen (opened-with b f h e x); numbered = rw g; given = rw g n }
+  scene-done s new g n = record { answer = a; read = λ h e x. let c = counts-opened b _ _ (opened-with b f h e x) in seen (c .0) (c .1); numbered = rw g; given = rw g n }
 
   pub scene-refused : (k p r : ℕ) → a ≡ of-scene.Refused k p → r ≡ listed k → SceneRead b f j old r old
-  scene-refused k p r g n = record { answer = a; read = λ h e x. seen (opened-with b f h e x); numbered = rw g n; given = rw g }
+  scene-refused k p r g n = record { answer = a; read = λ h e x. let c = counts-opened b _ _ (opened-with b f h e x) in seen (c .0) (c .1); numbered = rw g n; given = rw g }

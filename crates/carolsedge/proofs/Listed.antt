@@ -10,13 +10,13 @@ use Rattle.rules.specs.declared.Header.{Header}
 use Rattle.rules.specs.declared.UnitRow.{UnitRow}
 use Rattle.rules.specs.declared.SceneRow.{SceneRow}
 use Rattle.rules.specs.Bytes.{pick, byte, word32}
-use Rattle.rules.specs.Refusals.{Fault, none, fault, _orElse_, answer}
+use Rattle.rules.specs.Refusals.{Fault, none, fault, unless, _orElse_, answer}
 use Rattle.rules.specs.Opening.{goodSize, goodTime, goodPid, openingFault, openAnswer}
 use Rattle.rules.specs.Frames.{microseconds, storedLength}
 use Rattle.rules.specs.Units.{Arrival, beginnings}
-use Rattle.rules.specs.Capture.{allFrames, units, shownWanted, showing, earlier, tooLong, wrongMagic, wrongLink, wrongHeader, wrongFrame, beginsAt, tooManyUnits, captureFault, captureInside}
+use Rattle.rules.specs.Capture.{allFrames, units, shownWanted, showing, earlier, tooLong, wrongMagic, wrongLink, wrongFrameHeader, wrongFrame, beginsAt, tooManyUnits, captureFault, captureInside}
 use Rattle.rules.specs.Pictures.{pictureSize, pictureCount, lumaFault}
-use Rattle.rules.specs.Seal.{sealedLength, captureOpen, noPacket, lumaOpen, noPicture, noRoom, sealFault, captureAnswer, lumaAnswer, sealAnswer}
+use Rattle.rules.specs.Seal.{sealedLength, captureUnfinished, noPacket, lumaUnfinished, noPicture, noRoom, sealFault, captureAnswer, lumaAnswer, sealAnswer}
 use Rattle.rules.specs.Reading.{allowed, readingFault, rowFault, unitFault, sceneFault, headerOf, unitAt, sceneAt, orHeader, orUnit, orScene, headerAnswer, unitAnswer, sceneAnswer}
 use Rattle.carolsedge.specs.Numbers.{listed, numberOf, headerNumber, unitNumber, sceneNumber}
 
@@ -35,6 +35,10 @@ of-either : (f g : Fault) → Numbered f → Numbered g → Numbered (f orElse g
 of-either none g x y = y
 of-either (fault k p) g x y = x
 
+of-unless : (b : Bool) (k : ℕ) → listed k ≡ k → Numbered (unless b k)
+of-unless true k x = tt
+of-unless false k x = x
+
 of-earlier : (f g : Fault) → Numbered f → Numbered g → Numbered (earlier f g)
 of-earlier none g x y = y
 of-earlier (fault k p) none x y = x
@@ -49,13 +53,11 @@ of-showing size k place wrong x = of-pick (ltb place size && wrong) (fault k pla
 pub opening : (o : Opening) → Numbered (openingFault o)
 unfolding openingFault
 opening o =
-    let pid = pick (goodPid (o .pid)) none (fault 3 0) in
-    let time = pick (goodTime (o .time)) pid (fault 2 0) in
-    of-pick (goodSize (o .width) (o .height)) time (fault 1 0)
-    (of-pick (goodTime (o .time)) pid (fault 2 0) (of-pick (goodPid (o .pid)) none (fault 3 0) tt refl) refl) refl
+    of-either (unless (goodSize (o .width) (o .height)) 1) _ (of-unless (goodSize (o .width) (o .height)) 1 refl)
+    (of-either (unless (goodTime (o .time)) 2) _ (of-unless (goodTime (o .time)) 2 refl) (of-unless (goodPid (o .pid)) 3 refl))
 
-of-header : (size place : ℕ) (f : List ℕ) → Numbered (wrongHeader size place f)
-unfolding wrongHeader
+of-header : (size place : ℕ) (f : List ℕ) → Numbered (wrongFrameHeader size place f)
+unfolding wrongFrameHeader
 of-header size place f =
     of-earlier (showing size 7 (place + 7) (ltb 999999 (microseconds f))) (showing size 8 (place + 11) (ltb 65535 (storedLength f)))
     (of-showing size 7 (place + 7) (ltb 999999 (microseconds f)) refl) (of-showing size 8 (place + 11) (ltb 65535 (storedLength f)) refl)
@@ -64,7 +66,7 @@ of-frames : (size place : ℕ) (fs : List (List ℕ)) → Numbered (wrongFrame s
 unfolding wrongFrame
 of-frames size place [] = tt
 of-frames size place (f ∷ fs) =
-    of-earlier (wrongHeader size place f) (wrongFrame size (place + length f) fs) (of-header size place f) (of-frames size (place + length f) fs)
+    of-earlier (wrongFrameHeader size place f) (wrongFrame size (place + length f) fs) (of-header size place f) (of-frames size (place + length f) fs)
 
 of-begins : (xs : List Arrival) → Numbered (beginsAt xs)
 of-begins [] = tt
@@ -123,25 +125,21 @@ of-ends false true false true (u ∷ us) c l n = refl
 of-ends false true false false (u ∷ us) c l n = tt
 
 pub seal : (o : Opening) (c l : List ℕ) (n : ℕ) → Numbered (sealFault o c l n)
-unfolding sealFault captureOpen lumaOpen noPicture noRoom
+unfolding sealFault captureUnfinished lumaUnfinished noPicture noRoom
 seal o c l n =
     let size = sealedLength o c l in
     let ends = of-ends (captureInside c) (eqb (length l % pictureSize o) 0) (eqb (pictureCount o l) 0) (ltb n size) (units o c) (length c) (length l) size in
     of-either (openingFault o) _ (opening o) (of-either (captureFault o c) _ (capture o c) (of-either (lumaFault o l) _ (luma o l) ends))
 
-of-three : (a b c : Bool) → Numbered (pick a (fault 16 0) (pick b (pick c none (fault 18 0)) (fault 17 0)))
-of-three true b c = refl
-of-three false false c = refl
-of-three false true true = tt
-of-three false true false = refl
-
 pub reading : (r : List ℕ) → Numbered (readingFault r)
 unfolding readingFault
-reading r = of-three (ltb (length r) 64) (eqb (word32 r 0) 1) (allowed r)
+reading r =
+    of-either (unless (leb 64 (length r)) 16) _ (of-unless (leb 64 (length r)) 16 refl)
+    (of-either (unless (eqb (word32 r 0) 1) 17) _ (of-unless (eqb (word32 r 0) 1) 17 refl) (of-unless (allowed r) 18 refl))
 
 of-row : (rows j : ℕ) → Numbered (rowFault rows j)
 unfolding rowFault
-of-row rows j = of-pick (ltb j rows) none (fault 19 0) tt refl
+of-row rows j = of-unless (ltb j rows) 19 refl
 
 pub unit : (r : List ℕ) (j : ℕ) → Numbered (unitFault r j)
 unfolding unitFault

@@ -12,7 +12,8 @@ use Rattle.carolsedge.specs.Calls.{Left, leftOf, feedsCapture, feedsLuma
 
 record Under (st : State) (cs : List Call) (ls : List Left) : Type 0 where
   outcomes : List Outcome
-  runs : of-sample.Runs st cs outcomes
+  end : State
+  runs : of-sample.Runs st cs outcomes end
   left : ls ≡ map leftOf outcomes
 
 -- one call more, of an answer a with these numbers
@@ -25,11 +26,12 @@ sealed-more : (n v : ℕ) (b : List ℕ) (a : Answer) (ls : List Left) (os : Lis
 sealed-more n v b a ls os k x l = rw (k, x, l)
 
 under : {st : State} {cs : List Call} {ls : List Left} → MadeAll st cs ls → Under st cs ls
-under done = record { outcomes = []; runs = of-sample.done; left = refl }
+under (done {st = st}) = record { outcomes = []; end = st; runs = of-sample.done; left = refl }
 under (next (feedsCapture p) r) =
     let u = under r in
     record {
       outcomes = fed (p .answer) ∷ u .outcomes;
+      end = u .end;
       runs = of-sample.next (of-sample.feedsCapture (p .made)) (u .runs);
       left = fed-more _ _ (p .answer) _ (u .outcomes) (p .numbered) (p .valued) (u .left);
     }
@@ -37,6 +39,7 @@ under (next (feedsLuma p) r) =
     let u = under r in
     record {
       outcomes = fed (p .answer) ∷ u .outcomes;
+      end = u .end;
       runs = of-sample.next (of-sample.feedsLuma (p .made)) (u .runs);
       left = fed-more _ _ (p .answer) _ (u .outcomes) (p .numbered) (p .valued) (u .left);
     }
@@ -44,6 +47,7 @@ under (next (seals {buffer′ = after} p) r) =
     let u = under r in
     record {
       outcomes = sealedInto (p .answer) after ∷ u .outcomes;
+      end = u .end;
       runs = of-sample.next (of-sample.seals (p .made)) (u .runs);
       left = sealed-more _ _ after (p .answer) _ (u .outcomes) (p .numbered) (p .valued) (u .left);
     }
@@ -51,5 +55,5 @@ under (next (seals {buffer′ = after} p) r) =
 pub every-call : EveryList
 every-call o number st cs ls p r =
     let u = under r in
-    let says = every-list o (p .answer) st cs (u .outcomes) (p .made) (u .runs) in
+    let says = every-list o (p .answer) st cs (u .outcomes) (u .end) (p .made) (u .runs) in
     record { opening = p .numbered ∙ ap numberOf (says .opening); left = u .left ∙ ap (map leftOf) (says .outcomes) }

@@ -1,6 +1,7 @@
 // The calls as C functions. A slice goes as a pointer and a length, an array as a pointer. Each function is thin: it hands its memory to the call of `sample`,
 // `record` or `view` and splits the answer into numbers. A number is 0 where the call is done, and otherwise that of document 01's table.
 ghost use mathlib.Core.Path.{_≡_};
+ghost use Rattle.replay.specs.Script.{Replayed};
 ghost use Rattle.carolsedge.specs.Numbers.{listed, numberOf, valueOf};
 ghost use Rattle.carolsedge.specs.Figures.{figuresOf, unitFigures, sceneFigures};
 ghost use Rattle.carolsedge.specs.Contract.{Opened, FedCapture, FedLuma, Sealed, HeaderRead, UnitRead, SceneRead};
@@ -115,6 +116,15 @@ pub extern "C" fn carolsedge_seal(
     let a = sample::seal(capture, luma, buffer);
     *value = value_of(a);
     number_of(a)
+}
+
+// Opens, feeds and seals as a script says (include/carolsedge.h has its form), and writes what every call comes to. False, and out stands as it was, where there is no
+// room for it all.
+#[no_mangle]
+pub extern "C" fn carolsedge_replay(script: &[u8], out: &mut [u8]) -> bool
+    ensures { λ r. ⌜ Replayed (now (script .entry)) (now (out .entry)) r (now (out .exit)) ⌝ }
+{
+    replay::replay(script, out)
 }
 
 // ---- a record
