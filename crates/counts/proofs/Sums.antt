@@ -17,7 +17,6 @@ use Rattle.rules.proofs.Laws.Onward.{header-alone}
 use Rattle.rules.proofs.Laws.Clear.{clear-of, long-of}
 use Rattle.rules.proofs.Laws.Bounds.{frame-count-few, skipped-few, bad-few, wanted-few}
 use Rattle.units.specs.State as table
-use Rattle.rules.proofs.Laws.Sizes.{good}
 use Rattle.units.proofs.Steps.{totals-exact}
 use Rattle.capture.specs.declared.Meter.{Meter}
 use Rattle.capture.specs.State.{Core, Head, Stands, refused, head, live}
@@ -25,16 +24,11 @@ use Rattle.capture.proofs.Files.{header-bad, header-wanted, none-skipped}
 use Rattle.counts.specs.declared.Summary.{Summary}
 use Rattle.counts.specs.Summary.{insideBy, summaryOf, Figures, SumOf}
 
--- PID of an opening that is not refused
-small-pid : (o : Opening) → openingFault o ≡ none → o .pid ≤ 8191
-small-pid o e = good o e .pid-high
-
 -- what a state that has refused nothing says, in the file header or behind it
 record Plain (w : List ℕ) (s : Meter) (o : Opening) (joined : List ℕ) : Type 0 where
   status : s .status ≡ 0
   good : openingFault o ≡ none
   clear : captureFault o joined ≡ none
-  pid : s .pid ≡ o .pid
   fed : s .fed ≡ length joined
   frames : s .frames ≡ frameCount joined
   skipped : s .skipped ≡ skippedCount joined
@@ -50,7 +44,6 @@ plain-head {w} {s} {o} {joined} v =
       status = v .status;
       good = v .good;
       clear = v .clear;
-      pid = v .pid;
       fed = v .fed;
       frames = rw (header-alone joined h .0) (v .frames);
       skipped = rw (header-alone joined h .0) (v .skipped ∙ sym none-skipped);
@@ -66,7 +59,6 @@ plain-live {w} {s} {o} {joined} h v =
       status = v .status;
       good = v .good;
       clear = v .clear;
-      pid = v .pid;
       fed = v .fed;
       frames = v .frames;
       skipped = v .skipped;
@@ -83,7 +75,6 @@ figures {w} {s} {o} {joined} v =
     let b = skipped-few joined in
     let c = bad-few o joined in
     let d = wanted-few o joined in
-    let p = small-pid o (v .good) in
     let t = v .table in
     let few : length (wholeWanted o joined) < 2 ^ 24 = omega arith in
     record {
@@ -92,7 +83,6 @@ figures {w} {s} {o} {joined} v =
       limit = l;
       fed = v .fed;
       inside = v .inside;
-      pid = let e = v .pid in omega arith;
       frames = let e = v .frames in omega arith;
       skipped = let e = v .skipped in omega arith;
       bad = let e = v .bad in omega arith;

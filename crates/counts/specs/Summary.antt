@@ -29,11 +29,10 @@ summaryOf s =
       place = s .place;
       fed = s .fed;
       inside = insideBy (s .fed) (s .at);
-      pid = s .pid % 4294967296;
-      frames = s .frames % 4294967296;
-      skipped = s .skipped % 4294967296;
-      bad = s .bad % 4294967296;
-      units = s .units .count % 4294967296;
+      frames = s .frames % 2 ^ 32;
+      skipped = s .skipped % 2 ^ 32;
+      bad = s .bad % 2 ^ 32;
+      units = s .units .count % 2 ^ 32;
       packets = s .units .packets;
       lost = s .units .lost;
     }
@@ -49,7 +48,6 @@ pub record Figures (w : List ℕ) (o : Opening) (joined : List ℕ) (r : Summary
   pub limit : length joined ≤ 268435456
   pub fed : r .fed ≡ length joined
   pub inside : r .inside ≡ captureInside joined
-  pub pid : r .pid ≡ o .pid
   pub frames : r .frames ≡ frameCount joined
   pub skipped : r .skipped ≡ skippedCount joined
   pub bad : r .bad ≡ badCount o joined

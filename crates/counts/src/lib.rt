@@ -1,29 +1,21 @@
 // What a seal needs of the capture side, read off its lent words.
 ghost use mathlib.Core.Path.{_≡_};
-ghost use Prim.Native.Nat.{_%_};
 ghost use Rattle.counts.specs.Summary.{insideBy, summaryOf, SumsUp};
 use capture::Meter;
 
-// The refusal that stands (number 0: none) and its place; if none stands: the bytes fed, whether they end inside the file header or a frame, PID,
+// The refusal that stands (number 0: none) and its place; if none stands: the bytes fed, whether they end inside the file header or a frame, the
 // frames, skipped frames, bad packets, units, and over all units the packets and those lost.
 pub struct Summary {
     pub number: u64,
     pub place: u64,
     pub fed: u64,
     pub inside: bool,
-    pub pid: u32,
     pub frames: u32,
     pub skipped: u32,
     pub bad: u32,
     pub units: u32,
     pub packets: u64,
     pub lost: u64,
-}
-
-fn narrow(x: u64) -> u32
-    ensures { λ r. ⌜ r ≡ x % 4294967296 ⌝ }
-{
-    (x % 4294967296) as u32
 }
 
 fn is_inside(fed: u64, at: u64) -> bool
@@ -44,11 +36,10 @@ fn summary_of(s: Meter) -> Summary
         place: s.place,
         fed: s.fed,
         inside: is_inside(s.fed, s.at),
-        pid: narrow(s.pid),
-        frames: narrow(s.frames),
-        skipped: narrow(s.skipped),
-        bad: narrow(s.bad),
-        units: narrow(u.count),
+        frames: figures::low(s.frames),
+        skipped: figures::low(s.skipped),
+        bad: figures::low(s.bad),
+        units: figures::low(u.count),
         packets: u.packets,
         lost: u.lost,
     }

@@ -7,6 +7,7 @@ pub mod opening;
 pub use changes::change;
 pub use gaps::gap_loss;
 pub use numbers::apart;
+pub use numbers::low;
 pub use numbers::smaller;
 pub use numbers::wide;
 pub use opening::Sizes;

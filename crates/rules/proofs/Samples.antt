@@ -118,7 +118,7 @@ samples =
       rule = run (opened 30 30 40000 256) (feedCapture oneFrame ∷ feedLuma (replicate 1800 16) ∷ seal (replicate 130 0xA5) ∷ []);
       paper = 0 ∷ 0 ∷ 0 ∷ 270 ∷ 0 ∷ 1800 ∷ 0 ∷ 128 ∷ showRecord ++ 0xA5 ∷ 0xA5 ∷ [];
     }
-    -- a cut from black to white at picture 3 of 6: s is 1,000,000 there, and q too, since every pixel rises alike, is 0
+    -- a cut from black to white at picture 3 of 6: s is 1,000,000 there, and q is 0, since every pixel rises alike
     ∷ record {
       rule = sealed small oneFrame (replicate 1350 16 ++ replicate 1350 235);
       paper =

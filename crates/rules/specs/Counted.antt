@@ -35,6 +35,7 @@ pub record Adds (o : Opening) (px : List ℕ) (j : ℕ) : Type 0 where
   pub own : getD (getD (histograms o px) theTile []) theBin 0 ≡ otherBin o theTile theBin j px + 1
   pub others : (t b : ℕ) → t < 9 → b < 16 → ((t ≡ theTile) × (b ≡ theBin) → ⊥) → getD (getD (histograms o px) t []) b 0 ≡ otherBin o t b j px
 
+-- every pixel of a picture does, and so the bins of the nine histograms total w × h
 pub record Counted (o : Opening) (px : List ℕ) : Type 0 where
   pub size : length px ≡ pixelCount o
   pub adds : (j : ℕ) → j < pixelCount o → Adds o px j

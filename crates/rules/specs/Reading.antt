@@ -137,16 +137,3 @@ unitAnswer r j = orUnit (unitFault r j) (unitAt r j)
 
 unfoldable pub sceneAnswer : List ℕ → ℕ → SceneAnswer
 sceneAnswer r j = orScene (sceneFault r j) (sceneAt r j)
-
--- document 01's number and place of each answer's case: none where it is not refused
-abbrev pub refusalOfHeader : HeaderAnswer → Fault
-refusalOfHeader (of-header.Given h) = none
-refusalOfHeader (of-header.Refused k p) = fault k p
-
-abbrev pub refusalOfUnit : UnitAnswer → Fault
-refusalOfUnit (of-unit.Given u) = none
-refusalOfUnit (of-unit.Refused k p) = fault k p
-
-abbrev pub refusalOfScene : SceneAnswer → Fault
-refusalOfScene (of-scene.Given s) = none
-refusalOfScene (of-scene.Refused k p) = fault k p

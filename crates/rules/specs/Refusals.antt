@@ -29,8 +29,3 @@ fault k p orElse f = fault k p
 abbrev pub answer : Fault → ℕ → Answer
 answer none n = Done n
 answer (fault k p) n = Refused k p
-
--- document 01's number and place of an answer's case: none where it is not refused
-abbrev pub refusalOf : Answer → Fault
-refusalOf (Done n) = none
-refusalOf (Refused k p) = fault k p

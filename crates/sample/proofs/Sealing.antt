@@ -104,14 +104,12 @@ module _ (st : State) (o : Opening) (fedCapture fedLuma : List ℕ) (m : Means s
             unfolding noPicture
             no-picture n h = behind n ∙ rw (closed, packet, ended, eq-eqb (pictureCount o fedLuma) 0 (sym (known .pictures) ∙ h))
 
-            pub ready : (l .pictures ≡ 0 → ⊥) → Ready (st .capture) (st .luma) o fedCapture fedLuma c (l .pictures)
+            pub ready : (l .pictures ≡ 0 → ⊥) → Ready (st .capture) (st .luma) o fedCapture fedLuma c l
             unfolding noPicture
             ready h =
                 record {
                   figures = fig;
-                  seen = l;
                   known = known;
-                  same = refl;
                   units = omega arith;
                   some = omega arith;
                   free = λ n. behind n ∙ rw (closed, packet, ended, ne-eqb (pictureCount o fedLuma) 0 (λ e. h (known .pictures ∙ e)));
@@ -163,7 +161,7 @@ module _ (capture luma before : List ℕ) (c : Summary) (l : of-luma.Summary) (c
             post-no-picture e h =
                 refuse-post capture luma before a _ _ e (λ st o fc fl x y m. no-picture st o fc fl m c l (cp-of (st .capture) x) (lp-of (st .luma) y) h₁ h₂ h₃ h₄ h₅ (length before) h)
 
-            pub post-written : (after : List ℕ) (o : Opening) → o ≡ openingIn luma → (l .pictures ≡ 0 → ⊥) → WritePost capture luma o c (l .pictures) before a after →
+            pub post-written : (after : List ℕ) (o : Opening) → o ≡ openingIn luma → (l .pictures ≡ 0 → ⊥) → WritePost capture luma o c l before a after →
                 SealPost capture luma before a after
             post-written after o e h w =
                 record {
@@ -178,6 +176,6 @@ module _ (capture luma before : List ℕ) (c : Summary) (l : of-luma.Summary) (c
                     (a ≡ sealAnswer p fc fl (length before)) × (after ≡ sealedBuffer p fc fl before)
                 wrote st p fc fl x y m =
                     let r = ready st p fc fl m c l (cp-of (st .capture) x) (lp-of (st .luma) y) h₁ h₂ h₃ h₄ h₅ h in
-                    let r₁ = subst (λ (k : List ℕ). Ready k (st .luma) p fc fl c (l .pictures)) x r in
-                    let r₂ = subst (λ (k : List ℕ). Ready capture k p fc fl c (l .pictures)) y r₁ in
-                    subst (λ (q : Opening). WritePost capture luma q c (l .pictures) before a after) (same st p fc fl y m) w fc fl r₂
+                    let r₁ = subst (λ (k : List ℕ). Ready k (st .luma) p fc fl c l) x r in
+                    let r₂ = subst (λ (k : List ℕ). Ready capture k p fc fl c l) y r₁ in
+                    subst (λ (q : Opening). WritePost capture luma q c l before a after) (same st p fc fl y m) w fc fl r₂

@@ -26,15 +26,19 @@ use Rattle.rules.specs.Scenes.{scenesOf}
 use Rattle.rules.specs.Index.{indexOf, indexBits}
 use Rattle.rules.specs.Record.{recordLength, recordBytes}
 use Rattle.rules.specs.Seal.{reduced, scenesIn, scenes, unrepeated, indexFrom, index, header, sealed, sealedLength, over, noRoom, sealFault, sealAnswer, sealedBuffer}
+use Rattle.rules.proofs.Laws.Lists.{count-few}
+use Rattle.rules.proofs.Laws.Counted.{reduced-length}
 use Rattle.rules.proofs.Laws.Sizes.{good}
 use Rattle.rules.proofs.Laws.Scenes.{pictures-most}
 use Rattle.rules.proofs.Laws.UnitsMore.{allPackets, allLost, packets-total, lost-small, units-none}
 use Rattle.index.specs.Counts.{Counts}
 use Rattle.scenes.specs.Words.{Holds}
-use Rattle.scenes.specs.Contract.{CountPost, FreshPost}
+use Rattle.scenes.specs.Contract.{CountPost}
 use Rattle.scenes.proofs.Sample.{sample-holds}
 use Rattle.sealing.specs.Contract.{RecordWritten}
+use Rattle.history.proofs.Laws.{length-repeats}
 use Rattle.counts.specs.declared.Summary.{Summary}
+use Rattle.luma.specs.declared.Summary as of-luma
 use Rattle.sample.specs.Contract.{BitsOf, HeaderOf, Ready}
 
 some-packet : (ps : List Packet) → 1 ≤ length (unitsOf ps) → 1 ≤ length ps
@@ -51,12 +55,15 @@ repeatsOf o fedLuma = repeats (reduced o fedLuma)
 abbrev changesOf : Opening → List ℕ → List ℕ
 changesOf o fedLuma = changes (reduced o fedLuma)
 
-module _ (capture luma : List ℕ) (o : Opening) (fedCapture fedLuma : List ℕ) (c : Summary) (pictures : ℕ) (r : Ready capture luma o fedCapture fedLuma c pictures) where
+module _ (capture luma : List ℕ) (o : Opening) (fedCapture fedLuma : List ℕ) (c : Summary) (l : of-luma.Summary) (r : Ready capture luma o fedCapture fedLuma c l) where
+  abbrev pictures : ℕ
+  pictures = l .pictures
+
   opened-well : o .time < 2 ^ 32
   opened-well = omega (arith, good o (r .known .opened) .time-high)
 
   pictures-are : pictures ≡ pictureCount o fedLuma
-  pictures-are = r .same ∙ r .known .pictures
+  pictures-are = r .known .pictures
 
   holds : Holds luma pictures (scoresOf o fedLuma) (repeatsOf o fedLuma) (changesOf o fedLuma)
   holds =
@@ -102,20 +109,20 @@ module _ (capture luma : List ℕ) (o : Opening) (fedCapture fedLuma : List ℕ)
     lost-are : c .lost ≡ allLost (unitsOf (wholeWanted o fedCapture))
     lost-are = r .figures .lost ∙ ap allLost units-are
 
-    pub header-is : (h : Header) → HeaderOf luma o c pictures n h → h ≡ header o fedCapture fedLuma
+    pub header-is : (h : Header) → HeaderOf o c pictures (l .fresh) n h → h ≡ header o fedCapture fedLuma
     unfolding header index indexFrom unrepeated
     header-is h e =
         let few = r .figures .few in
         let ps = wholeWanted o fedCapture in
-        let f : e .fresh ≡ count not (repeats (reduced o fedLuma)) = e .counted .fresh (scoresOf o fedLuma) (repeatsOf o fedLuma) (changesOf o fedLuma) holds in
-        let fl = e .counted .most in
+        let f : l .fresh ≡ count not (repeats (reduced o fedLuma)) = r .known .fresh in
+        let few-fresh : l .fresh ≤ pictures = omega (arith, f, count-few not (repeatsOf o fedLuma), length-repeats (reduced o fedLuma), reduced-length o fedLuma, pictures-are) in
         let fm = few-pictures in
         let lo = lost-small ps in
-        let g₁ : e .fresh % 2 ^ 32 ≡ e .fresh = mod-eq-of-lt (omega arith) in
+        let g₁ : l .fresh % 2 ^ 32 ≡ l .fresh = mod-eq-of-lt (omega arith) in
         let g₂ : c .packets % 2 ^ 32 ≡ c .packets = mod-eq-of-lt (omega (arith, packets-are)) in
         let g₃ : c .lost % 2 ^ 32 ≡ c .lost = mod-eq-of-lt (omega (arith, lost-are)) in
         let some = some-packet ps (omega (arith, r .units, r .figures .units, ap length units-are)) in
-        let k : Counts (e .fresh % 2 ^ 32) pictures (c .packets % 2 ^ 32) (c .lost % 2 ^ 32) =
+        let k : Counts (l .fresh % 2 ^ 32) pictures (c .packets % 2 ^ 32) (c .lost % 2 ^ 32) =
         record {
           some-pictures = r .some;
           of-them = omega (arith, g₁);
@@ -125,7 +132,7 @@ module _ (capture luma : List ℕ) (o : Opening) (fedCapture fedLuma : List ℕ)
           few-lost = omega (arith, g₃, lost-are);
         }
         in
-        let ix : h .index ≡ indexBits (indexOf (e .fresh % 2 ^ 32) pictures (c .packets % 2 ^ 32) (c .lost % 2 ^ 32)) = e .index k in
+        let ix : h .index ≡ indexBits (indexOf (l .fresh % 2 ^ 32) pictures (c .packets % 2 ^ 32) (c .lost % 2 ^ 32)) = e .index k in
         e .is ∙ rw (ix, g₁, g₂, g₃, f, r .figures .units, count-is, pictures-are, r .figures .frames, r .figures .skipped, r .figures .bad, r .figures .packets, r .figures .lost)
 
     record-is : (before after : List ℕ) → RecordWritten capture luma (header o fedCapture fedLuma) before after →
@@ -138,7 +145,7 @@ module _ (capture luma : List ℕ) (o : Opening) (fedCapture fedLuma : List ℕ)
         ∙ ap (λ (us : List UnitRow). over (recordBytes hd us (scenesOf (o .time) (scoresOf o fedLuma) (repeatsOf o fedLuma) (changesOf o fedLuma))) before) (sym units-are)
         ∙ ap (λ (xs : List SceneRow). over (recordBytes hd (units o fedCapture) xs) before) (sym scenes-are)
 
-    pub written-post : (before after : List ℕ) (h : Header) (a : Answer) → HeaderOf luma o c pictures n h → RecordWritten capture luma h before after →
+    pub written-post : (before after : List ℕ) (h : Header) (a : Answer) → HeaderOf o c pictures (l .fresh) n h → RecordWritten capture luma h before after →
         64 + 32 * (c .units + n) ≤ length before → a ≡ Done (64 + 32 * (c .units + n)) →
         (a ≡ sealAnswer o fedCapture fedLuma (length before)) × (after ≡ sealedBuffer o fedCapture fedLuma before)
     unfolding sealAnswer sealedBuffer noRoom sealed

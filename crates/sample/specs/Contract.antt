@@ -10,7 +10,6 @@ use Rattle.rules.specs.Opening.{openAnswer}
 use Rattle.rules.specs.Index.{indexOf, indexBits}
 use Rattle.rules.specs.Seal.{sealedLength, noRoom, sealFault, sealAnswer, sealedBuffer}
 use Rattle.index.specs.Counts.{Counts}
-use Rattle.scenes.specs.Contract.{FreshPost}
 use Rattle.counts.specs.declared.Summary.{Summary}
 use Rattle.counts.specs.Summary.{Figures}
 use Rattle.luma.specs.declared.Summary as of-luma
@@ -51,23 +50,19 @@ headerBy o c pictures scenes index =
       index = index;
     }
 
-pub record HeaderOf (luma : List ℕ) (o : Opening) (c : Summary) (pictures scenes : ℕ) (h : Header) : Type 0 where
-  pub fresh : ℕ
-  pub counted : FreshPost luma pictures fresh
+pub record HeaderOf (o : Opening) (c : Summary) (pictures fresh scenes : ℕ) (h : Header) : Type 0 where
   pub is : h ≡ headerBy o c pictures scenes (h .index)
   pub index : BitsOf (fresh % 2 ^ 32) pictures (c .packets % 2 ^ 32) (c .lost % 2 ^ 32) (h .index)
 
 -- nothing but a short buffer refuses a seal of what the words stand for
-pub record Ready (capture luma : List ℕ) (o : Opening) (fedCapture fedLuma : List ℕ) (c : Summary) (pictures : ℕ) : Type 0 where
+pub record Ready (capture luma : List ℕ) (o : Opening) (fedCapture fedLuma : List ℕ) (c : Summary) (l : of-luma.Summary) : Type 0 where
   pub figures : Figures capture o fedCapture c
-  pub seen : of-luma.Summary
-  pub known : Known luma o fedLuma seen
-  pub same : pictures ≡ seen .pictures
+  pub known : Known luma o fedLuma l
   pub units : 1 ≤ c .units
-  pub some : 1 ≤ pictures
+  pub some : 1 ≤ l .pictures
   pub free : (n : ℕ) → sealFault o fedCapture fedLuma n ≡ noRoom n (sealedLength o fedCapture fedLuma)
 
-abbrev pub WritePost : List ℕ → List ℕ → Opening → Summary → ℕ → List ℕ → Answer → List ℕ → Type 0
-WritePost capture luma o c pictures before a after =
-    (fedCapture fedLuma : List ℕ) → Ready capture luma o fedCapture fedLuma c pictures →
+abbrev pub WritePost : List ℕ → List ℕ → Opening → Summary → of-luma.Summary → List ℕ → Answer → List ℕ → Type 0
+WritePost capture luma o c l before a after =
+    (fedCapture fedLuma : List ℕ) → Ready capture luma o fedCapture fedLuma c l →
     (a ≡ sealAnswer o fedCapture fedLuma (length before)) × (after ≡ sealedBuffer o fedCapture fedLuma before)

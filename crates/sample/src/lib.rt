@@ -1,7 +1,6 @@
 // A stream sample: opened, fed on two sides, sealed. Its state is memory that the caller lends, in arrays of fixed sizes: the capture side's words, and the luma
 // side's words, block sums, bins and picture. Every call is safe and ends on any contents of them, and expects no checking by its caller.
 ghost use mathlib.Core.Path.{_≡_};
-ghost use Prim.Native.Nat.{_%_};
 ghost use Rattle.capture.specs.Contract as side-capture;
 ghost use Rattle.luma.specs.Contract as side-luma;
 ghost use Rattle.sample.specs.Contract.{OpenPost, SealPost, BitsOf, HeaderOf, WritePost};
@@ -57,12 +56,6 @@ fn refused(number: u64, place: u64) -> Answer
     }
 }
 
-fn low(x: u64) -> u32
-    ensures { λ r. ⌜ r ≡ x % 4294967296 ⌝ }
-{
-    (x % 4294967296) as u32
-}
-
 // The bits of the index of counts that a seal can have; 0 of any others.
 fn bits_of(unrepeated: u32, pictures: u32, packets: u32, lost: u32) -> u64
     ensures { λ r. ⌜ BitsOf unrepeated pictures packets lost r ⌝ }
@@ -80,13 +73,13 @@ fn bits_of(unrepeated: u32, pictures: u32, packets: u32, lost: u32) -> u64
     index::index_bits(i)
 }
 
-// The header's figures.
-fn header_of(luma: &[u64; 1600], o: Opening, c: Summary, pictures: u32, scenes: u32) -> Header
-    ensures { λ r. ⌜ HeaderOf (now (luma .entry)) o c pictures scenes r ⌝ }
+// The header's figures, with so many pictures of which `fresh` are not repeated.
+fn header_of(o: Opening, c: Summary, pictures: u32, fresh: u64, scenes: u32) -> Header
+    ensures { λ r. ⌜ HeaderOf o c pictures fresh scenes r ⌝ }
 {
-    let unrepeated = low(scenes::unrepeated(luma, pictures as usize));
-    let packets = low(c.packets);
-    let lost = low(c.lost);
+    let unrepeated = figures::low(fresh);
+    let packets = figures::low(c.packets);
+    let lost = figures::low(c.lost);
     let index = bits_of(unrepeated, pictures, packets, lost);
     Header {
         units: c.units,
@@ -110,23 +103,23 @@ fn write(
     luma: &[u64; 1600],
     o: Opening,
     c: Summary,
-    pictures: u64,
+    l: luma::Summary,
 ) -> Answer
-    ensures { λ r. ⌜ WritePost (now (capture .entry)) (now (luma .entry)) o c pictures (now (buffer .entry)) r (now (buffer .exit)) ⌝ }
+    ensures { λ r. ⌜ WritePost (now (capture .entry)) (now (luma .entry)) o c l (now (buffer .entry)) r (now (buffer .exit)) ⌝ }
 {
     if 750 < c.units {
         return refused(12, 0);
     }
-    if 750 < pictures {
+    if 750 < l.pictures {
         return refused(14, 0);
     }
-    let n = pictures as usize;
+    let n = l.pictures as usize;
     let scenes = scenes::count(luma, n, o.time as u64);
     let size = 64 + 32 * (c.units as usize + scenes);
     if buffer.len() < size {
         return refused(15, size as u64);
     }
-    let h = header_of(luma, o, c, n as u32, scenes as u32);
+    let h = header_of(o, c, n as u32, l.fresh, scenes as u32);
     sealing::write_record(buffer, capture, luma, h);
     Answer::Done(size as u64)
 }
@@ -156,5 +149,5 @@ pub fn seal(capture: &[u64; 3840], luma: &[u64; 1600], buffer: &mut [u8]) -> Ans
         return refused(14, 0);
     }
     let o = luma::opening_in(luma);
-    write(buffer, capture, luma, o, c, l.pictures)
+    write(buffer, capture, luma, o, c, l)
 }

@@ -25,11 +25,6 @@ pub record CountPost (w : List ℕ) (n d r : ℕ) : Type 0 where
   pub most : r ≤ n
   pub scenes : (ss : List ℕ) (rs : List Bool) (qs : List ℕ) → Holds w n ss rs qs → d < 2 ^ 32 → r ≡ length (scenesOf d ss rs qs)
 
--- how many pictures are not repeated
-pub record FreshPost (w : List ℕ) (n r : ℕ) : Type 0 where
-  pub most : r ≤ n
-  pub fresh : (ss : List ℕ) (rs : List Bool) (qs : List ℕ) → Holds w n ss rs qs → r ≡ count not rs
-
 -- ---- of the functions within
 
 abbrev pub TotalPost : List ℕ → ℕ → ℕ → ℕ → ℕ → Type 0

@@ -5,7 +5,7 @@ ghost use Prim.Native.Nat.{_*_, _%_, _^_, _<_, _≤_};
 ghost use lib.ListN.{getD};
 ghost use Rattle.rules.specs.Scenes.{startsScene};
 ghost use Rattle.scenes.specs.Words.{bitAt};
-ghost use Rattle.scenes.specs.Contract.{NextPost, RowPost, CountPost, FreshPost, TotalPost, PeakPost, RepeatedPost, LongestPost};
+ghost use Rattle.scenes.specs.Contract.{NextPost, RowPost, CountPost, TotalPost, PeakPost, RepeatedPost, LongestPost};
 use rules::SceneRow;
 
 // A cut score or a change.
@@ -144,13 +144,6 @@ fn longest(luma: &[u64; 1600], i: usize, j: usize) -> u64
     most
 }
 
-// The low 32 bits.
-fn low(x: u64) -> u32
-    ensures { λ r. ⌜ r ≡ x % 2 ^ 32 ⌝ }
-{
-    (x % 4294967296) as u32
-}
-
 fn no_scene() -> SceneRow {
     SceneRow {
         first: 0,
@@ -176,20 +169,10 @@ pub fn scene_row(luma: &[u64; 1600], i: usize, j: usize) -> SceneRow
     SceneRow {
         first: i as u32,
         pictures: (j - i) as u32,
-        repeated: low(repeated(luma, i, j)),
-        longest: low(longest(luma, i, j)),
-        score: low(total(luma, 100, i, j)),
-        peak: low(peak(luma, i, j)),
-        change: low(total(luma, 850, i, j)),
+        repeated: figures::low(repeated(luma, i, j)),
+        longest: figures::low(longest(luma, i, j)),
+        score: figures::low(total(luma, 100, i, j)),
+        peak: figures::low(peak(luma, i, j)),
+        change: figures::low(total(luma, 850, i, j)),
     }
-}
-
-// How many of n pictures are not repeated.
-pub fn unrepeated(luma: &[u64; 1600], n: usize) -> u64
-    ensures { λ r. ⌜ FreshPost (now (luma .entry)) n r ⌝ }
-{
-    if 750 < n {
-        return 0;
-    }
-    n as u64 - repeated(luma, 0, n)
 }

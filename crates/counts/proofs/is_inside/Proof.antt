@@ -1,8 +1,6 @@
 use borrow.Author.Tests.{lt-ltb, le-ltb}
 use Rattle.counts.proofs.is_inside.Statement.{statement}
 use Rattle.counts.proofs.is_inside.Tie as tie
-use Rattle.counts.proofs.is_inside.Reads as reads
-use Rattle.counts.proofs.is_inside.Lts as lts
 
 returns : tie.Need-returns
 returns c = rw (lt-ltb _ _ (c .if1 .taken))

@@ -2,8 +2,6 @@ use Rattle.counts.proofs.Sums.{sum-of}
 use borrow.Author.Needs.{needs}
 use Rattle.counts.proofs.sum_up.Statement.{statement}
 use Rattle.counts.proofs.sum_up.Tie as tie
-use Rattle.counts.proofs.sum_up.Reads as reads
-use Rattle.counts.proofs.sum_up.Lts as lts
 
 load-requires : tie.Need-load-requires
 load-requires c κs = search needs

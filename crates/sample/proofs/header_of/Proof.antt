@@ -5,9 +5,6 @@ use borrow.Author.Needs.{needs}
 use Rattle.sample.proofs.header_of.Statement.{statement}
 use Rattle.sample.proofs.header_of.Tie as tie
 
-unrepeated-requires : tie.Need-unrepeated-requires
-unrepeated-requires c κs = search needs
-
 low-requires : tie.Need-low-requires
 low-requires c κs = search needs
 
@@ -23,8 +20,6 @@ bits-of-requires c κs = search needs
 returns : tie.Need-returns
 returns c =
     record {
-      fresh = c .before .before .before .before .unrepeated .result;
-      counted = c .before .before .before .before .unrepeated .ensures;
       is = refl;
       index = bits-from (c .before .before .before .low .ensures) (c .before .before .low2 .ensures) (c .before .low3 .ensures) (c .bits-of .ensures);
     }
@@ -33,7 +28,6 @@ pub header-of-spec : {M : Type 1} → statement M
 header-of-spec =
     tie.close
     (tie.spec
-    unrepeated-requires
     low-requires
     low-requires-2
     low-requires-3

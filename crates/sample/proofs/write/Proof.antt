@@ -59,7 +59,7 @@ write-record-requires c κs =
     let h = c .before .header-of .ensures .is in
     let u = ap (λ (x : Header). x .units) h in
     let n = ap (λ (x : Header). x .scenes) h in
-    omega (arith, u, n, c .before .before .if3 .left, c .before .before .before .before .count .ensures .most, c .before .before .before .before .before .before .if2 .left, c .before .before .before .before .before .before .before .if1 .left)
+    omega (arith, u, n, c .before .before .if3 .left, c .before .before .before .before .count .ensures .most, c .before .before .before .before .before .before .if2 .left, c .before .before .before .before .before .before .before .before .if1 .left)
 
 same-length : tie.Need-same-length
 same-length c = search needs
