@@ -17,8 +17,8 @@ use Rattle.sample.specs.State.{State}
 use Rattle.sample.specs.Contract.{OpenPost}
 use Rattle.sample.specs.Calls.{Runs, done, next}
 use Rattle.sample.proofs.Lists.{every-list}
-use Rattle.replay.specs.declared.Head.{Head}
-use Rattle.replay.specs.declared.Head.the-variants.{Stop, Capture, Luma, Seal}
+use Rattle.replay.specs.declared.reading.Head.{Head}
+use Rattle.replay.specs.declared.reading.Head.the-variants.{Stop, Capture, Luma, Seal}
 use Rattle.replay.specs.Script.{openingOf, headBy, headAt, callsWith, callsBy, callsOf, code, codeOf, codes, room, roomFor, replayed, Replayed, nextOf, sizeOf, CallPost, Played, All}
 
 -- ---- heads

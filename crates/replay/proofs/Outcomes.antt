@@ -15,8 +15,8 @@ use Rattle.words.proofs.Laws.{written-sets, written-append}
 use Rattle.sample.specs.State.{State}
 use Rattle.sample.specs.Contract.{SealPost}
 use Rattle.sample.specs.Calls.{feedsCapture, feedsLuma, seals}
-use Rattle.replay.specs.declared.Head.{Head}
-use Rattle.replay.specs.declared.Head.the-variants.{Capture, Luma, Seal}
+use Rattle.replay.specs.declared.reading.Head.{Head}
+use Rattle.replay.specs.declared.reading.Head.the-variants.{Capture, Luma, Seal}
 use Rattle.replay.specs.Script.{kindOf, firstOf, secondOf, code, FedCapture, FedLuma, Sealed, CallPost}
 
 -- an answer's three stores

@@ -16,8 +16,8 @@ use Rattle.luma.specs.Contract as side-luma
 use Rattle.sample.specs.State.{State}
 use Rattle.sample.specs.Contract.{SealPost}
 use Rattle.sample.specs.Calls.{Ran, Runs}
-use Rattle.replay.specs.declared.Head.{Head}
-use Rattle.replay.specs.declared.Head.the-variants.{Stop, Capture, Luma, Seal}
+use Rattle.replay.specs.declared.reading.Head.{Head}
+use Rattle.replay.specs.declared.reading.Head.the-variants.{Stop, Capture, Luma, Seal}
 
 -- ---- what a script says
 

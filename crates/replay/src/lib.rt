@@ -2,191 +2,21 @@
 // W, H, d, PID and a rule edition, which is ignored; then calls. A call: byte C or L, a 32-bit length n and n bytes, a feed of that side; or byte S and
 // a 32-bit length n, a seal into n bytes of 0xA5. Where the script ends inside a call, or where another byte stands, the list ends.
 ghost use mathlib.Core.Path.{_≡_};
-ghost use mathlib.Core.List.{_++_};
-ghost use Prim.Native.Nat.{_+_, _≤_, _<_, _^_};
-ghost use lib.ListN.{length, drop, replicate};
-ghost use lib.Dec.{leb};
-ghost use Rattle.replay.specs.Script.{wordAt, nextOf, roomFor, openingOf, kindOf, firstOf, secondOf, code, headBy, headAt, sizeOf, FedCapture, FedLuma, Sealed, Called, CallPost, All, Replayed};
-use rules::Answer;
-use rules::Opening;
+ghost use Prim.Native.Nat.{_≤_};
+ghost use lib.ListN.{length};
+ghost use Rattle.replay.specs.Script.{FedCapture, FedLuma, Sealed, Called, CallPost, All, Replayed};
 
-// What stands where a call should begin: the call's kind and its length, or no call.
-pub enum Head {
-    Stop,
-    Capture(u32),
-    Luma(u32),
-    Seal(u32),
-}
+mod reading;
+mod writing;
 
-fn wide(n: u32) -> usize
-    ensures { λ r. ⌜ r ≡ n ⌝ }
-{
-    n as usize
-}
-
-// ---- reading a script
-
-// The word at a place; 0 where the script ends before the word does.
-fn word_at(script: &[u8], at: usize) -> u32
-    requires { ⌜ at < 100 ⌝ }
-    ensures { λ r. ⌜ r ≡ wordAt (now (script .entry)) at ⌝ }
-{
-    if script.len() < at + 4 {
-        return 0;
-    }
-    words::word32(script, at)
-}
-
-fn opening(script: &[u8]) -> Opening
-    ensures { λ r. ⌜ r ≡ openingOf (now (script .entry)) ⌝ }
-{
-    let width = word_at(script, 0);
-    let height = word_at(script, 4);
-    let time = word_at(script, 8);
-    let pid = word_at(script, 12);
-    Opening {
-        width: width,
-        height: height,
-        time: time,
-        pid: pid,
-    }
-}
-
-// The head of a call that has `left` bytes of the script left, itself among them.
-fn head_by(left: usize, kind: u8, n: u32) -> Head
-    ensures { λ r. ⌜ r ≡ headBy left kind n ⌝ }
-{
-    if left < 5 {
-        return Head::Stop;
-    }
-    if kind == 83 {
-        return Head::Seal(n);
-    }
-    if left - 5 < wide(n) {
-        return Head::Stop;
-    }
-    if kind == 67 {
-        return Head::Capture(n);
-    }
-    if kind == 76 {
-        return Head::Luma(n);
-    }
-    Head::Stop
-}
-
-fn head_at(script: &[u8], at: usize) -> Head
-    requires { ⌜ at < length (now script) ⌝ }
-    ensures { λ r. ⌜ r ≡ headAt (now (script .entry)) at ⌝ }
-{
-    let left = script.len() - at;
-    if left < 5 {
-        return Head::Stop;
-    }
-    let n = words::word32(script, at + 1);
-    head_by(left, script[at], n)
-}
-
-// How many bytes the call's outcome takes, 0 of no call.
-fn size(h: Head) -> usize
-    ensures { λ r. ⌜ r ≡ sizeOf h ⌝ }
-{
-    match h {
-        Head::Stop => 0,
-        Head::Capture(_) => 17,
-        Head::Luma(_) => 17,
-        Head::Seal(n) => 17 + wide(n),
-    }
-}
-
-// Where the next call stands.
-fn next_at(at: usize, h: Head) -> usize
-    requires { ⌜ at < 2 ^ 63 ⌝ }
-    ensures { λ r. ⌜ r ≡ nextOf h at ⌝ }
-{
-    let from = at + 5;
-    match h {
-        Head::Stop => from,
-        Head::Seal(_) => from,
-        Head::Capture(n) => from + wide(n),
-        Head::Luma(n) => from + wide(n),
-    }
-}
-
-// Whether the opening's answer and all calls' outcomes take no more than `most` bytes.
-fn has_room(script: &[u8], most: usize) -> bool
-    ensures { λ r. ⌜ r ≡ leb (roomFor (now (script .entry))) most ⌝ }
-{
-    if most < 17 {
-        return false;
-    }
-    let mut at: usize = 20;
-    let mut to: usize = 17;
-    while at < script.len() {
-        let h = head_at(script, at);
-        let n = size(h);
-        if n == 0 {
-            return true;
-        }
-        if most - to < n {
-            return false;
-        }
-        to = to + n;
-        at = next_at(at, h);
-    }
-    true
-}
-
-// ---- writing outcomes
-
-fn kind(a: Answer) -> u8
-    ensures { λ r. ⌜ r ≡ kindOf a ⌝ }
-{
-    match a {
-        Answer::Done(_) => 0,
-        Answer::Refused {
-            number: _,
-            place: _,
-        } => 1,
-    }
-}
-
-fn first(a: Answer) -> u64
-    ensures { λ r. ⌜ r ≡ firstOf a ⌝ }
-{
-    match a {
-        Answer::Done(n) => n,
-        Answer::Refused { number, place: _ } => number,
-    }
-}
-
-fn second(a: Answer) -> u64
-    ensures { λ r. ⌜ r ≡ secondOf a ⌝ }
-{
-    match a {
-        Answer::Done(_) => 0,
-        Answer::Refused { number: _, place } => place,
-    }
-}
-
-// An answer, as 17 bytes at the front of out.
-fn put(out: &mut [u8], a: Answer)
-    requires { ⌜ 17 ≤ length (now out) ⌝ }
-    ensures { λ _. ⌜ now (out .exit) ≡ code a ++ drop 17 (now (out .entry)) ⌝ }
-{
-    out[0] = kind(a);
-    words::put64(out, 1, first(a));
-    words::put64(out, 9, second(a));
-}
-
-fn fill(out: &mut [u8])
-    ensures { λ _. ⌜ now (out .exit) ≡ replicate (length (now (out .entry))) 165 ⌝ }
-{
-    let mut i: usize = 0;
-    while i < out.len() {
-        out[i] = 165;
-        i += 1;
-    }
-}
+use crate::reading::Head;
+use crate::reading::has_room;
+use crate::reading::head_at;
+use crate::reading::opening;
+use crate::reading::size;
+use crate::reading::wide;
+use crate::writing::fill;
+use crate::writing::put;
 
 // ---- one call, whose outcome takes all of out
 

@@ -1,7 +1,7 @@
 -- `opening` meets its contract.
 use borrow.Author.Needs.{needs}
-use Rattle.replay.proofs.opening.Statement.{statement}
-use Rattle.replay.proofs.opening.Tie as tie
+use Rattle.replay.proofs.reading.opening.Statement.{statement}
+use Rattle.replay.proofs.reading.opening.Tie as tie
 
 word-at-requires : tie.Need-word-at-requires
 word-at-requires c κs = search needs

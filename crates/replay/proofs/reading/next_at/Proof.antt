@@ -1,10 +1,10 @@
 -- `next_at` meets its contract, by the cases of the head.
 use borrow.Author.Needs.{needs}
 use mathlib.Core.Path.{sym, ap}
-use Rattle.replay.specs.declared.Head.{Head}
+use Rattle.replay.specs.declared.reading.Head.{Head}
 use Rattle.replay.specs.Script.{nextOf}
-use Rattle.replay.proofs.next_at.Statement.{statement}
-use Rattle.replay.proofs.next_at.Tie as tie
+use Rattle.replay.proofs.reading.next_at.Statement.{statement}
+use Rattle.replay.proofs.reading.next_at.Tie as tie
 
 add-from : tie.Need-add-from
 add-from c = search needs

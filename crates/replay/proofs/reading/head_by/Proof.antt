@@ -5,8 +5,8 @@ use borrow.Author.Needs.{needs}
 use borrow.Author.Tests.{lt-ltb, le-ltb, eq-eqb, ne-eqb}
 use Rattle.replay.specs.Script.{headBy}
 use Rattle.replay.proofs.Laws.{short}
-use Rattle.replay.proofs.head_by.Statement.{statement}
-use Rattle.replay.proofs.head_by.Tie as tie
+use Rattle.replay.proofs.reading.head_by.Statement.{statement}
+use Rattle.replay.proofs.reading.head_by.Tie as tie
 
 returns : tie.Need-returns
 returns c = short _ _ _ (c .if1 .taken)

@@ -2,8 +2,8 @@
 use borrow.Author.Needs.{needs}
 use mathlib.Core.Path.{sym, ap}
 use Rattle.replay.specs.Script.{sizeOf}
-use Rattle.replay.proofs.size.Statement.{statement}
-use Rattle.replay.proofs.size.Tie as tie
+use Rattle.replay.proofs.reading.size.Statement.{statement}
+use Rattle.replay.proofs.reading.size.Tie as tie
 
 enum-told : tie.Need-enum-told
 enum-told c = search needs

@@ -2,8 +2,8 @@
 use borrow.Author.Needs.{needs}
 use mathlib.Core.Path.{_∙_}
 use Rattle.replay.proofs.Laws.{short}
-use Rattle.replay.proofs.head_at.Statement.{statement}
-use Rattle.replay.proofs.head_at.Tie as tie
+use Rattle.replay.proofs.reading.head_at.Statement.{statement}
+use Rattle.replay.proofs.reading.head_at.Tie as tie
 
 sub-left : tie.Need-sub-left
 sub-left c = search needs

@@ -3,8 +3,8 @@ use borrow.Author.Needs.{needs}
 use mathlib.Core.Path.{_∙_}
 use borrow.Author.Tests.{lt-ltb, le-ltb}
 use Rattle.replay.specs.Script.{wordAt}
-use Rattle.replay.proofs.word_at.Statement.{statement}
-use Rattle.replay.proofs.word_at.Tie as tie
+use Rattle.replay.proofs.reading.word_at.Statement.{statement}
+use Rattle.replay.proofs.reading.word_at.Tie as tie
 
 add-if1 : tie.Need-add-if1
 add-if1 c = search needs

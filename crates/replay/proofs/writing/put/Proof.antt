@@ -4,8 +4,8 @@ use mathlib.Core.Path.{_∙_}
 use lib.ListN.{length-set}
 use native.Mathlib.Omega.{arith}
 use Rattle.replay.proofs.Outcomes.{put-law}
-use Rattle.replay.proofs.put.Statement.{statement}
-use Rattle.replay.proofs.put.Tie as tie
+use Rattle.replay.proofs.writing.put.Statement.{statement}
+use Rattle.replay.proofs.writing.put.Tie as tie
 
 kind-requires : tie.Need-kind-requires
 kind-requires c κs = search needs

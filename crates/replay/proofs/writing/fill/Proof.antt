@@ -5,8 +5,8 @@ use mathlib.Core.Path.{_≡_, refl, sym, ap, _∙_}
 use lib.ListN.{length, length-set, take, replicate}
 use lib.Seq.{take-all}
 use Rattle.replay.proofs.Outcomes.{fill-law}
-use Rattle.replay.proofs.fill.Statement.{statement}
-use Rattle.replay.proofs.fill.Tie as tie
+use Rattle.replay.proofs.writing.fill.Statement.{statement}
+use Rattle.replay.proofs.writing.fill.Tie as tie
 
 abbrev Inv-loop : tie.InvT-loop
 Inv-loop out₀ i₀ out i = (i ≤ length out) × (length out ≡ length out₀) × (take i out ≡ replicate i 165)

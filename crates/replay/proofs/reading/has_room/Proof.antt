@@ -7,8 +7,8 @@ use borrow.Author.Needs.{needs}
 use borrow.Author.Tests.{lt-leb}
 use Rattle.replay.specs.Script.{roomFor, headAt, nextOf, sizeOf}
 use Rattle.replay.proofs.Laws.{Taken, taken-start, taken-end, taken-stop, taken-full, taken-on, next-on}
-use Rattle.replay.proofs.has_room.Statement.{statement}
-use Rattle.replay.proofs.has_room.Tie as tie
+use Rattle.replay.proofs.reading.has_room.Statement.{statement}
+use Rattle.replay.proofs.reading.has_room.Tie as tie
 
 abbrev Inv-loop : tie.InvT-loop
 Inv-loop script most at₀ to₀ at to = (to ≤ most) × Taken script at to
