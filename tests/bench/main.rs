@@ -1,0 +1,237 @@
+//! Speed of the library's feeds, beside the independent program's feeds, a wide sum of the same bytes, and memcpy.
+//!
+//! All four take the same bytes in the same pieces, in turn in every round. A figure is the best of its rounds, by CPU time of this process.
+//! It is linked with libcarolsedge.a and has the independent program's modules in it, as they are. The last lines say which goals hold.
+#![allow(dead_code)]
+
+#[path = "../independent/second/capture.rs"]
+mod capture;
+#[path = "../independent/second/film.rs"]
+mod film;
+#[path = "../independent/second/luma.rs"]
+mod luma;
+#[path = "../independent/second/make"]
+mod make {
+    pub mod captures;
+    pub mod weave;
+}
+#[path = "../independent/second/opening.rs"]
+mod opening;
+#[path = "../independent/second/prng.rs"]
+mod prng;
+#[path = "../independent/second/record.rs"]
+mod record;
+#[path = "../independent/second/sample.rs"]
+mod sample;
+#[path = "../independent/second/script.rs"]
+mod script;
+#[path = "../independent/second/units.rs"]
+mod units;
+
+mod ours;
+
+use make::captures::CaptureMaker;
+use opening::Opening;
+use prng::Prng;
+use std::arch::x86_64::{__m128i, _mm_add_epi64, _mm_loadu_si128, _mm_sad_epu8, _mm_setzero_si128};
+use std::hint::black_box;
+
+const PIECES: [usize; 3] = [1_316, 65_536, 2_073_600];
+
+/// Rounds of which the best counts.
+const ROUNDS: usize = 15;
+
+/// Bytes that a round takes, about.
+const ROUND: usize = 64 << 20;
+
+const PID: u32 = 256;
+
+/// Best seconds a byte of ours, the independent program's, the wide sum's and memcpy's.
+struct Times([f64; 4]);
+
+impl Times {
+    /// How many times as fast as another we are.
+    fn ratio(&self, other: usize) -> f64 {
+        self.0[other] / self.0[0]
+    }
+}
+
+#[derive(Clone, Copy, PartialEq)]
+enum Side {
+    Capture,
+    Luma,
+}
+
+/// Input of one side: a film of whole pictures, or a capture.
+struct Input {
+    name: &'static str,
+    opening: Opening,
+    side: Side,
+    bytes: Vec<u8>,
+}
+
+fn main() {
+    let inputs = [
+        film("luma 1920 x 1080", 1920, 1080, 32),
+        film("luma 64 x 48", 64, 48, 750),
+        stream(),
+    ];
+    println!("{:18}{:>10}{:>9}{:>13}{:>11}{:>9}   ours by: independent  wide sum    memcpy", "GB/s", "piece", "ours", "independent", "wide sum", "memcpy");
+    let mut goals = Vec::new();
+    for input in &inputs {
+        for piece in PIECES {
+            let times = measure(input, piece);
+            let speed = |i: usize| 1e-9 / times.0[i];
+            println!(
+                "{:18}{:>10}{:>9.2}{:>13.2}{:>11.2}{:>9.2}{:>23.2}{:>10.2}{:>10.2}",
+                input.name, piece, speed(0), speed(1), speed(2), speed(3), times.ratio(1), times.ratio(2), times.ratio(3)
+            );
+            goals.extend(goals_of(input, piece, &times));
+        }
+    }
+    let named = |holds: bool| goals.iter().filter(|goal| goal.1 == holds).map(|goal| goal.0.as_str()).collect::<Vec<_>>().join("; ");
+    println!("goals that hold: {}", named(true));
+    println!("goals that do not: {}", if goals.iter().all(|goal| goal.1) { "none".to_string() } else { named(false) });
+}
+
+/// The goals about one line of the table, and whether each holds. Pieces below 65,536 bytes have none, but for small pictures.
+fn goals_of(input: &Input, piece: usize, times: &Times) -> Vec<(String, bool)> {
+    let (alone, sum) = (times.ratio(1), times.ratio(2));
+    let goal = |text: &str, holds: bool| (format!("{} at {piece}: {text}", input.name), holds);
+    match input.name {
+        "luma 64 x 48" => vec![goal("no slower than the independent program", alone >= 1.0)],
+        _ if piece < 65_536 => Vec::new(),
+        "capture" => vec![goal("faster than the independent program", alone > 1.0), goal("faster than the wide sum", sum > 1.0)],
+        _ => vec![goal("no slower than the independent program", alone >= 1.0), goal("0.8 of the wide sum", sum >= 0.8)],
+    }
+}
+
+/// Pictures of noise.
+fn film(name: &'static str, width: u32, height: u32, pictures: usize) -> Input {
+    let opening = Opening { width, height, display_time: 40_000, pid: PID };
+    let bytes = Prng::new(1).bytes(pictures * (width * height) as usize);
+    Input { name, opening, side: Side::Luma, bytes }
+}
+
+/// A capture of UDP frames with seven packets each, and a skipped frame in ten.
+fn stream() -> Input {
+    let opening = Opening { width: 64, height: 48, display_time: 40_000, pid: PID };
+    let mut random = Prng::new(1);
+    let mut maker = CaptureMaker::new(&mut random, PID);
+    maker.start_every = 2_000;
+    for number in 1.. {
+        if maker.side.bytes.len() >= ROUND {
+            break;
+        }
+        if number % 10 == 0 { maker.skipped_record() } else { maker.carrying_record(7) }
+    }
+    Input { name: "capture", opening, side: Side::Capture, bytes: std::mem::take(&mut maker.side.bytes) }
+}
+
+fn measure(input: &Input, piece: usize) -> Times {
+    let repeats = ROUND.div_ceil(input.bytes.len());
+    let mut copy = input.bytes.clone();
+    let mut best = [f64::MAX; 4];
+    for _ in 0..ROUNDS {
+        let mut seconds = [0.0; 4];
+        for _ in 0..repeats {
+            seconds[0] += feed_ours(input, piece);
+            seconds[1] += feed_independent(input, piece);
+            seconds[2] += sum_all(input, piece);
+            seconds[3] += copy_all(input, piece, &mut copy);
+        }
+        for (best, seconds) in best.iter_mut().zip(seconds) {
+            *best = best.min(seconds / (repeats * input.bytes.len()) as f64);
+        }
+    }
+    Times(best)
+}
+
+fn feed_ours(input: &Input, piece: usize) -> f64 {
+    let mut state = ours::State::open(&input.opening);
+    timed(|| {
+        for bytes in input.bytes.chunks(piece) {
+            let answer = match input.side {
+                Side::Capture => state.feed_capture(bytes),
+                Side::Luma => state.feed_luma(bytes),
+            };
+            assert_eq!(answer, (0, bytes.len() as u64));
+        }
+    })
+}
+
+fn feed_independent(input: &Input, piece: usize) -> f64 {
+    let mut sample = sample::Sample::open(input.opening);
+    timed(|| {
+        for bytes in input.bytes.chunks(piece) {
+            let answer = match input.side {
+                Side::Capture => sample.feed_capture(bytes),
+                Side::Luma => sample.feed_luma(bytes),
+            };
+            assert_eq!(answer, Ok(bytes.len()));
+        }
+    })
+}
+
+fn sum_all(input: &Input, piece: usize) -> f64 {
+    timed(|| {
+        for bytes in input.bytes.chunks(piece) {
+            black_box(wide_sum(bytes));
+        }
+    })
+}
+
+fn copy_all(input: &Input, piece: usize, copy: &mut [u8]) -> f64 {
+    timed(|| {
+        for (to, bytes) in copy.chunks_mut(piece).zip(input.bytes.chunks(piece)) {
+            to.copy_from_slice(bytes);
+        }
+        black_box(&copy);
+    })
+}
+
+/// The sum of all bytes, by the processor's wide sums of bytes, four at a time.
+fn wide_sum(bytes: &[u8]) -> u64 {
+    let chunks = bytes.chunks_exact(64);
+    let rest: u64 = chunks.remainder().iter().map(|&byte| u64::from(byte)).sum();
+    // SAFETY: SSE2 is part of x86-64; each load reads 16 of the chunk's 64 bytes.
+    unsafe {
+        let zero = _mm_setzero_si128();
+        let mut sums = [zero; 4];
+        for chunk in chunks {
+            for (i, sum) in sums.iter_mut().enumerate() {
+                let part = _mm_loadu_si128(chunk.as_ptr().add(16 * i).cast::<__m128i>());
+                *sum = _mm_add_epi64(*sum, _mm_sad_epu8(part, zero));
+            }
+        }
+        let sums: [u64; 8] = std::mem::transmute(sums);
+        rest + sums.iter().sum::<u64>()
+    }
+}
+
+#[repr(C)]
+struct Timespec {
+    seconds: i64,
+    nanoseconds: i64,
+}
+
+extern "C" {
+    fn clock_gettime(clock: i32, time: *mut Timespec) -> i32;
+}
+
+const CLOCK_PROCESS_CPUTIME_ID: i32 = 2;
+
+/// Seconds of CPU time of this process so far.
+fn cpu_seconds() -> f64 {
+    let mut time = Timespec { seconds: 0, nanoseconds: 0 };
+    // SAFETY: the call writes the time and nothing else.
+    let status = unsafe { clock_gettime(CLOCK_PROCESS_CPUTIME_ID, &mut time) };
+    assert_eq!(status, 0, "no clock of CPU time");
+    time.seconds as f64 + time.nanoseconds as f64 * 1e-9
+}
+
+fn timed(work: impl FnOnce()) -> f64 {
+    let before = cpu_seconds();
+    work();
+    cpu_seconds() - before
+}
