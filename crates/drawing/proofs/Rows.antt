@@ -120,7 +120,7 @@ row-room g s h =
 module _ (g : Grid) (s : Progress) {sums bins picture before kept sums′ bins′ picture′ : List ℕ} {m₀ m : Moves} (fits : Fits g) (line : s .line < g .lines)
     (row : s .row ≡ g .side) (col : s .col ≡ 0) (fresh : length before ≡ 240) (keeps : Keeps (s .line * g .columns) (g .columns) picture before kept)
     (done : RowDone (g .side) (g .columns) (s .line) picture sums picture′ sums′)
-    (counted : CountedRow (g .columns) (g .lines) (s .line) (slot (s .pictures)) (g .columns) picture′ bins bins′)
+    (counted : CountedRow (g .columns) (g .lines) (s .line) (slot (s .pictures)) picture′ bins bins′)
     (start : (m₀ .up ≡ s .ups % 2 ^ 32) × (m₀ .down ≡ s .downs % 2 ^ 32) × (m₀ .squares ≡ s .squares % 2 ^ 32))
     (compared : Compared kept 0 picture′ (s .line * g .columns) (g .columns) m₀ m) where
   row-drawn : (pxs : List (List ℕ)) (cur : List ℕ) → s .pictures ≡ length pxs → Bytes cur → length cur ≡ (s .line * g .side + s .row) * g .width + s .col →

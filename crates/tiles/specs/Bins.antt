@@ -1,9 +1,11 @@
 -- The histograms of a reduced picture, by counting. The picture is the list of its pixels, w in each of h rows. Five pictures' bins, 144 each, lie in one ring.
 use Prim.Native.Nat.{ℕ, _+_, _*_, _%_, _^_, _≤_, _<_}
 use mathlib.Core.Path.{_≡_}
-use mathlib.Core.List.{List, [], _∷_, _++_}
+use mathlib.Core.List.{List, [], _++_}
 use lib.ListN.{length, getD}
-use Rattle.rules.specs.Histograms.{tileAt}
+use lib.Dec.{eqb}
+use Rattle.rules.specs.Bytes.{pick}
+use Rattle.rules.specs.Histograms.{inBin}
 use Rattle.rules.proofs.Laws.Tiles.{binTally}
 use Rattle.blocks.specs.Sums.{run}
 
@@ -23,15 +25,25 @@ pub record Cleared (base : ℕ) (before after : List ℕ) : Type 0 where
   pub kept : Kept base before after
   pub none : length before ≡ 720 → (w h : ℕ) → Counts w h base [] after
 
--- one pixel more, in tile t
-pub record Counted (base t v : ℕ) (before after : List ℕ) : Type 0 where
-  pub kept : Kept base before after
-  pub more : (w h : ℕ) (p : List ℕ) → t ≡ tileAt w h (length p) → Counts w h base p before → Counts w h base (p ++ v ∷ []) after
+-- what the pixels vs, which all lie in tile u, give to bin b of tile t
+abbrev pub inTile : ℕ → List ℕ → ℕ → ℕ → ℕ
+inTile u vs t b = pick (eqb u t) (inBin vs b) 0
 
--- a row of pixels more, or the first c of them
-pub record CountedRow (w h r base c : ℕ) (pixels before after : List ℕ) : Type 0 where
+-- bin b of tile t grew by f t b, modulo 2 ^ 32
+pub record Grown (base : ℕ) (f : ℕ → ℕ → ℕ) (before after : List ℕ) : Type 0 where
   pub kept : Kept base before after
-  pub more : (p : List ℕ) → length p ≡ r * w → Counts w h base p before → Counts w h base (p ++ run pixels (r * w) c) after
+  pub each : length before ≡ 720 → (t b : ℕ) → t < 9 → b < 16 →
+      getD after (base + (16 * t + b)) 0 % 2 ^ 32 ≡ (getD before (base + (16 * t + b)) 0 + f t b) % 2 ^ 32
+
+-- by m pixels of each of the three tiles from t on, which stand from these three places on
+abbrev pub Three : ℕ → ℕ → List ℕ → ℕ → ℕ → ℕ → ℕ → List ℕ → List ℕ → Type 0
+Three base t pixels x y z m =
+    Grown base (λ u b. inTile t (run pixels x m) u b + inTile (t + 1) (run pixels y m) u b + inTile (t + 2) (run pixels z m) u b)
+
+-- a row of pixels more
+pub record CountedRow (w h r base : ℕ) (pixels before after : List ℕ) : Type 0 where
+  pub kept : Kept base before after
+  pub more : (p : List ℕ) → length p ≡ r * w → Counts w h base p before → Counts w h base (p ++ run pixels (r * w) w) after
 
 -- what `count_row` asks
 pub record Row (w h r base : ℕ) (pixels : List ℕ) : Type 0 where
@@ -41,3 +53,11 @@ pub record Row (w h r base : ℕ) (pixels : List ℕ) : Type 0 where
   pub low : h ≤ 64
   pub slot : base + 144 ≤ 720
   pub there : r * w + w ≤ length pixels
+
+-- what `count_columns` asks
+pub record Columns (base t : ℕ) (pixels : List ℕ) (x y z m : ℕ) : Type 0 where
+  pub slot : base + 144 ≤ 720
+  pub tiles : t + 3 ≤ 9
+  pub first : x + m ≤ length pixels
+  pub second : y + m ≤ length pixels
+  pub third : z + m ≤ length pixels

@@ -1,101 +1,106 @@
-use Prim.Native.Nat.{ℕ, _+_, _-_, _*_, _≤_, _<_}
-use mathlib.Core.Path.{_≡_, ap}
+use mathlib.Core.Path.{refl}
 use native.Mathlib.Omega.{arith}
-use native.Mathlib.Nat.{zero-mul, div-mul-le-self, lt-div-mul-add}
-use borrow.Author.Needs.{needs}
 use Rattle.rules.specs.Histograms.{third}
 use Rattle.rules.proofs.Laws.Histograms.{third-small}
-use Rattle.tiles.specs.Bins.{CountedRow}
-use Rattle.tiles.proofs.Laws.{row-none, row-more}
+use Rattle.tiles.proofs.Laws.{row-counted}
+use borrow.Author.Needs.{needs}
 use Rattle.tiles.proofs.count_row.Statement.{statement}
 use Rattle.tiles.proofs.count_row.Tie as tie
 
-abbrev Inv-loop : tie.InvT-loop
-Inv-loop counts₀ base pixels w h r from top j₀ c₀ counts j c = (c ≤ w) × (j ≤ 2) × (j * w ≤ 3 * c) × (3 * c < j * w + w + 3) × CountedRow w h r base c pixels counts₀ counts
+mul-from : tie.Need-mul-from
+mul-from c = search needs
 
-abbrev μ-loop : tie.MeasureT-loop
-μ-loop counts₀ base pixels w h r from top j₀ c₀ counts j c = w - c
+mul-t : tie.Need-mul-t
+mul-t c = search needs
 
-mul-from : tie.Need-mul-from Inv-loop μ-loop
-mul-from c = omega arith
+div-t : tie.Need-div-t
+div-t c = search needs
 
-mul-top : tie.Need-mul-top Inv-loop μ-loop
-mul-top c = omega arith
-
-div-top : tie.Need-div-top Inv-loop μ-loop
-div-top c = omega arith
-
-mul-top-2 : tie.Need-mul-top-2 Inv-loop μ-loop
+mul-t-2 : tie.Need-mul-t-2
 unfolding third
-mul-top-2 c = omega (arith, third-small (c .before .args .h) (c .before .args .r) (c .before .pre .inside))
+mul-t-2 c = omega (arith, third-small (c .before .args .h) (c .before .args .r) (c .before .pre .inside))
 
-loop-holds : tie.Need-loop-holds Inv-loop μ-loop
-loop-holds c = (omega arith, omega arith, omega (arith, zero-mul (c .before .args .w)), omega (arith, zero-mul (c .before .args .w)), row-none _ _ _ _ (c .before .args .pixels .now) _)
+add-second : tie.Need-add-second
+add-second c = search needs
 
-column-of-requires : tie.Need-column-of-requires Inv-loop μ-loop
-column-of-requires c κs = search needs
+mul-third : tie.Need-mul-third
+mul-third c = search needs
 
-add-count : tie.Need-add-count Inv-loop μ-loop
+add-third : tie.Need-add-third
+add-third c = search needs
+
+sub-m : tie.Need-sub-m
+sub-m c = search needs
+
+add-count-columns : tie.Need-add-count-columns
+add-count-columns c = search needs
+
+add-count-columns-2 : tie.Need-add-count-columns-2
+add-count-columns-2 c = search needs
+
+count-columns-requires : tie.Need-count-columns-requires
 unfolding third
-add-count c = omega (arith, third-small (c .before .before .before .before .before .args .h) (c .before .before .before .before .before .args .r) (c .before .before .before .before .before .pre .inside))
+count-columns-requires c κs = record { slot = omega arith; tiles = omega (arith, third-small (c .before .before .args .h) (c .before .before .args .r) (c .before .before .pre .inside)); first = omega arith; second = omega arith; third = omega arith }
 
-add-count-2 : tie.Need-add-count-2 Inv-loop μ-loop
-add-count-2 c = omega arith
+add-count-last : tie.Need-add-count-last
+add-count-last c = search needs
 
-shared-slice-read-count : tie.Need-shared-slice-read-count Inv-loop μ-loop
-shared-slice-read-count c = omega arith
+sub-count-last : tie.Need-sub-count-last
+sub-count-last c = search needs
 
-count-requires : tie.Need-count-requires Inv-loop μ-loop
+count-last-requires : tie.Need-count-last-requires
 unfolding third
-count-requires c κs = (omega arith, omega (arith, third-small (c .before .before .before .before .before .before .args .h) (c .before .before .before .before .before .before .args .r) (c .before .before .before .before .before .before .pre .inside)))
+count-last-requires c κs = (omega arith, omega (arith, third-small (c .before .before .before .before .args .h) (c .before .before .before .before .args .r) (c .before .before .before .before .pre .inside)), omega arith, omega arith)
 
-add-c : tie.Need-add-c Inv-loop μ-loop
-add-c c = omega arith
-
-loop-less : tie.Need-loop-less Inv-loop μ-loop
-loop-less c = omega arith
-
-loop-again : tie.Need-loop-again Inv-loop μ-loop
+add-count-last-2 : tie.Need-add-count-last-2
 unfolding third
-loop-again c =
-    let a = c .before .before .before .before .before .before .before .args in
-    let l = c .before .before .before .before .before .loop in
-    let test = c .before .before .before .before .loop-test .taken in
-    let j = c .before .before .before .column-of .result in
-    let e : j ≡ third (a .w) (l .c) = c .before .before .before .column-of .ensures .0 in
-    let lo : j * a .w ≤ 3 * l .c = rw e (div-mul-le-self (3 * l .c) (a .w)) in
-    let some : 0 < a .w = omega arith in
-    let hi : 3 * l .c < j * a .w + a .w = rw e (lt-div-mul-add {a = 3 * l .c} some) in (
-      omega arith,
-      omega arith,
-      omega (arith, lo),
-      omega (arith, hi),
-      row-more (a .w) (a .h) (a .r) (a .base) (l .c) _ (a .pixels .now) (l .inv .4) test (omega arith) (ap (λ (z : ℕ). 3 * third (a .h) (a .r) + z) e) (c .count .ensures),
-    )
+add-count-last-2 c = omega (arith, third-small (c .before .before .before .before .before .before .args .h) (c .before .before .before .before .before .before .args .r) (c .before .before .before .before .before .before .pre .inside))
 
-returns : tie.Need-returns Inv-loop μ-loop
+add-count-last-3 : tie.Need-add-count-last-3
+add-count-last-3 c = search needs
+
+add-count-last-4 : tie.Need-add-count-last-4
+add-count-last-4 c = search needs
+
+sub-count-last-2 : tie.Need-sub-count-last-2
+sub-count-last-2 c = search needs
+
+sub-count-last-3 : tie.Need-sub-count-last-3
+sub-count-last-3 c = search needs
+
+count-last-requires-2 : tie.Need-count-last-requires-2
+unfolding third
+count-last-requires-2 c κs = (omega arith, omega (arith, third-small (c .before .before .before .before .before .before .args .h) (c .before .before .before .before .before .before .args .r) (c .before .before .before .before .before .before .pre .inside)), omega arith, omega arith)
+
+returns : tie.Need-returns
+unfolding third
 returns c =
-    let l = c .before .loop in
-    let e : l .c ≡ c .before .before .before .args .w = omega arith in
-    rw e at (l .inv .4)
+    let a = c .before .before .before .before .before .before .before .args in
+    let p = c .before .before .before .before .before .before .before .pre in
+    row-counted (a .w) (a .h) (a .r) (a .base) _ _ _ (a .pixels .now) refl refl refl (p .wide) (p .there) (c .before .before .before .before .count-columns .ensures) (c .before .before .count-last .ensures) (c .count-last2 .ensures)
 
 pub count-row-spec : {M : Type 1} → statement M
 count-row-spec =
     tie.close
     (tie.spec
-    Inv-loop
-    μ-loop
     mul-from
-    mul-top
-    div-top
-    mul-top-2
-    loop-holds
-    column-of-requires
-    add-count
-    add-count-2
-    shared-slice-read-count
-    count-requires
-    add-c
-    loop-less
-    loop-again
+    mul-t
+    div-t
+    mul-t-2
+    add-second
+    mul-third
+    add-third
+    sub-m
+    add-count-columns
+    add-count-columns-2
+    count-columns-requires
+    add-count-last
+    sub-count-last
+    count-last-requires
+    add-count-last-2
+    add-count-last-3
+    add-count-last-4
+    sub-count-last-2
+    sub-count-last-3
+    count-last-requires-2
     returns)
