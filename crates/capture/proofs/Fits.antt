@@ -25,7 +25,7 @@ unfolding frameSize
 size-is r = omega arith
 
 module _ (r t : List ℕ) where
-  micro-more : 8 ≤ length r → microseconds (r ++ t) ≡ microseconds r
+  pub micro-more : 8 ≤ length r → microseconds (r ++ t) ≡ microseconds r
   unfolding microseconds word32
   micro-more h =
       rw (List·getD-append r t 0 4 (omega arith), List·getD-append r t 0 5 (omega arith), List·getD-append r t 0 6 (omega arith), List·getD-append r t 0 7 (omega arith))

@@ -5,3 +5,4 @@ pub mod Body
 pub mod Files
 pub mod Pieces
 pub mod Parts
+pub mod Whole

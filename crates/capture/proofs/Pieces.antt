@@ -1,5 +1,5 @@
 -- From step to step through a piece, and the state in the words.
-use Prim.Native.Nat.{ℕ, zero, suc, _+_, _≤_, _<_}
+use Prim.Native.Nat.{ℕ, zero, suc, _+_, _-_, _≤_, _<_}
 use native.Mathlib.Omega.{arith}
 use native.Mathlib.Nat.{add-zero}
 use mathlib.Core.Path.{_≡_, refl, sym, ap, _∙_}
@@ -19,7 +19,7 @@ use Rattle.units.proofs.Steps.{stands-kept, none-yet}
 use Rattle.carried.proofs.Held.{held-kept}
 use Rattle.capture.specs.declared.Meter.{Meter}
 use Rattle.capture.specs.State.{loaded, Under, Core, Head, Stands, refused, head, live, Means}
-use Rattle.capture.specs.Contract.{Opened, FeedPost, Goes, Replies, Stored}
+use Rattle.capture.specs.Contract.{Opened, FeedPost, Goes, Ahead, Replies, Stored}
 use Rattle.capture.proofs.Steps.{at-live, refuse}
 
 -- ---- a refusal stays
@@ -79,6 +79,22 @@ pub goes-over : (w w′ : List ℕ) (s r t : Meter) (piece : List ℕ) (i : ℕ)
 goes-over w w′ s r t piece i g h k less ts tp o joined x =
     rw (append-assoc joined (take i piece) (drop i piece), take-append-drop i piece) at
     (limit t (drop i piece) h k (simp length-drop (omega arith)) ts tp (g o joined x))
+
+-- a whole frame of n bytes from i on, which was looked for in what is left of the piece
+part-rest : (piece : List ℕ) (i : ℕ) → take (length piece - i) (drop i piece) ≡ drop i piece
+part-rest piece i = take-all (length piece - i) (drop i piece) (simp length-drop (omega arith))
+
+pub frame-most : (piece : List ℕ) (i n : ℕ) {s : Meter} → i < length piece → Ahead s (take (length piece - i) (drop i piece)) n → (0 < n) × (i + n ≤ length piece)
+frame-most piece i n h a =
+    let l = a .long in
+    let t = a .there in
+    let e = ap length (part-rest piece i) in
+    let d = length-drop i piece in
+    (omega arith, omega arith)
+
+pub goes-frame : (w w′ w″ : List ℕ) (s r t : Meter) (piece : List ℕ) (i n : ℕ) → Goes w s (take i piece) w′ r → Goes w′ r (take n (take (length piece - i) (drop i piece))) w″ t →
+    Goes w s (take (i + n) piece) w″ t
+goes-frame w w′ w″ s r t piece i n g f = goes-more w w′ w″ s r t piece i n g (rw (part-rest piece i) at f)
 
 -- of the bytes that a step takes: how many they are, and one byte alone
 pub many-taken : (piece : List ℕ) (i n : ℕ) → i + n ≤ length piece → length (take n (drop i piece)) ≡ n

@@ -10,7 +10,7 @@ use Rattle.rules.specs.declared.Answer.{Answer}
 use Rattle.rules.specs.Bytes.{pick, byte}
 use Rattle.rules.specs.Refusals.{none, fault}
 use Rattle.rules.specs.Opening.{openingFault}
-use Rattle.rules.specs.Frames.{frameSize}
+use Rattle.rules.specs.Frames.{microseconds, storedLength, frameSize}
 use Rattle.rules.specs.Packets.{Packet, wantedOf, badOf}
 use Rattle.rules.specs.Units.{beginnings}
 use Rattle.rules.specs.Capture.{wholeFrames, unfinished}
@@ -62,6 +62,18 @@ pub record Span (s : Meter) (left : ℕ) (n : ℕ) : Type 0 where
   pub early : 24 ≤ s .fed → 58 ≤ s .at → 0 < s .left → s .got < 4 → s .got + n ≤ 4
   pub packet : 24 ≤ s .fed → 58 ≤ s .at → 0 < s .left → 4 ≤ s .got → s .got < 188 → s .got + n ≤ 188
   pub body : 24 ≤ s .fed → 58 ≤ s .at → s .left ≡ 0 → s .size ≤ 65535 → s .at < 16 + s .size → s .at + n ≤ 16 + s .size
+
+-- the string x begins with a frame of n bytes that is next and all there. It shows no refusal, and its packets can begin no 751st unit
+pub record Ahead (s : Meter) (x : List ℕ) (n : ℕ) : Type 0 where
+  pub next : s .at ≡ 0
+  pub behind : 24 ≤ s .fed
+  pub limit : s .fed + n ≤ 268435456
+  pub there : n ≤ length x
+  pub size : n ≡ 16 + storedLength x
+  pub long : 58 ≤ n
+  pub stored : storedLength x ≤ 65535
+  pub time : microseconds x ≤ 999999
+  pub units : s .units .count + n / 188 ≤ 750
 
 -- bytes of a frame that are taken in, and do not pass its end
 pub record Taken (w : List ℕ) (s : Meter) (o : Opening) (joined chunk : List ℕ) : Type 0 where

@@ -1,6 +1,8 @@
 // The capture side's engine over its lent words. Bytes come in pieces, cut anywhere. Of a frame (document 01: record) the header and the first 42
 // bytes are collected, of a packet (document 01: cell) the first four; all other bytes are skipped at once, as many as there are.
+// A frame that lies whole in a piece is read where it lies.
 // Collected bytes are taken up to the end of a field at once. A packet is accounted when its last byte is there; refusal 9 stands when its byte 3 is.
+use frames::Tally;
 use rules::Answer;
 use units::Units;
 ghost use mathlib.Core.Path.{_≡_};
@@ -8,7 +10,7 @@ ghost use mathlib.Core.List.{List, [], _∷_, _++_};
 ghost use Prim.Native.Nat.{ℕ, _+_, _*_, _%_, _<_, _≤_};
 ghost use lib.ListN.{length, take, drop};
 ghost use Rattle.capture.specs.State.{loaded};
-ghost use Rattle.capture.specs.Contract.{Opened, FeedPost, Goes, Skips, Within, Span, Settles, Accounts, Replies, refusedAs, Stored};
+ghost use Rattle.capture.specs.Contract.{Opened, FeedPost, Goes, Skips, Within, Span, Ahead, Settles, Accounts, Replies, refusedAs, Stored};
 
 // The engine's numbers. fed: bytes fed; at: bytes of the frame that are there; size: its stored length L; left: packets of the frame that are not
 // whole yet; got: bytes of the first of these that are there; frames, skipped, bad: counts.
@@ -325,6 +327,78 @@ fn step(words: &mut [u64; 3840], s: Meter, left: u64, piece: &[u8], i: usize, n:
     skip_packet(words, s, n)
 }
 
+// ---- whole frames
+
+// How many bytes the frame has that f begins with, if it is next, all there, shows no refusal, and begins no 751st unit; otherwise 0.
+fn whole_size(s: Meter, f: &[u8]) -> u64
+    requires { ⌜ s .fed < 268435456 ⌝ }
+    ensures { λ r. ⌜ (0 < r → Ahead s (now (f .entry)) r) ⌝ }
+{
+    if s.at != 0 {
+        return 0;
+    }
+    if s.fed < 24 {
+        return 0;
+    }
+    if f.len() < 58 {
+        return 0;
+    }
+    if 999999 < frames::micro_of(f) {
+        return 0;
+    }
+    let size = frames::size_of(f);
+    if size < 42 {
+        return 0;
+    }
+    if 65535 < size {
+        return 0;
+    }
+    let n = 16 + size;
+    if (f.len() as u64) < n {
+        return 0;
+    }
+    if 268435456 - s.fed < n {
+        return 0;
+    }
+    if 750 < s.units.count {
+        return 0;
+    }
+    if 750 < s.units.count + n / 188 {
+        return 0;
+    }
+    n
+}
+
+// A frame of n bytes, at once: its packets are counted where they lie.
+fn on_frame(words: &mut [u64; 3840], s: Meter, f: &[u8], n: u64) -> Meter
+    requires { ⌜ (s .status ≡ 0) × Ahead s (now f) n ⌝ }
+    ensures { λ r. ⌜ Goes (now (words .entry)) s (take n (now (f .entry))) (now (words .exit)) r ⌝ }
+{
+    let many = frames::packets_of(f, n - 16);
+    let mut r = s;
+    r.fed = s.fed + n;
+    r.frames = std::num::wrapping_add_u64(s.frames, 1);
+    if many == 0 {
+        r.skipped = std::num::wrapping_add_u64(s.skipped, 1);
+        return r;
+    }
+    let u = s.units;
+    let t = frames::take_packets(
+        words,
+        Tally {
+            bad: s.bad,
+            units: u,
+        },
+        s.pid,
+        f,
+        many as usize,
+    );
+    let v = t.units;
+    r.bad = t.bad;
+    r.units = v;
+    r
+}
+
 // A whole piece.
 fn run(words: &mut [u64; 3840], start: Meter, piece: &[u8]) -> Meter
     ensures { λ r. ⌜ Goes (now (words .entry)) start (now (piece .entry)) (now (words .exit)) r ⌝ }
@@ -338,10 +412,16 @@ fn run(words: &mut [u64; 3840], start: Meter, piece: &[u8]) -> Meter
         if 268435456 <= s.fed {
             return refused(s, 4, 268435456);
         }
-        let left = (piece.len() - i) as u64;
-        let n = span(s, left);
-        s = step(words, s, left, piece, i, n);
-        i += n as usize;
+        let whole = whole_size(s, &piece[i..]);
+        if 0 < whole {
+            s = on_frame(words, s, &piece[i..], whole);
+            i += whole as usize;
+        } else {
+            let left = (piece.len() - i) as u64;
+            let n = span(s, left);
+            s = step(words, s, left, piece, i, n);
+            i += n as usize;
+        }
     }
     s
 }

@@ -133,7 +133,10 @@ fn take_packet(words: &mut [u64; 3840], s: Tally, pid: u64, time: u64, f: &[u8],
         counter: last % 16,
     };
     let v = units::add_packet(words, u, p);
-    Tally { bad: s.bad, units: v }
+    Tally {
+        bad: s.bad,
+        units: v,
+    }
 }
 
 // The frame's n packets.
