@@ -101,6 +101,29 @@ pub record RowEnded (g : Grid) (s : Progress) (sums bins picture : List ℕ) (r 
   pub is : r ≡ nextRow g s state
   pub goes : (luma : List ℕ) → Goes g s luma sums bins picture [] r luma sums′ bins′ picture′
 
+-- the w pixels from `base` on are the first w bytes of the string
+pub record Puts (base w : ℕ) (rest before after : List ℕ) : Type 0 where
+  pub size : length after ≡ length before
+  pub same : length before ≡ 14104 → (j : ℕ) → j < w → getD after (base + j) 0 ≡ getD rest j 0
+  pub low : (q : ℕ) → q < base → getD after q 0 ≡ getD before q 0
+  pub high : (q : ℕ) → base + w ≤ q → getD after q 0 ≡ getD before q 0
+
+-- a whole row of blocks of one byte: asked for and promised
+pub record AtPlainRow (g : Grid) (s : Progress) (rest : List ℕ) : Type 0 where
+  pub fits : Fits g
+  pub more : s .pictures < 750
+  pub line : s .line < g .lines
+  pub row : s .row ≡ 0
+  pub col : s .col ≡ 0
+  pub side : g .side ≡ 1
+  pub narrow : g .columns ≤ g .width
+  pub there : g .width ≤ length rest
+
+pub record PlainRow (g : Grid) (s : Progress) (bins picture rest : List ℕ) (r : Progress) (bins′ picture′ : List ℕ) : Type 0 where
+  pub state : Moves
+  pub is : r ≡ nextRow g (movedTo s 1 0 (g .width)) state
+  pub goes : (luma sums : List ℕ) → Goes g s luma sums bins picture (take (g .width) rest) r luma sums bins′ picture′
+
 -- Before a picture's end is looked at
 pub record Loose (g : Grid) (s : Progress) : Type 0 where
   pub few : s .pictures ≤ 750

@@ -1,7 +1,9 @@
 // The current picture of the luma side: bytes of its block rows are taken in, and at the end of each its pixels are made, counted and compared.
 ghost use mathlib.Core.Path.{_≡_};
+ghost use mathlib.Core.Bool.{true};
+ghost use lib.ListN.{length};
 ghost use Prim.Native.Nat.{_+_, _-_, _*_, _%_, _^_, _≤_, _<_};
-ghost use Rattle.drawing.specs.Contract.{Fits, Keeps, movedTo, nextRow, AtRowEnd, RowEnded, Took, Taking};
+ghost use Rattle.drawing.specs.Contract.{Fits, Keeps, movedTo, nextRow, AtRowEnd, RowEnded, Puts, AtPlainRow, PlainRow, Took, Taking};
 use moves::Moves;
 
 // The sizes of a sample's pictures: rows of `width` bytes, blocks of `side` by `side` of them, `columns` by `lines` pixels, `bytes` in all.
@@ -125,6 +127,58 @@ fn end_row(
     next_row(g, s, m)
 }
 
+// The first w bytes of the string become the pixels from `base` on.
+fn put(picture: &mut [u8; 14104], base: usize, rest: &[u8], w: usize)
+    requires { ⌜ (w ≤ length (now rest)) × (base + w ≤ 14104) ⌝ }
+    ensures { λ _. ⌜ Puts base w (now (rest .entry)) (now (picture .entry)) (now (picture .exit)) ⌝ }
+{
+    let mut j: usize = 0;
+    while j < w {
+        picture[base + j] = rest[j];
+        j += 1;
+    }
+}
+
+// Whether a whole row comes next, of blocks of one byte.
+fn is_plain(g: Grid, s: Progress, rest: &[u8]) -> bool
+    requires { ⌜ (Taking g s (now rest)) × (s .line < g .lines) ⌝ }
+    ensures { λ r. ⌜ (r ≡ true → AtPlainRow g s (now (rest .entry))) ⌝ }
+{
+    if g.side != 1 {
+        return false;
+    }
+    if s.col != 0 {
+        return false;
+    }
+    if g.width < g.columns {
+        return false;
+    }
+    g.width <= rest.len()
+}
+
+// Such a row: its bytes are the pixels. No sum is made, and the sums stay what they were, none.
+fn plain_row(
+    bins: &mut [u32; 720],
+    picture: &mut [u8; 14104],
+    g: Grid,
+    s: Progress,
+    rest: &[u8],
+) -> Progress
+    requires { ⌜ AtPlainRow g s (now rest) ⌝ }
+    ensures { λ r. ⌜ PlainRow g s (now (bins .entry)) (now (picture .entry)) (now (rest .entry)) r (now (bins .exit)) (now (picture .exit)) ⌝ }
+{
+    let w = g.columns;
+    let base = s.line * w;
+    let mut kept = [0u8; 240];
+    keep(&mut kept, picture, base, w);
+    put(picture, base, rest, w);
+    let slot = 144 * (s.pictures % 5);
+    tiles::count_row(bins, slot, picture, w, g.lines, s.line);
+    let m = moves::compare_run(moves_in(s), &kept, 0, picture, base, w);
+    let t = moved_to(s, 1, 0, g.width);
+    next_row(g, t, m)
+}
+
 // Bytes of a block row, up to its end or that of the piece.
 pub fn draw(
     sums: &mut [u32; 240],
@@ -137,6 +191,13 @@ pub fn draw(
     requires { ⌜ (Taking g s (now rest)) × (s .line < g .lines) ⌝ }
     ensures { λ r. ⌜ Took g s (now (sums .entry)) (now (bins .entry)) (now (picture .entry)) (now (rest .entry)) r (now (sums .exit)) (now (bins .exit)) (now (picture .exit)) ⌝ }
 {
+    if is_plain(g, s, rest) {
+        let e = plain_row(bins, picture, g, s, rest);
+        return Taken {
+            used: g.width,
+            state: e,
+        };
+    }
     let p = blocks::feed_rows(sums, g.side, g.columns, g.width, s.row, s.col, rest);
     let used = p.used;
     let t = moved_to(s, p.row, p.col, used);

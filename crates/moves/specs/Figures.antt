@@ -1,5 +1,5 @@
 -- What moves from one reduced picture to the next: running sums of its pixels' differences e, from which V of document 01 is made.
-use Prim.Native.Nat.{ℕ, _+_, _-_, _*_, _%_, _^_, _≤_, _<_}
+use Prim.Native.Nat.{ℕ, _+_, _%_, _^_, _≤_, _<_}
 use mathlib.Core.Path.{_≡_}
 use mathlib.Core.List.{List, [], _++_}
 use lib.ListN.{length, getD, take, drop}
@@ -12,16 +12,11 @@ pub record Figures (old p : List ℕ) (m : Moves) : Type 0 where
   pub down : m .down % 2 ^ 32 ≡ downs old p % 2 ^ 32
   pub both : m .squares % 2 ^ 32 ≡ squared old p % 2 ^ 32
 
--- one pixel more: a in the old picture, b in the new
-pub record Moved (m : Moves) (a b : ℕ) (r : Moves) : Type 0 where
-  pub up : r .up ≡ (m .up + (b - a)) % 2 ^ 32
-  pub down : r .down ≡ (m .down + (a - b)) % 2 ^ 32
-  pub both : r .squares ≡ (m .squares + (b - a + (a - b)) * (b - a + (a - b))) % 2 ^ 32
-
--- what `compare_run` asks: k pixels of each slice
+-- what `compare_run` asks: k pixels of each slice, at most a row
 pub record Paired (kept : List ℕ) (at : ℕ) (made : List ℕ) (from k : ℕ) : Type 0 where
   pub kept-there : at + k ≤ length kept
   pub made-there : from + k ≤ length made
+  pub few : k ≤ 240
 
 -- k pixels more, which stand in `made` from `from` on, where `kept` has the old picture's pixels of the same places from `at` on:
 -- whatever the old picture and the new one's first pixels p, figures of p become those of p and these

@@ -51,7 +51,11 @@ compare-run-requires : tie.Need-compare-run-requires
 compare-run-requires c κs =
     let p = c .before .before .before .before .before .before .before .before .before .before .before .before .before .before .before .before .pre in
     let a = c .before .before .before .before .before .before .before .before .before .before .before .before .before .before .before .before .args in
-    record { kept-there = omega (arith, p .fits .narrow); made-there = omega (arith, row-room (a .g) (a .s) (p .line), p .fits .room) }
+    record {
+      kept-there = omega (arith, p .fits .narrow);
+      made-there = omega (arith, row-room (a .g) (a .s) (p .line), p .fits .room);
+      few = omega (arith, p .fits .narrow);
+    }
 
 next-row-requires : tie.Need-next-row-requires
 next-row-requires c κs =
