@@ -102,23 +102,21 @@ blocks-more n c v j s at {b} {a} f l e w h k =
     let y : (c + j) * n ≡ c * n + j * n = add-mul c j n in
     rw z (added-more n w (c * n) (c + j) v s at (j * n) n (f w (omega arith) k) (omega arith) k (omega arith) (omega arith) (omega arith) e)
 
--- a run in three: up to an edge, whole blocks, what is left
-pub three : (n w x c : ℕ) (s : List ℕ) (at m head k : ℕ) {a b d z : List ℕ} → 0 < n → w ≤ 240 → c * n ≤ x → x + head ≡ c * n + n → c + 1 + k ≤ w →
-    head + k * n ≤ m → (c + 1 + k < w → m < head + k * n + n) → at + m ≤ length s → Part w c s at head a b → Blocks n (c + 1) k s (at + head) b d →
-    Part w (c + 1 + k) s (at + (head + k * n)) (m - (head + k * n)) d z → Added n w x (run s at m) a z
-three n w x c s at m head k {a} {b} {d} {z} hn hw lo edge room fits last l first blocks rest =
-    let next : (c + 1) * n ≡ c * n + n = omega (arith, add-mul c 1 n) in
-    let end : (c + 1 + k) * n ≡ c * n + n + k * n = omega (arith, add-mul (c + 1) k n) in
-    let done = head + k * n in
-    let size : length (run s at head) ≡ head = run-length s at head (omega arith) in
-    let size2 : length (run s at done) ≡ done = run-length s at done (omega arith) in
-    let start : x + head ≡ (c + 1) * n = omega arith in
-    let two : Added n w x (run s at done) a d =
-    rw (run-split s at head (k * n)) (added-append (first n x hn lo (λ h. omega arith)) (rw (size, start) (blocks w room hw))) in
-    let more : m ≡ done + (m - done) = omega arith in
-    let tail : Added n w (x + done) (run s (at + done) (m - done)) d z = rest n (x + done) hn (omega arith) (λ h. omega (arith, last h)) in
-    rw (more, run-split s at done (m - done)) (added-append two (rw size2 tail))
+-- a run from an edge on: whole blocks, what is left
+pub from-edge : (n w c : ℕ) (s : List ℕ) (at m k : ℕ) {a b d : List ℕ} → 0 < n → w ≤ 240 → c + k ≤ w → k * n ≤ m → (c + k < w → m < k * n + n) → at + m ≤ length s →
+    Blocks n c k s at a b → Part w (c + k) s (at + k * n) (m - k * n) b d → Added n w (c * n) (run s at m) a d
+from-edge n w c s at m k {a} {b} {d} hn hw room fits last l blocks rest =
+    let end : (c + k) * n ≡ c * n + k * n = add-mul c k n in
+    let size : length (run s at (k * n)) ≡ k * n = run-length s at (k * n) (omega arith) in
+    let more : m ≡ k * n + (m - k * n) = omega arith in
+    let tail : Added n w (c * n + k * n) (run s (at + k * n) (m - k * n)) b d = rest n (c * n + k * n) hn (omega arith) (λ h. omega (arith, last h)) in
+    rw (more, run-split s at (k * n) (m - k * n)) (added-append (blocks w room hw) (rw size tail))
 
--- as many blocks as there are whole ones
-pub whole-fits : (n k r : ℕ) → k ≤ r / n → k * n ≤ r
-whole-fits n k r h = omega (arith, mul-le-mul-right n h, div-mul-le-self r n)
+-- a run up to an edge, and the rest
+pub to-edge : (n w x c : ℕ) (s : List ℕ) (at m head : ℕ) {a b d : List ℕ} → 0 < n → c * n ≤ x → x + head ≡ c * n + n → head ≤ m → at + m ≤ length s →
+    Part w c s at head a b → Added n w ((c + 1) * n) (run s (at + head) (m - head)) b d → Added n w x (run s at m) a d
+to-edge n w x c s at m head {a} {b} {d} hn lo edge fits l first rest =
+    let size : length (run s at head) ≡ head = run-length s at head (omega arith) in
+    let start : x + head ≡ (c + 1) * n = omega (arith, add-mul c 1 n) in
+    let more : m ≡ head + (m - head) = omega arith in
+    rw (more, run-split s at head (m - head)) (added-append (first n x hn lo (λ h. omega arith)) (rw (size, start) rest))

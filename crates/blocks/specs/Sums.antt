@@ -29,6 +29,14 @@ pub record Laid (n w x : ℕ) (s : List ℕ) (at m : ℕ) : Type 0 where
   pub narrow : x + m ≤ 65536
   pub inside : at + m ≤ length s
 
+-- what `add_blocks` asks
+pub record Edged (n w : ℕ) (s : List ℕ) (at m : ℕ) : Type 0 where
+  pub some : 0 < n
+  pub few : n ≤ 64
+  pub room : w ≤ 240
+  pub narrow : m ≤ 65536
+  pub inside : at + m ≤ length s
+
 -- the smaller of two numbers
 pub record Least (a b r : ℕ) : Type 0 where
   pub first : r ≤ a

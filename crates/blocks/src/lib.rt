@@ -3,7 +3,7 @@ ghost use mathlib.Core.Path.{_≡_};
 ghost use Prim.Native.Nat.{_+_, _-_, _*_, _/_, _%_, _^_, _≤_, _<_};
 ghost use lib.ListN.{length};
 ghost use Rattle.rules.specs.Bytes.{total};
-ghost use Rattle.blocks.specs.Sums.{run, Added, Laid, Least, Part, Lined, Blocks};
+ghost use Rattle.blocks.specs.Sums.{run, Added, Laid, Edged, Least, Part, Lined, Blocks};
 ghost use Rattle.blocks.specs.Rows.{Ready, Advanced, FedRows};
 ghost use Rattle.blocks.specs.Pixels.{Finishing, RowDone};
 
@@ -90,25 +90,45 @@ fn blocks(sums: &mut [u32; 240], c: usize, k: usize, s: &[u8], at: usize, n: usi
     }
 }
 
+// As many whole blocks of n bytes as there are in m, `room` at most. Where all of a row is there, no division is needed.
+fn fitting(n: usize, room: usize, m: usize) -> usize
+    requires { ⌜ (0 < n) × (n ≤ 64) × (room ≤ 240) ⌝ }
+    ensures { λ r. ⌜ (r ≤ room) × (r * n ≤ m) × (r < room → m < r * n + n) ⌝ }
+{
+    if room * n <= m { room } else { m / n }
+}
+
+// Adds m bytes of a row, which stand in s from `at` on and in the row from block column c on: whole blocks, then what is left.
+fn add_blocks(sums: &mut [u32; 240], n: usize, w: usize, c: usize, s: &[u8], at: usize, m: usize)
+    requires { ⌜ Edged n w (now s) at m ⌝ }
+    ensures { λ _. ⌜ Added n w (c * n) (run (now (s .entry)) at m) (now (sums .entry)) (now (sums .exit)) ⌝ }
+{
+    if w <= c {
+        return;
+    }
+    let k = fitting(n, w - c, m);
+    blocks(sums, c, k, s, at, n);
+    let done = k * n;
+    part(sums, w, c + k, s, at + done, m - done);
+}
+
 // Adds m bytes of a row, which stand in s from `at` on and in the row from column x on, to the sums of their block columns, of n columns each.
-// Columns past the first w blocks are dropped. The run is taken up to the next block's edge, then by whole blocks, then what is left.
+// Columns past the first w blocks are dropped. A run that begins inside a block is taken up to the block's edge first.
 pub fn add_run(sums: &mut [u32; 240], n: usize, w: usize, x: usize, s: &[u8], at: usize, m: usize)
     requires { ⌜ Laid n w x (now s) at m ⌝ }
     ensures { λ _. ⌜ Added n w x (run (now (s .entry)) at m) (now (sums .entry)) (now (sums .exit)) ⌝ }
 {
-    let c = x / n;
-    if w <= c {
+    if x == 0 {
+        add_blocks(sums, n, w, 0, s, at, m);
         return;
     }
+    let c = x / n;
     let head = least(c * n + n - x, m);
     part(sums, w, c, s, at, head);
     if head == m {
         return;
     }
-    let k = least((m - head) / n, w - (c + 1));
-    blocks(sums, c + 1, k, s, at + head, n);
-    let done = head + k * n;
-    part(sums, w, c + 1 + k, s, at + done, m - done);
+    add_blocks(sums, n, w, c + 1, s, at + head, m - head);
 }
 
 // The place t bytes on, in the same row or at the start of the next.
