@@ -379,7 +379,8 @@ fn on_frame(words: &mut [u64; 3840], s: Meter, f: &[u8], n: u64) -> Meter
     r.fed = s.fed + n;
     r.frames = std::num::wrapping_add_u64(s.frames, 1);
     if many == 0 {
-        r.skipped = std::num::wrapping_add_u64(s.skipped, 1);
+        let skipped = std::num::wrapping_add_u64(s.skipped, 1);
+        r.skipped = skipped;
         return r;
     }
     let u = s.units;
