@@ -4,13 +4,11 @@ use mathlib.Core.Path.{_≡_}
 use mathlib.Core.List.{List, [], _++_}
 use lib.ListN.{length, getD, take}
 use Rattle.rules.specs.declared.Opening.{Opening}
-use Rattle.tiles.specs.Bins.{CountedRow}
 use Rattle.moves.specs.declared.Moves.{Moves}
-use Rattle.moves.specs.Figures.{Compared}
 use Rattle.drawing.specs.declared.Grid.{Grid}
 use Rattle.drawing.specs.declared.Progress.{Progress}
 use Rattle.drawing.specs.declared.Taken.{Taken}
-use Rattle.drawing.specs.State.{slot, Live, Sane}
+use Rattle.drawing.specs.State.{Live, Sane}
 
 -- what a grid's numbers may be: those of every opening that is not refused are such
 pub record Fits (g : Grid) : Type 0 where
@@ -89,13 +87,6 @@ passedOn s used =
 abbrev pub Goes : Grid → Progress → List ℕ → List ℕ → List ℕ → List ℕ → List ℕ → Progress → List ℕ → List ℕ → List ℕ → List ℕ → Type 0
 Goes g s luma sums bins picture chunk r luma′ sums′ bins′ picture′ =
     (o : Opening) (joined : List ℕ) → Live g o s luma sums bins picture joined → Live g o r luma′ sums′ bins′ picture′ (joined ++ chunk)
-
--- a row of pixels is counted, and compared with the kept ones
-pub record Weighed (g : Grid) (s : Progress) (kept picture bins : List ℕ) (r : Moves) (bins′ : List ℕ) : Type 0 where
-  pub counted : CountedRow (g .columns) (g .lines) (s .line) (slot (s .pictures)) picture bins bins′
-  pub start : Moves
-  pub so-far : (start .up ≡ s .ups % 2 ^ 32) × (start .down ≡ s .downs % 2 ^ 32) × (start .squares ≡ s .squares % 2 ^ 32)
-  pub compared : Compared kept 0 picture (s .line * g .columns) (g .columns) start r
 
 -- the end of a block row: asked for and promised
 pub record AtRowEnd (g : Grid) (s : Progress) : Type 0 where

@@ -3,7 +3,7 @@ ghost use mathlib.Core.Path.{_≡_};
 ghost use mathlib.Core.Bool.{true};
 ghost use lib.ListN.{length};
 ghost use Prim.Native.Nat.{_+_, _-_, _*_, _%_, _^_, _≤_, _<_};
-ghost use Rattle.drawing.specs.Contract.{Fits, Keeps, movedTo, nextRow, Weighed, AtRowEnd, RowEnded, Puts, AtPlainRow, PlainRow, Took, Taking};
+ghost use Rattle.drawing.specs.Contract.{Fits, Keeps, movedTo, nextRow, AtRowEnd, RowEnded, Puts, AtPlainRow, PlainRow, Took, Taking};
 use moves::Moves;
 
 // The sizes of a sample's pictures: rows of `width` bytes, blocks of `side` by `side` of them, `columns` by `lines` pixels, `bytes` in all.
@@ -105,23 +105,6 @@ fn keep(kept: &mut [u8; 240], picture: &[u8; 14104], base: usize, w: usize)
     }
 }
 
-// A row of pixels that is made: counted, and compared with the previous picture's, which were kept.
-fn weigh(
-    bins: &mut [u32; 720],
-    picture: &[u8; 14104],
-    kept: &[u8; 240],
-    g: Grid,
-    s: Progress,
-) -> Moves
-    requires { ⌜ (Fits g) × (s .line < g .lines) ⌝ }
-    ensures { λ r. ⌜ Weighed g s (now (kept .entry)) (now (picture .entry)) (now (bins .entry)) r (now (bins .exit)) ⌝ }
-{
-    let w = g.columns;
-    let slot = 144 * (s.pictures % 5);
-    tiles::count_row(bins, slot, picture, w, g.lines, s.line);
-    moves::compare_run(moves_in(s), kept, 0, picture, s.line * w, w)
-}
-
 // At the end of a block row: its pixels are made of the sums, counted, and compared with the previous picture's.
 fn end_row(
     sums: &mut [u32; 240],
@@ -134,10 +117,13 @@ fn end_row(
     ensures { λ r. ⌜ RowEnded g s (now (sums .entry)) (now (bins .entry)) (now (picture .entry)) r (now (sums .exit)) (now (bins .exit)) (now (picture .exit)) ⌝ }
 {
     let w = g.columns;
+    let base = s.line * w;
     let mut kept = [0u8; 240];
-    keep(&mut kept, picture, s.line * w, w);
+    keep(&mut kept, picture, base, w);
     blocks::finish_row(picture, sums, g.side, w, s.line);
-    let m = weigh(bins, picture, &kept, g, s);
+    let slot = 144 * (s.pictures % 5);
+    tiles::count_row(bins, slot, picture, w, g.lines, s.line);
+    let m = moves::compare_run(moves_in(s), &kept, 0, picture, base, w);
     next_row(g, s, m)
 }
 
@@ -186,9 +172,11 @@ fn plain_row(
     let mut kept = [0u8; 240];
     keep(&mut kept, picture, base, w);
     put(picture, base, rest, w);
-    let m = weigh(bins, picture, &kept, g, s);
+    let own = 144 * (s.pictures % 5);
+    tiles::count_row(bins, own, picture, w, g.lines, s.line);
+    let moved = moves::compare_run(moves_in(s), &kept, 0, picture, base, w);
     let t = moved_to(s, 1, 0, g.width);
-    next_row(g, t, m)
+    next_row(g, t, moved)
 }
 
 // Bytes of a block row, up to its end or that of the piece.
