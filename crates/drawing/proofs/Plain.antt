@@ -6,7 +6,7 @@ use mathlib.Core.Path.{_≡_, refl, sym, ap, _∙_}
 use mathlib.Core.Bool.{Bool, true, false}
 use mathlib.Core.List.{List, [], _∷_, _++_, append-nil}
 use lib.ListN.{length, getD, take, drop, set, length-set, length-drop}
-use lib.Seq.{getD-set-same, getD-set-other, getD-take, getD-drop, drop-cons, length-take-le}
+use lib.Seq.{getD-set-same, getD-set-other, getD-take, getD-drop, drop-cons, length-take-le, ext-getD}
 use borrow.Author.Count.{below-more}
 use Rattle.rules.specs.declared.Opening.{Opening}
 use Rattle.rules.specs.Bytes.{tally, table}
@@ -28,7 +28,7 @@ use Rattle.drawing.specs.declared.Grid.{Grid}
 use Rattle.drawing.specs.declared.Progress.{Progress}
 use Rattle.drawing.specs.State.{slot, Live}
 use Rattle.drawing.specs.Contract.{Keeps, movedTo, nextRow, Puts, AtPlainRow, PlainRow, Taking, Took}
-use Rattle.drawing.proofs.Rows.{at-drawing, bytes-of, drew-live, row-live}
+use Rattle.drawing.proofs.Rows.{at-drawing, bytes-of, row-room, drew-live, row-live}
 
 pub never : _≡_ {A = Bool} false true → ⊥
 never e = let z : _≡_ {A = ℕ} 0 1 = cc in omega arith
@@ -125,14 +125,47 @@ module _ (W w : ℕ) (sums rest : List ℕ) (some : 0 < W) (narrow : w ≤ W) (f
       pixel : (sum v s x : ℕ) → sum ≤ 255 * (1 * 1) → v < 256 → s % 2 ^ 32 ≡ 0 → x ≡ s + v → x % 2 ^ 32 ≡ sum % 2 ^ 32 → v ≡ sum / (1 * 1)
       pixel sum v s x h l z e m = omega arith
 
+-- ---- the old pixels, which are compared where they stand
+
+abbrev kept : List ℕ → ℕ → List ℕ
+kept picture base = table 240 0 (λ j. getD picture (base + j) 0)
+
+module _ (base w : ℕ) (picture : List ℕ) (few : w ≤ 240) where
+  kept-at : (j : ℕ) → j < w → getD (kept picture base) j 0 ≡ getD picture (base + j) 0
+  kept-at j h = getD-table 240 0 (λ j. getD picture (base + j) 0) j 0 (omega arith) ∙ ap (λ (i : ℕ). getD picture (base + i) 0) (zero-plus j)
+    where
+      zero-plus : (c : ℕ) → 0 + c ≡ c
+      zero-plus c = omega arith
+
+  old-kept : Keeps base w picture (kept picture base) (kept picture base)
+  old-kept = record { size = refl; same = λ e j h. kept-at j h }
+
+  -- the row that is put is the row that was compared
+  row-put : (rest : List ℕ) {picture′ : List ℕ} {m₀ m : Moves} → Puts base w rest picture picture′ → length picture ≡ 14104 → base + w ≤ 14104 → w ≤ length rest →
+      Compared picture base rest 0 w m₀ m → Compared (kept picture base) 0 picture′ base w m₀ m
+  row-put rest {picture′} {m₀} {m} f size room there c =
+      let e : length picture′ ≡ 14104 = f .size ∙ size in
+      let a : length (take w (drop base picture′)) ≡ w = length-take-le w (drop base picture′) (simp length-drop (omega arith)) in
+      let b : length (take w (drop 0 rest)) ≡ w = length-take-le w (drop 0 rest) (simp length-drop (omega arith)) in
+      let same : take w (drop base picture′) ≡ take w (drop 0 rest) =
+      ext-getD 0 (take w (drop base picture′)) (take w (drop 0 rest)) (a ∙ sym b)
+      (λ i l.
+      let low : i < w = omega arith in
+      let z : 0 + i ≡ i = omega arith in
+      rw (getD-take w (drop base picture′) i 0 low, getD-take w (drop 0 rest) i 0 low, getD-drop base picture′ i 0, getD-drop 0 rest i 0, z) (f .same size i low)) in
+      record {
+        more = λ old p k g.
+            rw same
+            (c .more old p (λ j l. let z : 0 + j ≡ j = omega arith in rw z at (k j l) ∙ kept-at j l) g);
+      }
+
 -- ---- the state
 
-module _ (g : Grid) (s : Progress) {bins picture rest before kept bins′ picture′ : List ℕ} {m₀ m : Moves} (at : AtPlainRow g s rest) (small : (i : ℕ) → getD rest i 0 < 256)
-    (fresh : length before ≡ 240) (keeps : Keeps (s .line * g .columns) (g .columns) picture before kept)
-    (puts : Puts (s .line * g .columns) (g .columns) rest picture picture′)
-    (counted : CountedRow (g .columns) (g .lines) (s .line) (slot (s .pictures)) picture′ bins bins′)
+module _ (g : Grid) (s : Progress) {bins picture rest bins′ picture′ : List ℕ} {m₀ m : Moves} (at : AtPlainRow g s rest) (small : (i : ℕ) → getD rest i 0 < 256)
     (start : (m₀ .up ≡ s .ups % 2 ^ 32) × (m₀ .down ≡ s .downs % 2 ^ 32) × (m₀ .squares ≡ s .squares % 2 ^ 32))
-    (compared : Compared kept 0 picture′ (s .line * g .columns) (g .columns) m₀ m) where
+    (compared : Compared picture (s .line * g .columns) rest 0 (g .columns) m₀ m)
+    (puts : Puts (s .line * g .columns) (g .columns) rest picture picture′)
+    (counted : CountedRow (g .columns) (g .lines) (s .line) (slot (s .pictures)) picture′ bins bins′) where
   wide : 0 < g .width
   wide = omega (arith, at .fits .least)
 
@@ -142,6 +175,7 @@ module _ (g : Grid) (s : Progress) {bins picture rest before kept bins′ pictur
   plain-live : (o : Opening) (luma sums joined : List ℕ) → Live g o s luma sums bins picture joined →
       Live g o (nextRow g (movedTo s 1 0 (g .width)) m) luma sums bins′ picture′ (joined ++ take (g .width) rest)
   plain-live o luma sums joined v =
+      let base = s .line * g .columns in
       let p = at-drawing (at .line) (v .place) in
       let sum : SumsOf (g .width) 1 (g .columns) (s .line) (v .cur) sums = rw (at .side) at (p .1) in
       let long : length (v .cur) ≡ (s .line * 1 + 0) * g .width + 0 = rw (at .side, at .row, at .col) at (p .0) in
@@ -153,8 +187,21 @@ module _ (g : Grid) (s : Progress) {bins picture rest before kept bins′ pictur
       let done = row-made (g .width) (g .columns) sums rest wide (at .narrow) few (at .there) (s .line) small nothing (sum .size) puts in
       let bytes = bytes-take (g .width) rest (bytes-of rest small) in
       let drew = drew-live {rest = rest} {sums′ = made sums rest} {p = record { row = 1; col = 0; used = g .width }} (at .line) (at .more) bytes (rw (at .side, at .row, at .col) fed) v in
+      let fill : base + g .columns ≤ 14104 = omega (arith, row-room g s (at .line), at .fits .room) in
+      let there : g .columns ≤ length rest = omega (arith, at .narrow, at .there) in
+      let beside = row-put base (g .columns) picture few rest puts (v .drawn .rows .size) fill there compared in
       rw append-nil at
-      (row-live g (movedTo s 1 0 (g .width)) {sums = made sums rest} {sums′ = sums} (at .fits) (at .line) (sym (at .side)) refl fresh keeps (rw (at .side) done) counted start compared o luma (joined ++ take (g .width) rest) drew)
+      (row-live g (movedTo s 1 0 (g .width)) {sums = made sums rest} {sums′ = sums} (at .fits) (at .line) (sym (at .side)) refl
+      (length-table 240 0 (λ j. getD picture (base + j) 0))
+      (old-kept base (g .columns) picture few)
+      (rw (at .side) done)
+      counted
+      start
+      beside
+      o
+      luma
+      (joined ++ take (g .width) rest)
+      drew)
 
   pub plain-row : (r : Progress) → r ≡ nextRow g (movedTo s 1 0 (g .width)) m → PlainRow g s bins picture rest r bins′ picture′
   plain-row r e = record { state = m; is = e; goes = λ luma sums o joined v. rw e (plain-live o luma sums joined v) }

@@ -169,14 +169,12 @@ fn plain_row(
 {
     let w = g.columns;
     let base = s.line * w;
-    let mut kept = [0u8; 240];
-    keep(&mut kept, picture, base, w);
+    let m = moves::compare_run(moves_in(s), picture, base, rest, 0, w);
     put(picture, base, rest, w);
     let own = 144 * (s.pictures % 5);
     tiles::count_row(bins, own, picture, w, g.lines, s.line);
-    let moved = moves::compare_run(moves_in(s), &kept, 0, picture, base, w);
     let t = moved_to(s, 1, 0, g.width);
-    next_row(g, t, moved)
+    next_row(g, t, m)
 }
 
 // Bytes of a block row, up to its end or that of the piece.
