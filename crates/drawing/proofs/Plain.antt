@@ -10,7 +10,8 @@ use lib.Seq.{getD-set-same, getD-set-other, getD-take, getD-drop, drop-cons, len
 use borrow.Author.Count.{below-more}
 use Rattle.rules.specs.declared.Opening.{Opening}
 use Rattle.rules.specs.Bytes.{tally, table}
-use Rattle.rules.proofs.Laws.Pictures.{Bytes, bytes-take}
+use Rattle.rules.specs.Bytes.{Bytes}
+use Rattle.rules.proofs.Laws.Pictures.{bytes-take}
 use Rattle.rules.proofs.Laws.Lists.{length-table}
 use Rattle.rules.proofs.Laws.Tables.{getD-table}
 use Rattle.rules.proofs.Laws.Tally.{tally-append, tally-cut}

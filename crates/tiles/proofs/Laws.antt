@@ -15,7 +15,8 @@ use borrow.Author.Tests.{eqb-true, eqb-false}
 use Rattle.rules.specs.Bytes.{pick, count, tally}
 use Rattle.rules.specs.Histograms.{third, tileAt, bin, inBin}
 use Rattle.rules.proofs.Laws.Lists.{count-append}
-use Rattle.rules.proofs.Laws.Tiles.{hits, binTally, bin-more}
+use Rattle.rules.specs.Counted.{hits}
+use Rattle.rules.proofs.Laws.Tiles.{binTally, bin-more}
 use Rattle.rules.proofs.Laws.Thirds.{tile-of}
 use Rattle.blocks.specs.Sums.{run}
 use Rattle.blocks.proofs.Runs.{run-length, run-split, column}
