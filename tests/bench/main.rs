@@ -38,11 +38,12 @@ use std::hint::black_box;
 
 const PIECES: [usize; 3] = [1_316, 65_536, 2_073_600];
 
-/// Rounds of which the best counts.
-const ROUNDS: usize = 15;
+/// Rounds of which the best counts: many and short, as other work on the machine comes and goes.
+const ROUNDS: usize = 40;
 
-/// Bytes that a round takes, about.
-const ROUND: usize = 64 << 20;
+/// Bytes that a round takes at least, and those of the capture.
+const ROUND: usize = 16 << 20;
+const CAPTURE: usize = 64 << 20;
 
 const PID: u32 = 256;
 
@@ -50,9 +51,9 @@ const PID: u32 = 256;
 struct Times([f64; 4]);
 
 impl Times {
-    /// How many times as fast as another we are.
+    /// How many times as fast as another we are, in hundredths, as it is printed.
     fn ratio(&self, other: usize) -> f64 {
-        self.0[other] / self.0[0]
+        (100.0 * self.0[other] / self.0[0]).round() / 100.0
     }
 }
 
@@ -72,7 +73,7 @@ struct Input {
 
 fn main() {
     let inputs = [
-        film("luma 1920 x 1080", 1920, 1080, 32),
+        film("luma 1920 x 1080", 1920, 1080, 8),
         film("luma 64 x 48", 64, 48, 750),
         stream(),
     ];
@@ -120,7 +121,7 @@ fn stream() -> Input {
     let mut maker = CaptureMaker::new(&mut random, PID);
     maker.start_every = 2_000;
     for number in 1.. {
-        if maker.side.bytes.len() >= ROUND {
+        if maker.side.bytes.len() >= CAPTURE {
             break;
         }
         if number % 10 == 0 { maker.skipped_record() } else { maker.carrying_record(7) }
