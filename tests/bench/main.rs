@@ -73,7 +73,7 @@ struct Input {
 
 fn main() {
     let inputs = [
-        film("luma 1920 x 1080", 1920, 1080, 8),
+        film("luma 1920 x 1080", 1920, 1080, 32),
         film("luma 64 x 48", 64, 48, 750),
         stream(),
     ];
