@@ -26,7 +26,7 @@ use Rattle.units.specs.Contract.{Full}
 use Rattle.units.proofs.Steps.{stands-kept}
 use Rattle.carried.specs.Carried.{Holds, wantedIn, arrivingIn}
 use Rattle.carried.proofs.Held.{First, held-kept, time-held, wanted-held, start-held}
-use Rattle.capture.specs.declared.Meter.{Meter}
+use Rattle.capture.specs.declared.meter.Meter.{Meter}
 use Rattle.capture.specs.State.{Under, Core, Stands}
 use Rattle.capture.specs.Contract.{Taken, Shows, Counted, Accounts}
 use Rattle.capture.proofs.Fits.{fits-skip, size-is, stored-more, fine-skip}

@@ -20,7 +20,7 @@ use Rattle.rules.proofs.Laws.Clear.{clear-of, long-of}
 use Rattle.rules.proofs.Laws.Bounds.{frame-count-few, skipped-few}
 use Rattle.carried.specs.Carried.{carriesIn}
 use Rattle.carried.proofs.Held.{carries-held}
-use Rattle.capture.specs.declared.Meter.{Meter}
+use Rattle.capture.specs.declared.meter.Meter.{Meter}
 use Rattle.capture.specs.State.{Core, Stands, live}
 use Rattle.capture.specs.Contract.{Taken}
 use Rattle.capture.proofs.Fits.{size-is}

@@ -19,7 +19,7 @@ use Rattle.rules.proofs.Laws.Clear.{Clear, clear-of, magic-more, magic-early, l
 use Rattle.units.specs.State as table
 use Rattle.carried.specs.Carried.{Holds, byteIn, magicIn, wordIn}
 use Rattle.carried.proofs.Held.{Bytes, byte-held, word-held}
-use Rattle.capture.specs.declared.Meter.{Meter}
+use Rattle.capture.specs.declared.meter.Meter.{Meter}
 use Rattle.capture.specs.State.{Head, Core, Stands, head, live}
 use Rattle.capture.proofs.Fits.{longer}
 use Rattle.capture.proofs.Steps.{refuse, table-set, bytes-more}

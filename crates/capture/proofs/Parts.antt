@@ -18,7 +18,7 @@ use Rattle.units.specs.State as table
 use Rattle.units.specs.Contract.{Kept, Added, Tells}
 use Rattle.carried.specs.Carried.{badIn, wantedIn, arrivingIn}
 use Rattle.carried.proofs.Held.{First, bad-held, wanted-held, start-held, counter-held}
-use Rattle.capture.specs.declared.Meter.{Meter}
+use Rattle.capture.specs.declared.meter.Meter.{Meter}
 use Rattle.capture.specs.State.{Under, Core, Stands}
 use Rattle.capture.specs.Contract.{Skips, Within, Settles, Accounts, Shows, Counted, recounted, Taken}
 use Rattle.capture.proofs.Fits.{size-is}

@@ -24,7 +24,7 @@ use Rattle.units.specs.State as table
 use Rattle.units.proofs.Steps.{stands-kept}
 use Rattle.carried.specs.Carried.{Holds, Carried, wordIn, packetsIn}
 use Rattle.carried.proofs.Held.{Bytes, held-new, held-old, held-kept, micro-held, stored-held, packets-held}
-use Rattle.capture.specs.declared.Meter.{Meter}
+use Rattle.capture.specs.declared.meter.Meter.{Meter}
 use Rattle.capture.specs.State.{Under, Core, Head, Stands, refused, head, live}
 use Rattle.capture.specs.Contract.{Within, Taken}
 use Rattle.capture.proofs.Fits.{longer, stored-more, fine-run, time-behind, fits-run}

@@ -25,7 +25,7 @@ use Rattle.rules.proofs.Laws.Bounds.{bad-few, frame-count-few, skipped-few}
 use Rattle.units.specs.Contract.{Kept}
 use Rattle.frames.specs.declared.Tally.{Tally}
 use Rattle.frames.specs.Tallies.{Counts, Took}
-use Rattle.capture.specs.declared.Meter.{Meter}
+use Rattle.capture.specs.declared.meter.Meter.{Meter}
 use Rattle.capture.specs.State.{Core, Stands, live}
 use Rattle.capture.specs.Contract.{Ahead}
 use Rattle.capture.proofs.Fits.{size-is, stored-more, micro-more}

@@ -20,7 +20,7 @@ use Rattle.units.specs.declared.Units.{Units}
 use Rattle.units.specs.State as table
 use Rattle.units.specs.Contract.{Kept}
 use Rattle.carried.specs.Carried.{Holds, timeIn}
-use Rattle.capture.specs.declared.Meter.{Meter}
+use Rattle.capture.specs.declared.meter.Meter.{Meter}
 use Rattle.capture.specs.State.{loaded, Core, Stands, Means}
 
 -- `open`: the opening's number, or 0, and PID; the words after

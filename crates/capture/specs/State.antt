@@ -14,7 +14,7 @@ use Rattle.rules.specs.Capture.{wholeFrames, unfinished, wholeWanted, badCount,
 use Rattle.rules.proofs.Laws.Flow.{Split, current}
 use Rattle.units.specs.State as table
 use Rattle.carried.specs.Carried.{Holds}
-use Rattle.capture.specs.declared.Meter.{Meter}
+use Rattle.capture.specs.declared.meter.Meter.{Meter}
 
 abbrev pub loaded : List ℕ → Meter
 loaded w =

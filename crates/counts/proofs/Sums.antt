@@ -18,7 +18,7 @@ use Rattle.rules.proofs.Laws.Clear.{clear-of, long-of}
 use Rattle.rules.proofs.Laws.Bounds.{frame-count-few, skipped-few, bad-few, wanted-few}
 use Rattle.units.specs.State as table
 use Rattle.units.proofs.Steps.{totals-exact}
-use Rattle.capture.specs.declared.Meter.{Meter}
+use Rattle.capture.specs.declared.meter.Meter.{Meter}
 use Rattle.capture.specs.State.{Core, Head, Stands, refused, head, live}
 use Rattle.capture.proofs.Files.{header-bad, header-wanted, none-skipped}
 use Rattle.counts.specs.declared.Summary.{Summary}

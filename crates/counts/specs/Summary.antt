@@ -14,7 +14,7 @@ use Rattle.rules.specs.Capture as rule
 use Rattle.rules.specs.Capture.{wholeWanted, frameCount, skippedCount, badCount, captureFault, captureInside}
 use Rattle.units.specs.declared.Units.{Units}
 use Rattle.units.specs.State as table
-use Rattle.capture.specs.declared.Meter.{Meter}
+use Rattle.capture.specs.declared.meter.Meter.{Meter}
 use Rattle.capture.specs.State.{Means}
 use Rattle.counts.specs.declared.Summary.{Summary}
 

@@ -4,10 +4,10 @@ use Rattle.capture.proofs.feed.Statement.{statement}
 use Rattle.capture.proofs.feed.Tie as tie
 use Rattle.capture.proofs.feed.Reads as reads
 use Rattle.capture.proofs.feed.Lts as lts
-use Rattle.capture.proofs.load.Reads as load-reads
+use Rattle.capture.proofs.meter.load.Reads as load-reads
 use Rattle.capture.proofs.reply.Reads as reply-reads
 use Rattle.capture.proofs.run.Reads as run-reads
-use Rattle.capture.proofs.store.Reads as store-reads
+use Rattle.capture.proofs.meter.store.Reads as store-reads
 
 load-requires : tie.Need-load-requires
 load-requires c κs = search needs

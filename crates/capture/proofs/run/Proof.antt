@@ -3,7 +3,7 @@ use Prim.Native.Nat.{_≤_, _+_, _-_}
 use lib.ListN.{length, take}
 use native.Mathlib.Omega.{arith}
 use mathlib.Core.Path.{ap}
-use Rattle.capture.specs.declared.Meter.{Meter}
+use Rattle.capture.specs.declared.meter.Meter.{Meter}
 use Rattle.capture.specs.Contract.{Goes}
 use Rattle.capture.proofs.Pieces.{goes-none, goes-more, goes-all, goes-stopped, goes-over, frame-most, goes-frame}
 use borrow.Author.Needs.{needs}

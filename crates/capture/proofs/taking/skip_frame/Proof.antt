@@ -1,11 +1,11 @@
 use mathlib.Core.Path.{refl}
 use Rattle.capture.proofs.Parts.{frame-skips}
 use borrow.Author.Needs.{needs}
-use Rattle.capture.proofs.skip_frame.Statement.{statement}
-use Rattle.capture.proofs.skip_frame.Tie as tie
-use Rattle.capture.proofs.skip_frame.Reads as reads
-use Rattle.capture.proofs.skip_frame.Lts as lts
-use Rattle.capture.proofs.settle.Reads as settle-reads
+use Rattle.capture.proofs.taking.skip_frame.Statement.{statement}
+use Rattle.capture.proofs.taking.skip_frame.Tie as tie
+use Rattle.capture.proofs.taking.skip_frame.Reads as reads
+use Rattle.capture.proofs.taking.skip_frame.Lts as lts
+use Rattle.capture.proofs.taking.settle.Reads as settle-reads
 use Rattle.std.proofs.num.wrapping_add_u64.Reads as wrapping-add-u64-reads
 
 add-r : tie.Need-add-r

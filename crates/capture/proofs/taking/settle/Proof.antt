@@ -2,10 +2,10 @@ use native.Mathlib.Omega.{arith}
 use mathlib.Core.Path.{refl}
 use Rattle.capture.proofs.Ends.{in-header, in-body, end-carries, end-skipped}
 use borrow.Author.Needs.{needs}
-use Rattle.capture.proofs.settle.Statement.{statement}
-use Rattle.capture.proofs.settle.Tie as tie
-use Rattle.capture.proofs.settle.Reads as reads
-use Rattle.capture.proofs.settle.Lts as lts
+use Rattle.capture.proofs.taking.settle.Statement.{statement}
+use Rattle.capture.proofs.taking.settle.Tie as tie
+use Rattle.capture.proofs.taking.settle.Reads as reads
+use Rattle.capture.proofs.taking.settle.Lts as lts
 use Rattle.carried.proofs.carries_in.Reads as carries-in-reads
 use Rattle.std.proofs.num.wrapping_add_u64.Reads as wrapping-add-u64-reads
 

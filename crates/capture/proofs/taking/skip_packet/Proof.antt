@@ -2,12 +2,12 @@ use native.Mathlib.Omega.{arith}
 use mathlib.Core.Path.{refl}
 use Rattle.capture.proofs.Parts.{packet-skips, packet-ends}
 use borrow.Author.Needs.{needs}
-use Rattle.capture.proofs.skip_packet.Statement.{statement}
-use Rattle.capture.proofs.skip_packet.Tie as tie
-use Rattle.capture.proofs.skip_packet.Reads as reads
-use Rattle.capture.proofs.skip_packet.Lts as lts
-use Rattle.capture.proofs.account.Reads as account-reads
-use Rattle.capture.proofs.settle.Reads as settle-reads
+use Rattle.capture.proofs.taking.skip_packet.Statement.{statement}
+use Rattle.capture.proofs.taking.skip_packet.Tie as tie
+use Rattle.capture.proofs.taking.skip_packet.Reads as reads
+use Rattle.capture.proofs.taking.skip_packet.Lts as lts
+use Rattle.capture.proofs.taking.account.Reads as account-reads
+use Rattle.capture.proofs.taking.settle.Reads as settle-reads
 use Rattle.std.proofs.num.wrapping_add_u64.Reads as wrapping-add-u64-reads
 
 add-r : tie.Need-add-r

@@ -1,15 +1,15 @@
 use native.Mathlib.Omega.{arith}
 use Rattle.capture.proofs.Pieces.{many-taken, one-taken}
 use Rattle.capture.proofs.Parts.{nonzero}
-use Rattle.capture.proofs.step.Statement.{statement}
-use Rattle.capture.proofs.step.Tie as tie
-use Rattle.capture.proofs.step.Reads as reads
-use Rattle.capture.proofs.step.Lts as lts
-use Rattle.capture.proofs.on_file.Reads as on-file-reads
-use Rattle.capture.proofs.on_front.Reads as on-front-reads
-use Rattle.capture.proofs.on_packet.Reads as on-packet-reads
-use Rattle.capture.proofs.skip_frame.Reads as skip-frame-reads
-use Rattle.capture.proofs.skip_packet.Reads as skip-packet-reads
+use Rattle.capture.proofs.taking.step.Statement.{statement}
+use Rattle.capture.proofs.taking.step.Tie as tie
+use Rattle.capture.proofs.taking.step.Reads as reads
+use Rattle.capture.proofs.taking.step.Lts as lts
+use Rattle.capture.proofs.taking.on_file.Reads as on-file-reads
+use Rattle.capture.proofs.taking.on_front.Reads as on-front-reads
+use Rattle.capture.proofs.taking.on_packet.Reads as on-packet-reads
+use Rattle.capture.proofs.taking.skip_frame.Reads as skip-frame-reads
+use Rattle.capture.proofs.taking.skip_packet.Reads as skip-packet-reads
 
 shared-slice-read-on-file : tie.Need-shared-slice-read-on-file
 shared-slice-read-on-file c =

@@ -5,8 +5,8 @@ use Rattle.capture.proofs.Fits.{size-is}
 use Rattle.capture.proofs.Steps.{at-live}
 use Rattle.capture.proofs.Whole.{frame-skipped, frame-counted}
 use borrow.Author.Needs.{needs}
-use Rattle.capture.proofs.on_frame.Statement.{statement}
-use Rattle.capture.proofs.on_frame.Tie as tie
+use Rattle.capture.proofs.ahead.on_frame.Statement.{statement}
+use Rattle.capture.proofs.ahead.on_frame.Tie as tie
 
 sub-packets-of : tie.Need-sub-packets-of
 sub-packets-of c = search needs

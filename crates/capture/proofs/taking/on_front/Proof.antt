@@ -2,18 +2,18 @@ use Prim.Native.Nat.{_+_}
 use native.Mathlib.Omega.{arith}
 use mathlib.Core.Path.{_≡_, refl, ap}
 use lib.ListN.{length, take, drop}
-use Rattle.capture.specs.declared.Meter.{Meter}
+use Rattle.capture.specs.declared.meter.Meter.{Meter}
 use Rattle.capture.proofs.Steps.{at-live, placed, front-plain, front-time, front-size, front-last, front-bad-time, front-bad-size}
 use Rattle.capture.proofs.Ends.{in-header}
 use Rattle.capture.proofs.Pieces.{many-taken}
 use Rattle.capture.proofs.Parts.{lt-of, le-of}
 use borrow.Author.Needs.{needs}
-use Rattle.capture.proofs.on_front.Statement.{statement}
-use Rattle.capture.proofs.on_front.Tie as tie
-use Rattle.capture.proofs.on_front.Reads as reads
-use Rattle.capture.proofs.on_front.Lts as lts
-use Rattle.capture.proofs.refused.Reads as refused-reads
-use Rattle.capture.proofs.settle.Reads as settle-reads
+use Rattle.capture.proofs.taking.on_front.Statement.{statement}
+use Rattle.capture.proofs.taking.on_front.Tie as tie
+use Rattle.capture.proofs.taking.on_front.Reads as reads
+use Rattle.capture.proofs.taking.on_front.Lts as lts
+use Rattle.capture.proofs.meter.refused.Reads as refused-reads
+use Rattle.capture.proofs.taking.settle.Reads as settle-reads
 use Rattle.carried.proofs.carry.Reads as carry-reads
 use Rattle.carried.proofs.packets_in.Reads as packets-in-reads
 use Rattle.carried.proofs.word_in.Reads as word-in-reads

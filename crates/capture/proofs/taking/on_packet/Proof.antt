@@ -2,17 +2,17 @@ use Prim.Native.Nat.{_+_}
 use native.Mathlib.Omega.{arith}
 use mathlib.Core.Path.{_≡_, refl, ap}
 use lib.ListN.{length, take, drop}
-use Rattle.capture.specs.declared.Meter.{Meter}
+use Rattle.capture.specs.declared.meter.Meter.{Meter}
 use Rattle.capture.proofs.Steps.{at-live, placed}
 use Rattle.capture.proofs.Body.{packet-early, packet-other, packet-room, packet-full}
 use Rattle.capture.proofs.Pieces.{many-taken}
 use Rattle.capture.proofs.Parts.{at-more}
 use borrow.Author.Needs.{needs}
-use Rattle.capture.proofs.on_packet.Statement.{statement}
-use Rattle.capture.proofs.on_packet.Tie as tie
-use Rattle.capture.proofs.on_packet.Reads as reads
-use Rattle.capture.proofs.on_packet.Lts as lts
-use Rattle.capture.proofs.refused.Reads as refused-reads
+use Rattle.capture.proofs.taking.on_packet.Statement.{statement}
+use Rattle.capture.proofs.taking.on_packet.Tie as tie
+use Rattle.capture.proofs.taking.on_packet.Reads as reads
+use Rattle.capture.proofs.taking.on_packet.Lts as lts
+use Rattle.capture.proofs.meter.refused.Reads as refused-reads
 use Rattle.carried.proofs.arriving_in.Reads as arriving-in-reads
 use Rattle.carried.proofs.carry.Reads as carry-reads
 use Rattle.carried.proofs.wanted_in.Reads as wanted-in-reads

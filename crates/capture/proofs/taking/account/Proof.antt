@@ -1,10 +1,10 @@
 use mathlib.Core.Path.{refl}
 use Rattle.capture.proofs.Parts.{accounts-bad, accounts-wanted, accounts-other}
 use borrow.Author.Needs.{needs}
-use Rattle.capture.proofs.account.Statement.{statement}
-use Rattle.capture.proofs.account.Tie as tie
-use Rattle.capture.proofs.account.Reads as reads
-use Rattle.capture.proofs.account.Lts as lts
+use Rattle.capture.proofs.taking.account.Statement.{statement}
+use Rattle.capture.proofs.taking.account.Tie as tie
+use Rattle.capture.proofs.taking.account.Reads as reads
+use Rattle.capture.proofs.taking.account.Lts as lts
 use Rattle.carried.proofs.arriving_in.Reads as arriving-in-reads
 use Rattle.carried.proofs.bad_in.Reads as bad-in-reads
 use Rattle.carried.proofs.wanted_in.Reads as wanted-in-reads

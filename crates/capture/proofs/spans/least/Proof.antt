@@ -1,10 +1,10 @@
 use native.Mathlib.Omega.{arith}
 use mathlib.Core.Logic.{⊎-elim}
 use borrow.Author.Needs.{needs}
-use Rattle.capture.proofs.least.Statement.{statement}
-use Rattle.capture.proofs.least.Tie as tie
-use Rattle.capture.proofs.least.Reads as reads
-use Rattle.capture.proofs.least.Lts as lts
+use Rattle.capture.proofs.spans.least.Statement.{statement}
+use Rattle.capture.proofs.spans.least.Tie as tie
+use Rattle.capture.proofs.spans.least.Reads as reads
+use Rattle.capture.proofs.spans.least.Lts as lts
 
 returns : tie.Need-returns
 returns c = search needs

@@ -2,10 +2,10 @@ use lib.ListN.{length-set}
 use native.Mathlib.Omega.{arith}
 use Rattle.capture.proofs.Pieces.{stored, stored-keeps}
 use borrow.Author.Needs.{needs}
-use Rattle.capture.proofs.store.Statement.{statement}
-use Rattle.capture.proofs.store.Tie as tie
-use Rattle.capture.proofs.store.Reads as reads
-use Rattle.capture.proofs.store.Lts as lts
+use Rattle.capture.proofs.meter.store.Statement.{statement}
+use Rattle.capture.proofs.meter.store.Tie as tie
+use Rattle.capture.proofs.meter.store.Reads as reads
+use Rattle.capture.proofs.meter.store.Lts as lts
 
 element-write-words : tie.Need-element-write-words
 element-write-words c = search needs

@@ -1,16 +1,16 @@
 use Prim.Native.Nat.{_+_}
 use native.Mathlib.Omega.{arith}
 use mathlib.Core.Path.{refl, sym, ap, _∙_}
-use Rattle.capture.specs.declared.Meter.{Meter}
+use Rattle.capture.specs.declared.meter.Meter.{Meter}
 use Rattle.capture.proofs.Steps.{at-head}
 use Rattle.capture.proofs.Files.{file-plain, file-magic, file-link, file-bad-magic, file-bad-link}
 use Rattle.capture.proofs.Parts.{put-is, small-is}
 use borrow.Author.Needs.{needs}
-use Rattle.capture.proofs.on_file.Statement.{statement}
-use Rattle.capture.proofs.on_file.Tie as tie
-use Rattle.capture.proofs.on_file.Reads as reads
-use Rattle.capture.proofs.on_file.Lts as lts
-use Rattle.capture.proofs.refused.Reads as refused-reads
+use Rattle.capture.proofs.taking.on_file.Statement.{statement}
+use Rattle.capture.proofs.taking.on_file.Tie as tie
+use Rattle.capture.proofs.taking.on_file.Reads as reads
+use Rattle.capture.proofs.taking.on_file.Lts as lts
+use Rattle.capture.proofs.meter.refused.Reads as refused-reads
 use Rattle.carried.proofs.magic_in.Reads as magic-in-reads
 use Rattle.carried.proofs.put.Reads as put-reads
 use Rattle.carried.proofs.wide.Reads as wide-reads

@@ -1,12 +1,12 @@
 use native.Mathlib.Omega.{arith}
 use Rattle.capture.proofs.Parts.{within-less}
 use borrow.Author.Needs.{needs}
-use Rattle.capture.proofs.span.Statement.{statement}
-use Rattle.capture.proofs.span.Tie as tie
-use Rattle.capture.proofs.span.Reads as reads
-use Rattle.capture.proofs.span.Lts as lts
-use Rattle.capture.proofs.front_span.Reads as front-span-reads
-use Rattle.capture.proofs.least.Reads as least-reads
+use Rattle.capture.proofs.spans.span.Statement.{statement}
+use Rattle.capture.proofs.spans.span.Tie as tie
+use Rattle.capture.proofs.spans.span.Reads as reads
+use Rattle.capture.proofs.spans.span.Lts as lts
+use Rattle.capture.proofs.spans.front_span.Reads as front-span-reads
+use Rattle.capture.proofs.spans.least.Reads as least-reads
 use Rattle.std.proofs.num.wrapping_add_u64.Reads as wrapping-add-u64-reads
 
 returns : tie.Need-returns
