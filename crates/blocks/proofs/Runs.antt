@@ -1,7 +1,7 @@
 -- Runs of a row: what a part of a run that lies in one block column adds. No code.
 use Prim.Native.Nat.{ℕ, _+_, _-_, _*_, _/_, _%_, _^_, _≤_, _<_}
 use native.Mathlib.Omega.{arith}
-use native.Mathlib.Nat.{add-zero, add-mul, zero-mul, div-eq-of-lt-le, le-div-iff-mul-le, mul-le-mul-right, div-mul-le-self}
+use native.Mathlib.Nat.{add-zero, add-mul, zero-mul, div-eq-of-lt-le, le-div-iff-mul-le, mul-le-mul-right}
 use mathlib.Core.Path.{_≡_, refl, sym, _∙_}
 use mathlib.Core.Bool.{Bool, true, false}
 use mathlib.Core.List.{List, [], _++_}

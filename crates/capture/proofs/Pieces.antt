@@ -2,7 +2,7 @@
 use Prim.Native.Nat.{ℕ, zero, suc, _+_, _-_, _≤_, _<_}
 use native.Mathlib.Omega.{arith}
 use native.Mathlib.Nat.{add-zero}
-use mathlib.Core.Path.{_≡_, refl, sym, ap, _∙_}
+use mathlib.Core.Path.{_≡_, refl, ap, _∙_}
 use mathlib.Core.List.{List, [], _∷_, _++_, append-nil, append-assoc}
 use lib.ListN.{length, getD, set, take, drop, length-drop, take-append-drop}
 use lib.Seq.{take-add, take-all, getD-take, getD-drop, length-take-le, sets, sets-eq, getD-set-other}
@@ -17,8 +17,8 @@ use Rattle.rules.proofs.Laws.Begins.{capture-kept}
 use Rattle.rules.proofs.Laws.Clear.{clear-of, long-of, four, magic-early, link-early, header-shows}
 use Rattle.units.proofs.Steps.{stands-kept, none-yet}
 use Rattle.carried.proofs.Held.{held-kept}
-use Rattle.capture.specs.declared.meter.Meter.{Meter}
-use Rattle.capture.specs.State.{loaded, Under, Core, Head, Stands, refused, head, live, Means}
+use Rattle.capture.specs.declared.Meter.{Meter}
+use Rattle.capture.specs.State.{loaded, Under, Core, Stands, refused, head, live}
 use Rattle.capture.specs.Contract.{Opened, FeedPost, Goes, Ahead, Replies, Stored}
 use Rattle.capture.proofs.Steps.{at-live, refuse}
 

@@ -15,14 +15,12 @@ use Rattle.rules.specs.Refusals.{none}
 use Rattle.rules.specs.Frames.{microseconds, storedLength, frameSize, frameTime}
 use Rattle.rules.specs.Packets.{Packet, carries, holdsHeaders, isIpv4, isPlain, isUnfragmented, isUdp, lengthsAgree, isStoredWhole, holdsPackets, udpLength, packetsFrom, packets, skipped, wantedOf, badOf}
 use Rattle.rules.specs.Units.{beginnings}
-use Rattle.rules.specs.Capture.{wholeFrames, unfinished, wholeWanted, badCount, frameCount, skippedCount, tooManyUnits}
+use Rattle.rules.specs.Capture.{wholeFrames, unfinished, frameCount, skippedCount, tooManyUnits}
 use Rattle.rules.proofs.Laws.UnitsMore.{units-beginnings}
-use Rattle.rules.proofs.Laws.Lists.{both}
-use Rattle.rules.proofs.Laws.Onward.{base, whole-full, unfinished-full, countOf, of-from, time-more, carries-more, count-more, reaching, from-done, from-whole, roomy, of-none, layout, layout-more}
+use Rattle.rules.proofs.Laws.Onward.{base, whole-full, unfinished-full, countOf, of-from, time-more, count-more, from-done, from-whole, both, roomy, of-none, layout, layout-more}
 use Rattle.rules.proofs.Laws.Flow.{reached, nine, nine-of, bad-of, wanted-of, skipped-more}
 use Rattle.rules.proofs.Laws.Clear.{Clear, clear-of, long-of, Fine, next-none}
 use Rattle.rules.proofs.Laws.Bounds.{bad-few, frame-count-few, skipped-few}
-use Rattle.units.specs.Contract.{Kept}
 use Rattle.frames.specs.declared.Tally.{Tally}
 use Rattle.frames.specs.Tallies.{Counts, Took}
 use Rattle.capture.specs.declared.meter.Meter.{Meter}

@@ -1,13 +1,11 @@
 -- What each call promises, in terms of the rules and of what the words stand for.
-use Prim.Native.Nat.{ℕ, _+_, _-_, _*_, _/_, _%_, _≤_, _<_}
+use Prim.Native.Nat.{ℕ, _+_, _-_, _/_, _≤_, _<_}
 use mathlib.Core.Path.{_≡_}
 use mathlib.Core.List.{List, [], _∷_, _++_}
-use mathlib.Core.Bool.{Bool, true, false, _&&_}
 use lib.ListN.{length, getD}
-use lib.Dec.{leb, ltb, eqb}
 use Rattle.rules.specs.declared.Opening.{Opening}
 use Rattle.rules.specs.declared.Answer.{Answer}
-use Rattle.rules.specs.Bytes.{pick, byte}
+use Rattle.rules.specs.Bytes.{byte}
 use Rattle.rules.specs.Refusals.{none, fault}
 use Rattle.rules.specs.Opening.{openingFault}
 use Rattle.rules.specs.Frames.{microseconds, storedLength, frameSize}

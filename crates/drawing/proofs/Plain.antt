@@ -1,25 +1,23 @@
 -- A whole row of blocks of one byte. Its block sums are made by nobody: they are written down here, as the code for wider blocks would have made them. No code.
-use Prim.Native.Nat.{ℕ, zero, suc, _+_, _-_, _*_, _/_, _%_, _^_, _≤_, _<_}
+use Prim.Native.Nat.{ℕ, _+_, _-_, _*_, _/_, _%_, _^_, _≤_, _<_}
 use native.Mathlib.Omega.{arith}
 use native.Mathlib.Nat.{add-mul, mul-one, one-mul, zero-mul, add-zero, mul-le-mul-right}
 use mathlib.Core.Path.{_≡_, refl, sym, ap, _∙_}
 use mathlib.Core.Bool.{Bool, true, false}
-use mathlib.Core.List.{List, [], _∷_, _++_, append-nil}
+use mathlib.Core.List.{List, _++_, append-nil}
 use lib.ListN.{length, getD, take, drop, set, length-set, length-drop}
 use lib.Seq.{getD-set-same, getD-set-other, getD-take, getD-drop, drop-cons, length-take-le, ext-getD}
 use borrow.Author.Count.{below-more}
 use Rattle.rules.specs.declared.Opening.{Opening}
 use Rattle.rules.specs.Bytes.{tally, table}
-use Rattle.rules.specs.Bytes.{Bytes}
 use Rattle.rules.proofs.Laws.Pictures.{bytes-take}
 use Rattle.rules.proofs.Laws.Lists.{length-table}
 use Rattle.rules.proofs.Laws.Tables.{getD-table}
 use Rattle.rules.proofs.Laws.Tally.{tally-append, tally-cut}
 use Rattle.rules.proofs.Laws.Blocks.{inBlock, blockTally, earlier, settled}
-use Rattle.blocks.specs.declared.Spot.{Spot}
 use Rattle.blocks.specs.Sums.{inColumn}
 use Rattle.blocks.specs.Rows.{SumsOf, FedRows}
-use Rattle.blocks.specs.Pixels.{RowsOf, RowDone}
+use Rattle.blocks.specs.Pixels.{RowDone}
 use Rattle.blocks.proofs.Rows.{bridge}
 use Rattle.blocks.proofs.Pixels.{pixel-small}
 use Rattle.tiles.specs.Bins.{CountedRow}

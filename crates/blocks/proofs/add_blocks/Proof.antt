@@ -1,7 +1,5 @@
 use native.Mathlib.Omega.{arith}
-use native.Mathlib.Nat.{le-refl}
 use Rattle.blocks.proofs.Runs.{added-past, from-edge}
-use borrow.Author.Needs.{needs}
 use Rattle.blocks.proofs.add_blocks.Statement.{statement}
 use Rattle.blocks.proofs.add_blocks.Tie as tie
 

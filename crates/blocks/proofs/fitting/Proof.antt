@@ -1,7 +1,5 @@
-use Prim.Native.Nat.{_*_, _/_, _≤_}
 use native.Mathlib.Omega.{arith}
 use native.Mathlib.Nat.{div-mul-le-self, lt-div-mul-add, mul-le-mul, div-lt-iff-lt-mul}
-use borrow.Author.Needs.{needs}
 use Rattle.blocks.proofs.fitting.Statement.{statement}
 use Rattle.blocks.proofs.fitting.Tie as tie
 

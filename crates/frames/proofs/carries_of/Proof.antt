@@ -1,6 +1,6 @@
 use Prim.Native.Nat.{ℕ, _%_}
 use Rattle.rules.specs.Packets.{carries, ipLength, udpLength}
-use mathlib.Core.Path.{refl, sym, ap, _∙_}
+use mathlib.Core.Path.{ap}
 use borrow.Author.Tests.{eq-eqb, ne-eqb, le-leb, lt-leb, lt-ltb, le-ltb}
 use Rattle.frames.proofs.Laws.{is-eq, is-ne}
 use borrow.Author.Needs.{needs}

@@ -1,9 +1,6 @@
 use Rattle.rules.specs.Packets.{udpLength}
 use Rattle.rules.proofs.Laws.Onward.{countOf}
 use native.Mathlib.Omega.{arith}
-use mathlib.Core.Path.{refl, sym, ap, _∙_}
-use borrow.Author.Tests.{eq-eqb, ne-eqb, le-leb, lt-leb, lt-ltb, le-ltb}
-use Rattle.frames.proofs.Laws.{is-eq, is-ne}
 use borrow.Author.Needs.{needs}
 use Rattle.frames.proofs.packets_of.Statement.{statement}
 use Rattle.frames.proofs.packets_of.Tie as tie
