@@ -1,8 +1,8 @@
 use native.Mathlib.Omega.{arith}
 use Rattle.luma.proofs.Pieces.{passed}
 use borrow.Author.Needs.{needs}
-use Rattle.luma.proofs.pass.Statement.{statement}
-use Rattle.luma.proofs.pass.Tie as tie
+use Rattle.luma.proofs.taking.pass.Statement.{statement}
+use Rattle.luma.proofs.taking.pass.Tie as tie
 
 skip-requires : tie.Need-skip-requires
 skip-requires c κs = search needs

@@ -6,8 +6,8 @@ use native.Mathlib.Omega.{arith}
 use Rattle.drawing.specs.State.{Sane}
 use Rattle.drawing.specs.Contract.{Goes}
 use Rattle.luma.proofs.Pieces.{goes-none, goes-more, ran-all, ran-over}
-use Rattle.luma.proofs.run.Statement.{statement}
-use Rattle.luma.proofs.run.Tie as tie
+use Rattle.luma.proofs.taking.run.Statement.{statement}
+use Rattle.luma.proofs.taking.run.Tie as tie
 
 abbrev Inv-loop : tie.InvT-loop
 Inv-loop luma₀ sums₀ bins₀ picture₀ g piece s₀ at₀ luma sums bins picture s at =

@@ -1,7 +1,7 @@
 use mathlib.Core.Path.{refl}
 use borrow.Author.Needs.{needs}
-use Rattle.luma.proofs.skip.Statement.{statement}
-use Rattle.luma.proofs.skip.Tie as tie
+use Rattle.luma.proofs.taking.skip.Statement.{statement}
+use Rattle.luma.proofs.taking.skip.Tie as tie
 
 wrapping-add-u64-requires : tie.Need-wrapping-add-u64-requires
 wrapping-add-u64-requires c κs = search needs

@@ -1,8 +1,8 @@
 use mathlib.Core.List.{[]}
 use Rattle.luma.proofs.Pieces.{stepped, to-finish}
 use borrow.Author.Needs.{needs}
-use Rattle.luma.proofs.step.Statement.{statement}
-use Rattle.luma.proofs.step.Tie as tie
+use Rattle.luma.proofs.taking.step.Statement.{statement}
+use Rattle.luma.proofs.taking.step.Tie as tie
 
 pass-requires : tie.Need-pass-requires
 pass-requires c κs = search needs

@@ -1,8 +1,8 @@
 use native.Mathlib.Omega.{arith}
 use Rattle.luma.proofs.Pieces.{not-finished, is-finished}
 use borrow.Author.Needs.{needs}
-use Rattle.luma.proofs.finish.Statement.{statement}
-use Rattle.luma.proofs.finish.Tie as tie
+use Rattle.luma.proofs.taking.finish.Statement.{statement}
+use Rattle.luma.proofs.taking.finish.Tie as tie
 
 returns : tie.Need-returns
 returns c =
