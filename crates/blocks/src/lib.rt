@@ -114,7 +114,7 @@ fn add_blocks(sums: &mut [u32; 240], n: usize, w: usize, c: usize, s: &[u8], at:
 
 // Adds m bytes of a row, which stand in s from `at` on and in the row from column x on, to the sums of their block columns, of n columns each.
 // Columns past the first w blocks are dropped. A run that begins inside a block is taken up to the block's edge first.
-pub fn add_run(sums: &mut [u32; 240], n: usize, w: usize, x: usize, s: &[u8], at: usize, m: usize)
+fn add_run(sums: &mut [u32; 240], n: usize, w: usize, x: usize, s: &[u8], at: usize, m: usize)
     requires { ⌜ Laid n w x (now s) at m ⌝ }
     ensures { λ _. ⌜ Added n w x (run (now (s .entry)) at m) (now (sums .entry)) (now (sums .exit)) ⌝ }
 {

@@ -17,7 +17,7 @@ use Rattle.rules.proofs.Laws.Begins.{capture-kept}
 use Rattle.rules.proofs.Laws.Clear.{clear-of, long-of, four, magic-early, link-early, header-shows}
 use Rattle.units.proofs.Steps.{stands-kept, none-yet}
 use Rattle.carried.proofs.Held.{held-kept}
-use Rattle.capture.specs.declared.Meter.{Meter}
+use Rattle.capture.specs.declared.meter.Meter.{Meter}
 use Rattle.capture.specs.State.{loaded, Under, Core, Stands, refused, head, live}
 use Rattle.capture.specs.Contract.{Opened, FeedPost, Goes, Ahead, Replies, Stored}
 use Rattle.capture.proofs.Steps.{at-live, refuse}

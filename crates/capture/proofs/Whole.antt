@@ -17,7 +17,8 @@ use Rattle.rules.specs.Packets.{Packet, carries, holdsHeaders, isIpv4, isPlain,
 use Rattle.rules.specs.Units.{beginnings}
 use Rattle.rules.specs.Capture.{wholeFrames, unfinished, frameCount, skippedCount, tooManyUnits}
 use Rattle.rules.proofs.Laws.UnitsMore.{units-beginnings}
-use Rattle.rules.proofs.Laws.Onward.{base, whole-full, unfinished-full, countOf, of-from, time-more, count-more, from-done, from-whole, both, roomy, of-none, layout, layout-more}
+use Rattle.rules.proofs.Laws.Lists.{both}
+use Rattle.rules.proofs.Laws.Onward.{base, whole-full, unfinished-full, countOf, of-from, time-more, count-more, from-done, from-whole, roomy, of-none, layout, layout-more}
 use Rattle.rules.proofs.Laws.Flow.{reached, nine, nine-of, bad-of, wanted-of, skipped-more}
 use Rattle.rules.proofs.Laws.Clear.{Clear, clear-of, long-of, Fine, next-none}
 use Rattle.rules.proofs.Laws.Bounds.{bad-few, frame-count-few, skipped-few}

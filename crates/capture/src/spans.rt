@@ -4,7 +4,7 @@ ghost use Rattle.capture.specs.Contract.{Within, Span};
 use crate::meter::Meter;
 
 // The least of a, b and c; 1 where a is 0.
-pub fn least(a: u64, b: u64, c: u64) -> u64
+fn least(a: u64, b: u64, c: u64) -> u64
     requires { ⌜ (0 < b) × (0 < c) ⌝ }
     ensures { λ r. ⌜ (0 < r) × (r ≤ b) × (r ≤ c) × (0 < a → r ≤ a) ⌝ }
 {
@@ -22,7 +22,7 @@ pub fn least(a: u64, b: u64, c: u64) -> u64
 }
 
 // How many bytes of a frame's first 58 come up to the end of a field: the microseconds, L, the header, the first 42 bytes or the frame.
-pub fn front_span(at: u64, size: u64) -> u64
+fn front_span(at: u64, size: u64) -> u64
     requires { ⌜ at < 58 ⌝ }
     ensures { λ r. ⌜ (0 < r) × Within at size r ⌝ }
 {

@@ -8,7 +8,7 @@ use crate::meter::Meter;
 use crate::meter::refused;
 
 // A byte of the file header.
-pub fn on_file(words: &mut [u64; 3840], s: Meter, b: u8) -> Meter
+fn on_file(words: &mut [u64; 3840], s: Meter, b: u8) -> Meter
     requires { ⌜ (s .status ≡ 0) × (s .fed < 24) ⌝ }
     ensures { λ r. ⌜ Goes (now (words .entry)) s (b ∷ []) (now (words .exit)) r ⌝ }
 {
@@ -32,7 +32,7 @@ pub fn on_file(words: &mut [u64; 3840], s: Meter, b: u8) -> Meter
 }
 
 // After its bytes are in, a frame is whole, or goes on.
-pub fn settle(words: &[u64; 3840], s: Meter) -> Meter
+fn settle(words: &[u64; 3840], s: Meter) -> Meter
     ensures { λ r. ⌜ Settles (now (words .entry)) s r ⌝ }
 {
     if s.at < 16 {
@@ -53,7 +53,7 @@ pub fn settle(words: &[u64; 3840], s: Meter) -> Meter
 }
 
 // Bytes of a frame's header, or of the first 42 behind it: n of them, from byte i of the piece on, up to the end of a field at most.
-pub fn on_front(words: &mut [u64; 3840], s: Meter, piece: &[u8], i: usize, n: u64) -> Meter
+fn on_front(words: &mut [u64; 3840], s: Meter, piece: &[u8], i: usize, n: u64) -> Meter
     requires { ⌜ (s .status ≡ 0) × (24 ≤ s .fed) × (s .fed + n ≤ 268435456) × (0 < n) × Within (s .at) (s .size) n × (i + n ≤ length (now piece)) ⌝ }
     ensures { λ r. ⌜ Goes (now (words .entry)) s (take n (drop i (now (piece .entry)))) (now (words .exit)) r ⌝ }
 {
@@ -86,7 +86,7 @@ pub fn on_front(words: &mut [u64; 3840], s: Meter, piece: &[u8], i: usize, n: u6
 }
 
 // Bytes of a packet's first four: n of them, from byte i of the piece on.
-pub fn on_packet(words: &mut [u64; 3840], s: Meter, piece: &[u8], i: usize, n: u64) -> Meter
+fn on_packet(words: &mut [u64; 3840], s: Meter, piece: &[u8], i: usize, n: u64) -> Meter
     requires { ⌜ (s .status ≡ 0) × (24 ≤ s .fed) × (s .fed + n ≤ 268435456) × (0 < n) × (58 ≤ s .at) × (0 < s .left) × (s .got + n ≤ 4) × (i + n ≤ length (now piece)) ⌝ }
     ensures { λ r. ⌜ Goes (now (words .entry)) s (take n (drop i (now (piece .entry)))) (now (words .exit)) r ⌝ }
 {
@@ -111,7 +111,7 @@ pub fn on_packet(words: &mut [u64; 3840], s: Meter, piece: &[u8], i: usize, n: u
 }
 
 // The packet under way is whole.
-pub fn account(words: &mut [u64; 3840], s: Meter) -> Meter
+fn account(words: &mut [u64; 3840], s: Meter) -> Meter
     ensures { λ r. ⌜ Accounts (now (words .entry)) s (now (words .exit)) r ⌝ }
 {
     let mut r = s;
@@ -131,7 +131,7 @@ pub fn account(words: &mut [u64; 3840], s: Meter) -> Meter
 }
 
 // Bytes behind a packet's first four, n of them.
-pub fn skip_packet(words: &mut [u64; 3840], s: Meter, n: u64) -> Meter
+fn skip_packet(words: &mut [u64; 3840], s: Meter, n: u64) -> Meter
     requires { ⌜ (s .status ≡ 0) × (24 ≤ s .fed) × (s .fed + n ≤ 268435456) × (58 ≤ s .at) × (0 < s .left) × (4 ≤ s .got) × (s .got < 188 → s .got + n ≤ 188) ⌝ }
     ensures { λ r. ⌜ Skips (now (words .entry)) s n (now (words .exit)) r ⌝ }
 {
@@ -148,7 +148,7 @@ pub fn skip_packet(words: &mut [u64; 3840], s: Meter, n: u64) -> Meter
 }
 
 // Bytes of a frame behind its packets, n of them.
-pub fn skip_frame(words: &[u64; 3840], s: Meter, n: u64) -> Meter
+fn skip_frame(words: &[u64; 3840], s: Meter, n: u64) -> Meter
     requires { ⌜ (s .status ≡ 0) × (24 ≤ s .fed) × (s .fed + n ≤ 268435456) × (58 ≤ s .at) × (s .left ≡ 0) × (s .size ≤ 65535 → s .at < 16 + s .size → s .at + n ≤ 16 + s .size) ⌝ }
     ensures { λ r. ⌜ Skips (now (words .entry)) s n (now (words .entry)) r ⌝ }
 {

@@ -34,7 +34,7 @@ pub fn carry(words: &mut [u64; 3840], at: u64, piece: &[u8], from: usize, n: u64
     }
 }
 
-pub fn byte_in(words: &[u64; 3840], i: usize) -> u64
+fn byte_in(words: &[u64; 3840], i: usize) -> u64
     requires { ⌜ i < 62 ⌝ }
     ensures { λ r. ⌜ (r ≡ byteIn (now (words .entry)) i) × (r < 256) ⌝ }
 {
@@ -54,7 +54,7 @@ pub fn word_in(words: &[u64; 3840], i: usize) -> u64
 }
 
 // Two bytes, the highest first.
-pub fn network_in(words: &[u64; 3840], i: usize) -> u64
+fn network_in(words: &[u64; 3840], i: usize) -> u64
     requires { ⌜ i < 57 ⌝ }
     ensures { λ r. ⌜ (r ≡ networkIn (now (words .entry)) i) × (r < 65536) ⌝ }
 {

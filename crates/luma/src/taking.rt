@@ -9,7 +9,7 @@ use drawing::Progress;
 use drawing::Taken;
 
 // t bytes of the surplus rows.
-pub fn skip(s: Progress, t: usize) -> Taken
+fn skip(s: Progress, t: usize) -> Taken
     requires { ⌜ t ≤ s .left ⌝ }
     ensures { λ r. ⌜ (r .used ≡ t) × (r .state ≡ passedOn s t) ⌝ }
 {
@@ -32,7 +32,7 @@ pub fn skip(s: Progress, t: usize) -> Taken
 }
 
 // Bytes of the surplus rows, up to the picture's end or that of the piece.
-pub fn pass(g: Grid, s: Progress, rest: &[u8]) -> Taken
+fn pass(g: Grid, s: Progress, rest: &[u8]) -> Taken
     requires { ⌜ (Taking g s (now rest)) × (s .line ≡ g .lines) ⌝ }
     ensures { λ r. ⌜ Passed g s (now (rest .entry)) r ⌝ }
 {
@@ -44,7 +44,7 @@ pub fn pass(g: Grid, s: Progress, rest: &[u8]) -> Taken
 }
 
 // The picture's end, where it is reached.
-pub fn finish(luma: &mut [u64; 1600], bins: &mut [u32; 720], g: Grid, t: Taken) -> Taken
+fn finish(luma: &mut [u64; 1600], bins: &mut [u32; 720], g: Grid, t: Taken) -> Taken
     requires { ⌜ Finishing g t ⌝ }
     ensures { λ r. ⌜ Finished g t (now (luma .entry)) (now (bins .entry)) r (now (luma .exit)) (now (bins .exit)) ⌝ }
 {
@@ -64,7 +64,7 @@ pub fn finish(luma: &mut [u64; 1600], bins: &mut [u32; 720], g: Grid, t: Taken) 
 }
 
 // Some bytes of a piece, at least one.
-pub fn step(
+fn step(
     luma: &mut [u64; 1600],
     sums: &mut [u32; 240],
     bins: &mut [u32; 720],
@@ -85,7 +85,7 @@ pub fn step(
 }
 
 // A byte past 750 pictures.
-pub fn stopped(g: Grid, s: Progress) -> Progress
+fn stopped(g: Grid, s: Progress) -> Progress
     requires { ⌜ Fits g ⌝ }
     ensures { λ r. ⌜ r ≡ stoppedAt g s ⌝ }
 {

@@ -10,11 +10,7 @@ use Rattle.rules.specs.Bytes.{tally}
 use Rattle.rules.proofs.Laws.Tally.{tally-append}
 use Rattle.rules.proofs.Laws.Moves.{rise, fall, square}
 use Rattle.moves.specs.declared.Moves.{Moves}
-use Rattle.moves.specs.Figures.{Figures, Compared, Started}
-
-pub started : Started (record { up = 0; down = 0; squares = 0 })
-unfolding tally
-started old = record { up = refl; down = refl; both = refl }
+use Rattle.moves.specs.Figures.{Figures, Compared}
 
 -- one pixel more: a in the old picture, b in the new
 record Moved (m : Moves) (a b : ℕ) (r : Moves) : Type 0 where

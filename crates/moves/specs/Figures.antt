@@ -22,7 +22,3 @@ pub record Paired (kept : List ℕ) (at : ℕ) (made : List ℕ) (from k : ℕ) 
 -- whatever the old picture and the new one's first pixels p, figures of p become those of p and these
 pub record Compared (kept : List ℕ) (at : ℕ) (made : List ℕ) (from k : ℕ) (m r : Moves) : Type 0 where
   pub more : (old p : List ℕ) → ((j : ℕ) → j < k → getD old (length p + j) 0 ≡ getD kept (at + j) 0) → Figures old p m → Figures old (p ++ take k (drop from made)) r
-
--- the figures of no pixel
-abbrev pub Started : Moves → Type 0
-Started m = (old : List ℕ) → Figures old [] m

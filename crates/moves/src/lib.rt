@@ -1,23 +1,12 @@
 // What moves from one reduced picture to the next: the sums of the pixels' differences, up and down, and of their squares.
 ghost use mathlib.Core.Path.{_≡_};
 ghost use Prim.Native.Nat.{_-_, _≤_};
-ghost use Rattle.moves.specs.Figures.{Started, Paired, Compared};
+ghost use Rattle.moves.specs.Figures.{Paired, Compared};
 
 pub struct Moves {
     pub up: u32,
     pub down: u32,
     pub squares: u32,
-}
-
-// Of no pixel yet.
-pub fn still() -> Moves
-    ensures { λ r. ⌜ Started r ⌝ }
-{
-    Moves {
-        up: 0,
-        down: 0,
-        squares: 0,
-    }
 }
 
 // By how much a is above b.

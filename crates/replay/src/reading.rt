@@ -21,7 +21,7 @@ pub fn wide(n: u32) -> usize
 }
 
 // The word at a place; 0 where the script ends before the word does.
-pub fn word_at(script: &[u8], at: usize) -> u32
+fn word_at(script: &[u8], at: usize) -> u32
     requires { ⌜ at < 100 ⌝ }
     ensures { λ r. ⌜ r ≡ wordAt (now (script .entry)) at ⌝ }
 {
@@ -47,7 +47,7 @@ pub fn opening(script: &[u8]) -> Opening
 }
 
 // The head of a call that has `left` bytes of the script left, itself among them.
-pub fn head_by(left: usize, kind: u8, n: u32) -> Head
+fn head_by(left: usize, kind: u8, n: u32) -> Head
     ensures { λ r. ⌜ r ≡ headBy left kind n ⌝ }
 {
     if left < 5 {
@@ -93,7 +93,7 @@ pub fn size(h: Head) -> usize
 }
 
 // Where the next call stands.
-pub fn next_at(at: usize, h: Head) -> usize
+fn next_at(at: usize, h: Head) -> usize
     requires { ⌜ at < 2 ^ 63 ⌝ }
     ensures { λ r. ⌜ r ≡ nextOf h at ⌝ }
 {

@@ -6,7 +6,7 @@ ghost use lib.ListN.{length, drop, replicate};
 ghost use Rattle.replay.specs.Script.{kindOf, firstOf, secondOf, code};
 use rules::Answer;
 
-pub fn kind(a: Answer) -> u8
+fn kind(a: Answer) -> u8
     ensures { λ r. ⌜ r ≡ kindOf a ⌝ }
 {
     match a {
@@ -18,7 +18,7 @@ pub fn kind(a: Answer) -> u8
     }
 }
 
-pub fn first(a: Answer) -> u64
+fn first(a: Answer) -> u64
     ensures { λ r. ⌜ r ≡ firstOf a ⌝ }
 {
     match a {
@@ -27,7 +27,7 @@ pub fn first(a: Answer) -> u64
     }
 }
 
-pub fn second(a: Answer) -> u64
+fn second(a: Answer) -> u64
     ensures { λ r. ⌜ r ≡ secondOf a ⌝ }
 {
     match a {
