@@ -14,5 +14,5 @@ test:
 bench:
 	rt staticlib carolsedge
 	mkdir -p target/tests
-	rustc --edition 2021 -O tests/bench/main.rs -L target/staticlib -o target/tests/bench
+	rustc --edition 2021 -O tests/bench/main.rs -L target/staticlib -l static=carolsedge -o target/tests/bench
 	target/tests/bench

@@ -1,7 +1,7 @@
 //! Speed of the library's feeds, beside the independent program's feeds, a wide sum of the same bytes, and memcpy.
 //!
 //! All four take the same bytes in the same pieces, in turn in every round. A figure is the best of its rounds, by CPU time of this process.
-//! It is linked with libcarolsedge.a and has the independent program's modules in it, as they are. The last lines say which goals hold.
+//! It is linked with libcarolsedge.a, has the calls of bindings/rust, and the independent program's modules as they are. The last lines say which goals hold.
 #![allow(dead_code)]
 
 #[path = "../independent/second/capture.rs"]
@@ -28,6 +28,7 @@ mod script;
 #[path = "../independent/second/units.rs"]
 mod units;
 
+#[path = "../../bindings/rust/src/raw.rs"]
 mod ours;
 
 use make::captures::CaptureMaker;
@@ -149,7 +150,9 @@ fn measure(input: &Input, piece: usize) -> Times {
 }
 
 fn feed_ours(input: &Input, piece: usize) -> f64 {
-    let mut state = ours::State::open(&input.opening);
+    let Opening { width, height, display_time, pid } = input.opening;
+    let mut state = ours::State::new();
+    assert_eq!(state.open(width, height, display_time, pid), 0, "a good opening");
     timed(|| {
         for bytes in input.bytes.chunks(piece) {
             let answer = match input.side {

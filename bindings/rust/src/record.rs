@@ -24,7 +24,7 @@ pub struct Header {
     pub skipped: u32,
     /// Packets that do not begin with 0x47.
     pub bad: u32,
-    /// 1 + Ic × Ip, from 1 to 5. It is no MOS.
+    /// The index, as the record's bits give it: of a sealed record 1 + Ic × Ip, from 1 to 5. The reader tests no bits of it. It is no MOS.
     pub index: f64,
 }
 

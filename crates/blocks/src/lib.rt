@@ -1,6 +1,6 @@
 // Sums of the blocks of a picture whose bytes come in pieces.
 ghost use mathlib.Core.Path.{_≡_};
-ghost use Prim.Native.Nat.{_+_, _-_, _*_, _/_, _%_, _^_, _≤_, _<_};
+ghost use Prim.Native.Nat.{_+_, _*_, _/_, _%_, _^_, _≤_, _<_};
 ghost use lib.ListN.{length};
 ghost use Rattle.rules.specs.Bytes.{total};
 ghost use Rattle.blocks.specs.Sums.{run, Added, Laid, Edged, Least, Part, Lined, Blocks};

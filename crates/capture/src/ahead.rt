@@ -1,6 +1,6 @@
 // A frame that lies whole in a piece, taken in at once.
 ghost use mathlib.Core.Path.{_≡_};
-ghost use Prim.Native.Nat.{_+_, _<_};
+ghost use Prim.Native.Nat.{_<_};
 ghost use lib.ListN.{take};
 ghost use Rattle.capture.specs.Contract.{Goes, Ahead};
 use crate::meter::Meter;

@@ -120,6 +120,7 @@ pub fn packets_in(words: &[u64; 3840], size: u64) -> u64
 {
     if carries_in(words, size) {
         let u = network_in(words, 54);
+        // U of a frame that carries is above 8; the test stands in for that.
         if u < 8 {
             return 0;
         }

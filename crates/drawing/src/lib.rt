@@ -2,7 +2,7 @@
 ghost use mathlib.Core.Path.{_≡_};
 ghost use mathlib.Core.Bool.{true};
 ghost use lib.ListN.{length};
-ghost use Prim.Native.Nat.{_+_, _-_, _*_, _%_, _^_, _≤_, _<_};
+ghost use Prim.Native.Nat.{_+_, _%_, _^_, _≤_, _<_};
 ghost use Rattle.drawing.specs.Contract.{Fits, Keeps, movedTo, nextRow, AtRowEnd, RowEnded, Puts, AtPlainRow, PlainRow, Took, Taking};
 use moves::Moves;
 

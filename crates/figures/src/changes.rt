@@ -1,6 +1,6 @@
 // Changes: q of a picture, from its pixels' rises, falls and squared moves.
 ghost use mathlib.Core.Path.{_≡_};
-ghost use Prim.Native.Nat.{_*_, _≤_};
+ghost use Prim.Native.Nat.{_≤_};
 ghost use Rattle.rules.specs.Changes.{root as rootOf};
 ghost use Rattle.figures.specs.Changes.{Asked, Changed, spreadOf};
 use crate::numbers::apart;

@@ -103,6 +103,7 @@ pub fn packets_of(f: &[u8], size: u64) -> u64
 {
     if carries_of(f, size) {
         let u = body_network(f, 38);
+        // U of a frame that carries is above 8; the test stands in for that.
         if u < 8 {
             return 0;
         }

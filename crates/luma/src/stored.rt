@@ -1,6 +1,5 @@
 // What stands in the lent words between calls: the luma side's numbers and its opening.
 ghost use mathlib.Core.Path.{_≡_};
-ghost use Prim.Native.Nat.{_%_, _^_, _<_};
 ghost use Rattle.drawing.specs.State.{loaded, openingIn, gridOf};
 ghost use Rattle.luma.specs.Contract.{Stored, Placed};
 use drawing::Grid;

@@ -1,6 +1,6 @@
 // Steps through a piece: the bytes of a row, of the surplus rows, a picture's end.
 ghost use mathlib.Core.Path.{_≡_};
-ghost use Prim.Native.Nat.{_+_, _-_, _*_, _≤_, _<_};
+ghost use Prim.Native.Nat.{_≤_};
 ghost use Rattle.drawing.specs.State.{Sane};
 ghost use Rattle.drawing.specs.Contract.{Fits, passedOn, Taking};
 ghost use Rattle.luma.specs.Contract.{Finishing, Finished, Passed, Stepped, Ran, stoppedAt};

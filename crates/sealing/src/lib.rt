@@ -1,6 +1,5 @@
 // The record of what was fed, written into a lent buffer from the lent words of both sides.
-ghost use mathlib.Core.Path.{_≡_};
-ghost use Prim.Native.Nat.{_+_, _*_, _≤_, _<_};
+ghost use Prim.Native.Nat.{_≤_, _<_};
 ghost use lib.ListN.{length};
 ghost use Rattle.rules.specs.Record.{recordLength, sceneOffset};
 ghost use Rattle.sealing.specs.Contract.{UnitsWritten, ScenesWritten, RecordWritten};

@@ -2,7 +2,7 @@
 // Packets come one by one. Every function is safe on any words and any `Units`.
 use rules::UnitRow;
 ghost use mathlib.Core.Path.{_≡_};
-ghost use Prim.Native.Nat.{_<_, _%_, _^_};
+ghost use Prim.Native.Nat.{_<_};
 ghost use Rattle.rules.specs.Bytes.{smaller, larger};
 ghost use Rattle.units.specs.State.{unitAt, unitSet};
 ghost use Rattle.units.specs.Contract.{lossOf, begunBy, joinedBy, takenInto, Begun, Joined, Added, Full, Row};

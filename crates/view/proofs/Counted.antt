@@ -6,16 +6,17 @@ use mathlib.Core.Bool.{true, false}
 use mathlib.Core.List.{List}
 use Rattle.rules.specs.Bytes.{word32}
 use Rattle.rules.specs.Refusals.{Fault, none, fault}
+use Rattle.rules.specs.Pictures.{ifOpened}
 use Rattle.rules.specs.Reading.{readingFault}
 use Rattle.record.specs.declared.reading.Opened.the-variants.{Accepted}
 use Rattle.record.specs.Opened.{orOpened, openedAs}
 use Rattle.record.proofs.Answers.{AcceptedAs, accepted-as}
-use Rattle.view.specs.Seen.{unlessRefused, unitsOf, scenesOf}
+use Rattle.view.specs.Seen.{unitsOf, scenesOf}
 
 pub never : {X : Type 0} → false ≡ true → X
 never e = absurd (let z : _≡_ {A = ℕ} 0 1 = cc in omega arith)
 
-opened-by : (f : Fault) (a b u s : ℕ) → u ≡ unlessRefused f a → s ≡ unlessRefused f b → 1 ≤ u → orOpened f a b ≡ Accepted u s
+opened-by : (f : Fault) (a b u s : ℕ) → u ≡ ifOpened f a → s ≡ ifOpened f b → 1 ≤ u → orOpened f a b ≡ Accepted u s
 opened-by none a b u s d e h = rw (d, e)
 opened-by (fault k p) a b u s d e h = absurd (omega (arith, d, h))
 

@@ -8,21 +8,16 @@ use Rattle.rules.specs.declared.HeaderAnswer.{HeaderAnswer}
 use Rattle.rules.specs.declared.UnitAnswer.{UnitAnswer}
 use Rattle.rules.specs.declared.SceneAnswer.{SceneAnswer}
 use Rattle.rules.specs.Bytes.{word32}
-use Rattle.rules.specs.Refusals.{Fault, none, fault}
+use Rattle.rules.specs.Pictures.{ifOpened}
 use Rattle.rules.specs.Reading.{readingFault, headerAnswer, unitAnswer, sceneAnswer}
 use Rattle.view.specs.declared.View.{View}
 
--- a count, or 0 where the record is refused
-abbrev pub unlessRefused : Fault → ℕ → ℕ
-unlessRefused none n = n
-unlessRefused (fault k p) n = 0
-
--- the counts that a view of the record r holds
+-- the counts that a view of the record r holds: 0 where r is refused
 unfoldable pub unitsOf : List ℕ → ℕ
-unitsOf r = unlessRefused (readingFault r) (word32 r 8)
+unitsOf r = ifOpened (readingFault r) (word32 r 8)
 
 unfoldable pub scenesOf : List ℕ → ℕ
-scenesOf r = unlessRefused (readingFault r) (word32 r 16)
+scenesOf r = ifOpened (readingFault r) (word32 r 16)
 
 -- r says so many units, at least one, and is long enough for the rows of so many units and scenes
 pub record Fit (r : List ℕ) (units scenes : ℕ) : Type 0 where
