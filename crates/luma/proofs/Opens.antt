@@ -18,13 +18,13 @@ use Rattle.rules.specs.Pictures.{pictureSize}
 use Rattle.rules.specs.Histograms.{histograms}
 use Rattle.rules.specs.Cuts.{cutScore}
 use Rattle.rules.specs.Changes.{repeats, changes}
-use Rattle.history.specs.Past.{previous, lastFrom, ones, mapWord}
+use Rattle.luma_laws.specs.Past.{previous, lastFrom, ones, mapWord}
 use Rattle.figures.specs.Opening.{numbered, OpeningFault}
-use Rattle.drawing.specs.declared.Progress.{Progress}
-use Rattle.drawing.specs.State.{openingIn, gridOf, slot, Words, drawing, Live, refused, live}
-use Rattle.drawing.specs.Contract.{Fits}
+use Rattle.luma_rows.specs.declared.Progress.{Progress}
+use Rattle.luma_rows.specs.State.{openingIn, gridOf, slot, Words, drawing, Live, refused, live}
+use Rattle.luma_rows.specs.Contract.{Fits}
 use Rattle.luma.specs.Contract.{OpenPost}
-use Rattle.ending.proofs.Ends.{still}
+use Rattle.luma_picture.proofs.Ends.{still}
 use Rattle.luma.proofs.Posts.{fits-of}
 
 -- a list of zeros, read anywhere

@@ -10,13 +10,13 @@ use Rattle.rules.specs.declared.Opening.{Opening}
 use Rattle.rules.specs.Pictures.{pictureSize, lumaFault}
 use Rattle.rules.specs.Bytes.{Bytes}
 use Rattle.rules.proofs.Laws.Pictures.{bytes-append, bytes-take}
-use Rattle.drawing.specs.declared.Grid.{Grid}
-use Rattle.drawing.specs.declared.Progress.{Progress}
-use Rattle.drawing.specs.declared.Taken.{Taken}
-use Rattle.drawing.specs.State.{passing, Live, Sane, refused, live}
-use Rattle.drawing.specs.Contract.{Fits, passedOn, Goes, Took, Taking}
-use Rattle.drawing.proofs.Rows.{at-passing, bytes-of}
-use Rattle.ending.specs.Contract.{PictureEnded}
+use Rattle.luma_rows.specs.declared.Grid.{Grid}
+use Rattle.luma_rows.specs.declared.Progress.{Progress}
+use Rattle.luma_rows.specs.declared.Taken.{Taken}
+use Rattle.luma_rows.specs.State.{passing, Live, Sane, refused, live}
+use Rattle.luma_rows.specs.Contract.{Fits, passedOn, Goes, Took, Taking}
+use Rattle.luma_rows.proofs.Rows.{at-passing, bytes-of}
+use Rattle.luma_picture.specs.Contract.{PictureEnded}
 use Rattle.luma.specs.Contract.{Finishing, Finished, Passed, Stepped, Ran, stoppedAt}
 
 -- ---- bytes of the surplus rows

@@ -20,10 +20,10 @@ use Rattle.rules.proofs.Laws.Pictures.{luma-kept}
 use Rattle.rules.proofs.Laws.Blocks.{side-some}
 use Rattle.rules.proofs.Laws.Sizes.{good, sizes}
 use Rattle.figures.specs.Opening.{OpeningFault}
-use Rattle.drawing.specs.declared.Grid.{Grid}
-use Rattle.drawing.specs.declared.Progress.{Progress}
-use Rattle.drawing.specs.State.{loaded, openingIn, gridOf, Words, Place, drawing, passing, Live, Sane, Stands, refused, live, Means}
-use Rattle.drawing.specs.Contract.{Fits}
+use Rattle.luma_rows.specs.declared.Grid.{Grid}
+use Rattle.luma_rows.specs.declared.Progress.{Progress}
+use Rattle.luma_rows.specs.State.{loaded, openingIn, gridOf, Words, Place, drawing, passing, Live, Sane, Stands, refused, live, Means}
+use Rattle.luma_rows.specs.Contract.{Fits}
 use Rattle.luma.specs.Contract.{FeedPost, Holding, Ran, Replied, Stored, Placed}
 
 -- ---- the sizes of an opening that is not refused

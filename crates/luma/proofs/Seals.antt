@@ -19,16 +19,16 @@ use Rattle.rules.specs.Changes.{repeats}
 use Rattle.rules.specs.Seal.{reduced, unrepeated, lumaUnfinished}
 use Rattle.rules.proofs.Laws.Sizes.{good, sizes}
 use Rattle.rules.proofs.Laws.Lists.{count-few}
-use Rattle.history.proofs.Laws.{count-whole, reduced-whole, length-repeats}
-use Rattle.cuts.specs.Counts.{tilesAt}
-use Rattle.drawing.specs.declared.Grid.{Grid}
-use Rattle.drawing.specs.declared.Progress.{Progress}
-use Rattle.drawing.specs.State.{loaded, slot, Place, drawing, passing, Stands, refused, live}
-use Rattle.drawing.specs.Contract.{Fits}
+use Rattle.luma_laws.proofs.Laws.{count-whole, reduced-whole, length-repeats}
+use Rattle.luma_cuts.specs.Counts.{tilesAt}
+use Rattle.luma_rows.specs.declared.Grid.{Grid}
+use Rattle.luma_rows.specs.declared.Progress.{Progress}
+use Rattle.luma_rows.specs.State.{loaded, slot, Place, drawing, passing, Stands, refused, live}
+use Rattle.luma_rows.specs.Contract.{Fits}
 use Rattle.luma.specs.declared.Summary.{Summary}
 use Rattle.luma.specs.Contract.{insideOf, Known, SummaryPost}
-use Rattle.ending.proofs.Notes.{each-px, tiles-are}
-use Rattle.ending.proofs.Ends.{bytes-left}
+use Rattle.luma_picture.proofs.Notes.{each-px, tiles-are}
+use Rattle.luma_picture.proofs.Ends.{bytes-left}
 use Rattle.luma.proofs.Posts.{fits-of, short, not-past, no-fault, Alive, alive}
 
 -- ---- inside a picture or not

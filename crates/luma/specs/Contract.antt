@@ -1,4 +1,4 @@
--- What each function of the luma side promises. What the arrays stand for is `Means`, in the crate `drawing`.
+-- What each function of the luma side promises. What the arrays stand for is `Means`, in the crate `luma_rows`.
 use Prim.Native.Nat.{ℕ, _+_, _*_, _≤_, _<_}
 use mathlib.Core.Path.{_≡_}
 use mathlib.Core.List.{List, [], _++_}
@@ -12,12 +12,12 @@ use Rattle.rules.specs.Opening.{openingFault, openAnswer}
 use Rattle.rules.specs.Refusals.{none, fault, _orElse_}
 use Rattle.rules.specs.Pictures.{pictureCount, lumaFault}
 use Rattle.rules.specs.Seal.{reduced, unrepeated, lumaUnfinished, lumaAnswer}
-use Rattle.drawing.specs.declared.Grid.{Grid}
-use Rattle.drawing.specs.declared.Progress.{Progress}
-use Rattle.drawing.specs.declared.Taken.{Taken}
+use Rattle.luma_rows.specs.declared.Grid.{Grid}
+use Rattle.luma_rows.specs.declared.Progress.{Progress}
+use Rattle.luma_rows.specs.declared.Taken.{Taken}
 use Rattle.luma.specs.declared.Summary.{Summary}
-use Rattle.drawing.specs.State.{loaded, openingIn, gridOf, Words, Live, Sane, Stands, Means}
-use Rattle.drawing.specs.Contract.{Fits, Goes, Loose, Took}
+use Rattle.luma_rows.specs.State.{loaded, openingIn, gridOf, Words, Live, Sane, Stands, Means}
+use Rattle.luma_rows.specs.Contract.{Fits, Goes, Loose, Took}
 
 -- ---- the calls
 

@@ -2,15 +2,15 @@
 ghost use mathlib.Core.Path.{_≡_};
 ghost use Rattle.luma.specs.Contract.{Replied, insideOf, OpenPost, FeedPost, SummaryPost};
 
+mod steps;
 mod stored;
-mod taking;
 
+use crate::steps::run;
 use crate::stored::grid_of;
 use crate::stored::load;
 use crate::stored::placed;
 use crate::stored::store;
-use crate::taking::run;
-use drawing::Progress;
+use luma_rows::Progress;
 use rules::Answer;
 use rules::Opening;
 pub use stored::opening_in;

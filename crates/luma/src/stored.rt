@@ -1,9 +1,9 @@
 // What stands in the lent words between calls: the luma side's numbers and its opening.
 ghost use mathlib.Core.Path.{_≡_};
-ghost use Rattle.drawing.specs.State.{loaded, openingIn, gridOf};
+ghost use Rattle.luma_rows.specs.State.{loaded, openingIn, gridOf};
 ghost use Rattle.luma.specs.Contract.{Stored, Placed};
-use drawing::Grid;
-use drawing::Progress;
+use luma_rows::Grid;
+use luma_rows::Progress;
 use rules::Opening;
 
 pub fn load(luma: &[u64; 1600]) -> Progress

@@ -10,9 +10,9 @@ use Rattle.rules.specs.Histograms.{histograms}
 use Rattle.rules.specs.Seal.{reduced, sealAnswer, sealedBuffer}
 use Rattle.rules.specs.Calls.{Call, feedCapture, feedLuma, seal, Outcome, fed, sealedInto, expected, captureFed, lumaFed}
 use Rattle.rules.proofs.Laws.Counted.{whole-counted, every-picture}
-use Rattle.cuts.specs.Counts.{tilesAt}
-use Rattle.drawing.specs.State as side-luma
-use Rattle.drawing.specs.State.{loaded, slot, Stands, refused, live}
+use Rattle.luma_cuts.specs.Counts.{tilesAt}
+use Rattle.luma_rows.specs.State as side-luma
+use Rattle.luma_rows.specs.State.{loaded, slot, Stands, refused, live}
 use Rattle.luma.proofs.Seals.{ring-is}
 use Rattle.sample.specs.State.{State, Means}
 use Rattle.sample.specs.Contract.{OpenPost, SealPost}

@@ -21,7 +21,7 @@ use Rattle.counts.specs.declared.Summary.{Summary}
 use Rattle.counts.specs.Summary.{SumsUp, SumOf, Figures, standing}
 use Rattle.luma.specs.declared.Summary as of-luma
 use Rattle.luma.specs.Contract.{SummaryPost, Summarised, Known}
-use Rattle.drawing.specs.State.{openingIn}
+use Rattle.luma_rows.specs.State.{openingIn}
 use Rattle.sample.specs.State.{State, Means}
 use Rattle.sample.specs.Contract.{SealPost, Ready, WritePost}
 

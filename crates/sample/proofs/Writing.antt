@@ -32,11 +32,11 @@ use Rattle.rules.proofs.Laws.Sizes.{good}
 use Rattle.rules.proofs.Laws.Scenes.{pictures-most}
 use Rattle.rules.proofs.Laws.UnitsMore.{allPackets, allLost, packets-total, lost-small, units-none}
 use Rattle.index.specs.Counts.{Counts}
-use Rattle.scenes.specs.Words.{Holds}
-use Rattle.scenes.specs.Contract.{CountPost}
-use Rattle.scenes.proofs.Sample.{sample-holds}
+use Rattle.luma_scenes.specs.Words.{Holds}
+use Rattle.luma_scenes.specs.Contract.{CountPost}
+use Rattle.luma_scenes.proofs.Sample.{sample-holds}
 use Rattle.sealing.specs.Contract.{RecordWritten}
-use Rattle.history.proofs.Laws.{length-repeats}
+use Rattle.luma_laws.proofs.Laws.{length-repeats}
 use Rattle.counts.specs.declared.Summary.{Summary}
 use Rattle.luma.specs.declared.Summary as of-luma
 use Rattle.sample.specs.Contract.{BitsOf, HeaderOf, Ready}

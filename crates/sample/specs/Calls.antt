@@ -16,8 +16,8 @@ use Rattle.rules.specs.Bytes.{Bytes}
 use Rattle.rules.specs.Counted.{Whole, Counted}
 use Rattle.capture.specs.Contract as side-capture
 use Rattle.luma.specs.Contract as side-luma
-use Rattle.cuts.specs.Counts.{tilesAt}
-use Rattle.drawing.specs.State.{slot}
+use Rattle.luma_cuts.specs.Counts.{tilesAt}
+use Rattle.luma_rows.specs.State.{slot}
 use Rattle.sample.specs.State.{State}
 use Rattle.sample.specs.Contract.{OpenPost, SealPost}
 

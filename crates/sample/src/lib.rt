@@ -114,7 +114,7 @@ fn write(
         return refused(14, 0);
     }
     let n = l.pictures as usize;
-    let scenes = scenes::count(luma, n, o.time as u64);
+    let scenes = luma_scenes::count(luma, n, o.time as u64);
     let size = 64 + 32 * (c.units as usize + scenes);
     if buffer.len() < size {
         return refused(15, size as u64);

@@ -27,10 +27,10 @@ use Rattle.words.proofs.Laws.{written-append, length-written}
 use Rattle.units.specs.declared.Units.{Units}
 use Rattle.units.specs.State.{Stands, noUnit}
 use Rattle.units.specs.Contract.{Row}
-use Rattle.scenes.specs.Words.{Holds}
-use Rattle.scenes.specs.Next.{nextStart, startAt, scenesFrom}
-use Rattle.scenes.specs.Contract.{NextPost, RowPost}
-use Rattle.scenes.proofs.Starts.{scene-at, scenes-rest}
+use Rattle.luma_scenes.specs.Words.{Holds}
+use Rattle.luma_scenes.specs.Next.{nextStart, startAt, scenesFrom}
+use Rattle.luma_scenes.specs.Contract.{NextPost, RowPost}
+use Rattle.luma_scenes.proofs.Starts.{scene-at, scenes-rest}
 use Rattle.record.proofs.Buffers.{over-written}
 use Rattle.sealing.specs.Contract.{UnitsWritten, IsScene, ScenesWritten, RecordWritten}
 

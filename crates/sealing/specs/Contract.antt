@@ -17,7 +17,7 @@ use Rattle.words.specs.Written.{written}
 use Rattle.units.specs.declared.Units.{Units}
 use Rattle.units.specs.State.{Stands}
 use Rattle.units.specs.Contract.{Row}
-use Rattle.scenes.specs.Words.{Holds}
+use Rattle.luma_scenes.specs.Words.{Holds}
 
 -- rows of n units were written from byte 64 on: of each unit the row that the words give
 pub record UnitsWritten (capture : List ℕ) (n : ℕ) (before after : List ℕ) : Type 0 where

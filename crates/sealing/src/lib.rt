@@ -33,8 +33,8 @@ fn write_scenes(
     let mut start: usize = 0;
     let mut j: usize = 0;
     while j < n {
-        let next = scenes::next_start(luma, pictures, time, start);
-        let row = scenes::scene_row(luma, start, next);
+        let next = luma_scenes::next_start(luma, pictures, time, start);
+        let row = luma_scenes::scene_row(luma, start, next);
         record::write_scene(buffer, units, j, row);
         start = next;
         j += 1;

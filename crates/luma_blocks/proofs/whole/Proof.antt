@@ -1,0 +1,93 @@
+use Prim.Native.Nat.{_+_, _-_, _*_, _≤_}
+use mathlib.Core.Path.{_≡_}
+use native.Mathlib.Omega.{arith}
+use native.Mathlib.Nat.{add-mul, zero-mul}
+use Rattle.luma_blocks.specs.Sums.{Blocks}
+use borrow.Author.Needs.{needs}
+use Rattle.luma_blocks.proofs.Runs.{inside, blocks-none, blocks-more}
+use Rattle.luma_blocks.proofs.whole.Statement.{statement}
+use Rattle.luma_blocks.proofs.whole.Tie as tie
+
+abbrev Inv-loop : tie.InvT-loop
+Inv-loop sums₀ c k s at n from₀ j₀ sums from j = (j ≤ k) × (from ≡ at + j * n) × Blocks n c j s at sums₀ sums
+
+abbrev μ-loop : tie.MeasureT-loop
+μ-loop sums₀ c k s at n from₀ j₀ sums from j = k - j
+
+loop-holds : tie.Need-loop-holds Inv-loop μ-loop
+loop-holds c =
+    let a = c .before .args in
+    (omega arith, omega (arith, zero-mul (a .n)), blocks-none (a .n) (a .c) (a .s .now) (a .at) (a .sums .now))
+
+run-sum-requires : tie.Need-run-sum-requires Inv-loop μ-loop
+run-sum-requires c κs =
+    let h = inside (c .before .before .before .args .n) (c .loop-test .taken) in
+    (omega (arith, h), omega arith)
+
+add-wrapping-add-u32 : tie.Need-add-wrapping-add-u32 Inv-loop μ-loop
+add-wrapping-add-u32 c = search needs
+
+mul-wrapping-add-u32 : tie.Need-mul-wrapping-add-u32 Inv-loop μ-loop
+mul-wrapping-add-u32 c = search needs
+
+element-copy-out-wrapping-add-u32 : tie.Need-element-copy-out-wrapping-add-u32 Inv-loop μ-loop
+element-copy-out-wrapping-add-u32 c = search needs
+
+wrapping-add-u32-requires : tie.Need-wrapping-add-u32-requires Inv-loop μ-loop
+wrapping-add-u32-requires c κs = search needs
+
+add-sums : tie.Need-add-sums Inv-loop μ-loop
+add-sums c = search needs
+
+mul-sums : tie.Need-mul-sums Inv-loop μ-loop
+mul-sums c = search needs
+
+element-write-sums : tie.Need-element-write-sums Inv-loop μ-loop
+element-write-sums c = search needs
+
+add-from : tie.Need-add-from Inv-loop μ-loop
+add-from c = omega (arith, inside (c .before .before .before .before .before .before .args .n) (c .before .before .before .loop-test .taken))
+
+add-j : tie.Need-add-j Inv-loop μ-loop
+add-j c = search needs
+
+loop-less : tie.Need-loop-less Inv-loop μ-loop
+loop-less c = omega arith
+
+loop-again : tie.Need-loop-again Inv-loop μ-loop
+loop-again c =
+    let a = c .before .before .before .before .before .before .args in
+    let l = c .before .before .before .before .loop in
+    let h = inside (a .n) (c .before .before .before .loop-test .taken) in
+    let here = l .inv .1 in (
+      omega arith,
+      omega (arith, add-mul (l .j) 1 (a .n)),
+      blocks-more (a .n) (a .c) _ (l .j) (a .s .now) (a .at) (l .inv .2) (omega (arith, h)) (rw (← here, ← c .before .before .run-sum .ensures) (c .wrapping-add-u32 .ensures)),
+    )
+
+returns : tie.Need-returns Inv-loop μ-loop
+returns c =
+    let l = c .before .loop in
+    let e : l .j ≡ c .before .before .before .args .k = omega arith in
+    rw e at (l .inv .2)
+
+pub whole-spec : {M : Type 1} → statement M
+whole-spec =
+    tie.close
+    (tie.spec
+    Inv-loop
+    μ-loop
+    loop-holds
+    run-sum-requires
+    add-wrapping-add-u32
+    mul-wrapping-add-u32
+    element-copy-out-wrapping-add-u32
+    wrapping-add-u32-requires
+    add-sums
+    mul-sums
+    element-write-sums
+    add-from
+    add-j
+    loop-less
+    loop-again
+    returns)

@@ -1,0 +1,66 @@
+-- What the end of a picture promises. What the arrays stand for is `Live`, in the crate `luma_rows`.
+use Prim.Native.Nat.{ℕ, _+_, _-_, _*_, _/_, _%_, _^_, _≤_, _<_}
+use mathlib.Core.Path.{_≡_}
+use mathlib.Core.List.{List, []}
+use lib.ListN.{getD, set}
+use lib.Dec.{eqb}
+use Rattle.rules.specs.Bytes.{pick}
+use Rattle.figures.specs.Changes.{Changed}
+use Rattle.luma_cuts.specs.Counts.{leastAt}
+use Rattle.luma_rows.specs.declared.Grid.{Grid}
+use Rattle.luma_rows.specs.declared.Progress.{Progress}
+use Rattle.luma_rows.specs.State.{slot}
+use Rattle.luma_rows.specs.Contract.{Fits, Goes}
+
+-- 1 if no pixel moved since the previous picture
+abbrev pub againOf : Progress → ℕ
+againOf s = pick (eqb (s .pictures) 0) 0 (pick (eqb (s .squares % 2 ^ 32) 0) 1 0)
+
+-- q of the picture that ends: 0 for the first
+pub record ChangeOf (g : Grid) (s : Progress) (r : ℕ) : Type 0 where
+  pub first : s .pictures ≡ 0 → r ≡ 0
+  pub later : (s .pictures ≡ 0 → ⊥) → Changed (g .lines * g .columns) (s .ups % 2 ^ 32) (s .downs % 2 ^ 32) (s .squares % 2 ^ 32) r
+
+-- the cut score that picture i settles, and that each count is a u32
+pub record ScoreOf (bins : List ℕ) (i r : ℕ) : Type 0 where
+  pub early : i < 4 → r ≡ 0
+  pub later : 4 ≤ i → r ≡ leastAt bins (slot (i - 4)) (slot (i - 3)) (slot (i - 2)) (slot (i - 1)) (slot i)
+  pub small : (k : ℕ) → getD bins k 0 < 2 ^ 32
+
+-- picture i's change, its bit in the map of repeats, and the cut score of picture i - 2
+abbrev pub bitOf : ℕ → ℕ → ℕ
+bitOf i again = again * 2 ^ (i % 64) % 2 ^ 64
+
+abbrev pub withBit : List ℕ → ℕ → ℕ → List ℕ
+withBit w i again = set w (64 + i / 64) ((getD w (64 + i / 64) 0 + bitOf i again) % 2 ^ 64)
+
+abbrev pub noted : List ℕ → ℕ → ℕ → ℕ → ℕ → List ℕ
+noted w i q again score = set (withBit (set w (850 + i) q) i again) (98 + i) score
+
+-- the start of the next picture
+abbrev pub nextPicture : Progress → ℕ → Progress
+nextPicture s again =
+    record {
+      status = s .status;
+      place = s .place;
+      fed = s .fed;
+      pictures = s .pictures + 1;
+      fresh = (s .fresh + (1 - again)) % 2 ^ 64;
+      line = 0;
+      row = 0;
+      col = 0;
+      left = 0;
+      ups = 0;
+      downs = 0;
+      squares = 0;
+    }
+
+pub record AtPictureEnd (g : Grid) (s : Progress) : Type 0 where
+  pub fits : Fits g
+  pub more : s .pictures < 750
+  pub line : s .line ≡ g .lines
+  pub left : s .left ≡ 0
+
+pub record PictureEnded (g : Grid) (s : Progress) (luma bins : List ℕ) (r : Progress) (luma′ bins′ : List ℕ) : Type 0 where
+  pub is : r ≡ nextPicture s (againOf s)
+  pub goes : (sums picture : List ℕ) → Goes g s luma sums bins picture [] r luma′ sums bins′ picture

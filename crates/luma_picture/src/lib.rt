@@ -1,0 +1,114 @@
+// The end of a picture of the luma side: its change, whether it is repeated, the cut score that it settles, and room in the ring for the next.
+ghost use mathlib.Core.Path.{_≡_};
+ghost use Prim.Native.Nat.{ℕ, _+_, _*_, _%_, _^_, _≤_, _<_};
+ghost use lib.ListN.{length, getD};
+ghost use Rattle.luma_rows.specs.Contract.{Fits};
+ghost use Rattle.luma_picture.specs.Contract.{againOf, ChangeOf, ScoreOf, noted, nextPicture, AtPictureEnd, PictureEnded};
+use luma_rows::Grid;
+use luma_rows::Progress;
+
+// 1 if no pixel moved since the previous picture.
+fn again_of(s: Progress) -> u64
+    ensures { λ r. ⌜ r ≡ againOf s ⌝ }
+{
+    if s.pictures == 0 {
+        return 0;
+    }
+    let squares = s.squares % 4294967296;
+    if squares == 0 {
+        return 1;
+    }
+    0
+}
+
+// The change of the picture that ends, 0 for the first.
+fn change_of(g: Grid, s: Progress) -> u64
+    requires { ⌜ Fits g ⌝ }
+    ensures { λ r. ⌜ ChangeOf g s r ⌝ }
+{
+    if s.pictures == 0 {
+        return 0;
+    }
+    let m = luma_rows::moves_in(s);
+    let n = (g.lines * g.columns) as u32;
+    figures::change(n, m.up, m.down, m.squares)
+}
+
+// Where the counts of picture i stand in the ring.
+fn slot_of(i: usize) -> usize
+    ensures { λ r. ⌜ (r ≡ 144 * (i % 5)) × (r + 144 ≤ 720) ⌝ }
+{
+    144 * (i % 5)
+}
+
+// The first count. Reading it as one of a slice shows that every count is a u32.
+fn first(counts: &[u32]) -> u32
+    requires { ⌜ 0 < length (now counts) ⌝ }
+    ensures { λ r. ⌜ ((k : ℕ) → getD (now (counts .entry)) k 0 < 2 ^ 32) ⌝ }
+{
+    counts[0]
+}
+
+// The cut score that picture i settles: that of picture i - 2.
+fn score_of(bins: &[u32; 720], i: usize) -> u64
+    ensures { λ r. ⌜ ScoreOf (now (bins .entry)) i r ⌝ }
+{
+    first(bins);
+    if i < 4 {
+        return 0;
+    }
+    let a = slot_of(i - 4);
+    let b = slot_of(i - 3);
+    let x = slot_of(i - 2);
+    let y = slot_of(i - 1);
+    let z = slot_of(i);
+    luma_cuts::least_of_six(bins, a, b, x, y, z)
+}
+
+// Picture i's change, its bit in the map of repeats, and the cut score of picture i - 2.
+fn note(luma: &mut [u64; 1600], i: usize, q: u64, again: u64, score: u64)
+    requires { ⌜ i < 750 ⌝ }
+    ensures { λ _. ⌜ now (luma .exit) ≡ noted (now (luma .entry)) i q again score ⌝ }
+{
+    luma[850 + i] = q;
+    let j = 64 + i / 64;
+    let bit = again << (i % 64);
+    luma[j] = std::num::wrapping_add_u64(luma[j], bit);
+    luma[98 + i] = score;
+}
+
+fn next_picture(s: Progress, again: u64) -> Progress
+    requires { ⌜ (s .pictures < 750) × (again ≤ 1) ⌝ }
+    ensures { λ r. ⌜ r ≡ nextPicture s again ⌝ }
+{
+    let fresh = std::num::wrapping_add_u64(s.fresh, 1 - again);
+    Progress {
+        status: s.status,
+        place: s.place,
+        fed: s.fed,
+        pictures: s.pictures + 1,
+        fresh: fresh,
+        line: 0,
+        row: 0,
+        col: 0,
+        left: 0,
+        ups: 0,
+        downs: 0,
+        squares: 0,
+    }
+}
+
+// At the end of a picture: its change, whether it is repeated, the cut score of the picture two before it, and room in the ring for the next.
+pub fn end_picture(luma: &mut [u64; 1600], bins: &mut [u32; 720], g: Grid, s: Progress) -> Progress
+    requires { ⌜ AtPictureEnd g s ⌝ }
+    ensures { λ r. ⌜ PictureEnded g s (now (luma .entry)) (now (bins .entry)) r (now (luma .exit)) (now (bins .exit)) ⌝ }
+{
+    let i = s.pictures;
+    let again = again_of(s);
+    let score = score_of(bins, i);
+    let q = change_of(g, s);
+    note(luma, i, q, again, score);
+    let next = slot_of(i + 1);
+    luma_tiles::clear(bins, next);
+    next_picture(s, again)
+}

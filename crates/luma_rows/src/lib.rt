@@ -1,0 +1,213 @@
+// The current picture of the luma side: bytes of its block rows are taken in, and at the end of each its pixels are made, counted and compared.
+ghost use mathlib.Core.Path.{_≡_};
+ghost use mathlib.Core.Bool.{true};
+ghost use lib.ListN.{length};
+ghost use Prim.Native.Nat.{_+_, _%_, _^_, _≤_, _<_};
+ghost use Rattle.luma_rows.specs.Contract.{Fits, Keeps, movedTo, nextRow, AtRowEnd, RowEnded, Puts, AtPlainRow, PlainRow, Took, Taking};
+use luma_changes::Moves;
+
+// The sizes of a sample's pictures: rows of `width` bytes, blocks of `side` by `side` of them, `columns` by `lines` pixels, `bytes` in all.
+pub struct Grid {
+    pub width: usize,
+    pub side: usize,
+    pub columns: usize,
+    pub lines: usize,
+    pub bytes: usize,
+}
+
+// The scalars of the state: the refusal that stands, bytes fed, whole pictures and those that are not repeated, the place in the current picture, and how its
+// pixels moved so far.
+pub struct Progress {
+    pub status: u64,
+    pub place: u64,
+    pub fed: u64,
+    pub pictures: usize,
+    pub fresh: u64,
+    pub line: usize,
+    pub row: usize,
+    pub col: usize,
+    pub left: usize,
+    pub ups: u64,
+    pub downs: u64,
+    pub squares: u64,
+}
+
+// Bytes that were taken in, and the state after them.
+pub struct Taken {
+    pub used: usize,
+    pub state: Progress,
+}
+
+// ---- bytes of a picture
+
+fn moved_to(s: Progress, row: usize, col: usize, used: usize) -> Progress
+    ensures { λ r. ⌜ r ≡ movedTo s row col used ⌝ }
+{
+    let fed = std::num::wrapping_add_u64(s.fed, used as u64);
+    Progress {
+        status: s.status,
+        place: s.place,
+        fed: fed,
+        pictures: s.pictures,
+        fresh: s.fresh,
+        line: s.line,
+        row: row,
+        col: col,
+        left: s.left,
+        ups: s.ups,
+        downs: s.downs,
+        squares: s.squares,
+    }
+}
+
+pub fn moves_in(s: Progress) -> Moves
+    ensures { λ r. ⌜ (r .up ≡ s .ups % 2 ^ 32) × (r .down ≡ s .downs % 2 ^ 32) × (r .squares ≡ s .squares % 2 ^ 32) ⌝ }
+{
+    Moves {
+        up: (s.ups % 4294967296) as u32,
+        down: (s.downs % 4294967296) as u32,
+        squares: (s.squares % 4294967296) as u32,
+    }
+}
+
+// The place behind a block row, whose pixels have moved so.
+fn next_row(g: Grid, s: Progress, m: Moves) -> Progress
+    requires { ⌜ (Fits g) × (s .line < g .lines) ⌝ }
+    ensures { λ r. ⌜ r ≡ nextRow g s m ⌝ }
+{
+    let line = s.line + 1;
+    let left = g.bytes - g.lines * g.side * g.width;
+    Progress {
+        status: s.status,
+        place: s.place,
+        fed: s.fed,
+        pictures: s.pictures,
+        fresh: s.fresh,
+        line: line,
+        row: 0,
+        col: 0,
+        left: left,
+        ups: m.up as u64,
+        downs: m.down as u64,
+        squares: m.squares as u64,
+    }
+}
+
+// The w pixels from `base` on, before they change.
+fn keep(kept: &mut [u8; 240], picture: &[u8; 14104], base: usize, w: usize)
+    requires { ⌜ (w ≤ 240) × (base + w ≤ 14104) ⌝ }
+    ensures { λ _. ⌜ Keeps base w (now (picture .entry)) (now (kept .entry)) (now (kept .exit)) ⌝ }
+{
+    let mut j: usize = 0;
+    while j < w {
+        kept[j] = picture[base + j];
+        j += 1;
+    }
+}
+
+// At the end of a block row: its pixels are made of the sums, counted, and compared with the previous picture's.
+fn end_row(
+    sums: &mut [u32; 240],
+    bins: &mut [u32; 720],
+    picture: &mut [u8; 14104],
+    g: Grid,
+    s: Progress,
+) -> Progress
+    requires { ⌜ AtRowEnd g s ⌝ }
+    ensures { λ r. ⌜ RowEnded g s (now (sums .entry)) (now (bins .entry)) (now (picture .entry)) r (now (sums .exit)) (now (bins .exit)) (now (picture .exit)) ⌝ }
+{
+    let w = g.columns;
+    let base = s.line * w;
+    let mut kept = [0u8; 240];
+    keep(&mut kept, picture, base, w);
+    luma_blocks::finish_row(picture, sums, g.side, w, s.line);
+    let slot = 144 * (s.pictures % 5);
+    luma_tiles::count_row(bins, slot, picture, w, g.lines, s.line);
+    let m = luma_changes::compare_run(moves_in(s), &kept, 0, picture, base, w);
+    next_row(g, s, m)
+}
+
+// The first w bytes of the string become the pixels from `base` on.
+fn put(picture: &mut [u8; 14104], base: usize, rest: &[u8], w: usize)
+    requires { ⌜ (w ≤ length (now rest)) × (base + w ≤ 14104) ⌝ }
+    ensures { λ _. ⌜ Puts base w (now (rest .entry)) (now (picture .entry)) (now (picture .exit)) ⌝ }
+{
+    let mut j: usize = 0;
+    while j < w {
+        picture[base + j] = rest[j];
+        j += 1;
+    }
+}
+
+// Whether a whole row comes next, of blocks of one byte.
+fn is_plain(g: Grid, s: Progress, rest: &[u8]) -> bool
+    requires { ⌜ (Taking g s (now rest)) × (s .line < g .lines) ⌝ }
+    ensures { λ r. ⌜ (r ≡ true → AtPlainRow g s (now (rest .entry))) ⌝ }
+{
+    if g.side != 1 {
+        return false;
+    }
+    if s.col != 0 {
+        return false;
+    }
+    if g.width < g.columns {
+        return false;
+    }
+    g.width <= rest.len()
+}
+
+// Such a row: its bytes are the pixels. No sum is made, and the sums stay what they were, none.
+fn plain_row(
+    bins: &mut [u32; 720],
+    picture: &mut [u8; 14104],
+    g: Grid,
+    s: Progress,
+    rest: &[u8],
+) -> Progress
+    requires { ⌜ AtPlainRow g s (now rest) ⌝ }
+    ensures { λ r. ⌜ PlainRow g s (now (bins .entry)) (now (picture .entry)) (now (rest .entry)) r (now (bins .exit)) (now (picture .exit)) ⌝ }
+{
+    let w = g.columns;
+    let base = s.line * w;
+    let m = luma_changes::compare_run(moves_in(s), picture, base, rest, 0, w);
+    put(picture, base, rest, w);
+    let own = 144 * (s.pictures % 5);
+    luma_tiles::count_row(bins, own, picture, w, g.lines, s.line);
+    let t = moved_to(s, 1, 0, g.width);
+    next_row(g, t, m)
+}
+
+// Bytes of a block row, up to its end or that of the piece.
+pub fn draw(
+    sums: &mut [u32; 240],
+    bins: &mut [u32; 720],
+    picture: &mut [u8; 14104],
+    g: Grid,
+    s: Progress,
+    rest: &[u8],
+) -> Taken
+    requires { ⌜ (Taking g s (now rest)) × (s .line < g .lines) ⌝ }
+    ensures { λ r. ⌜ Took g s (now (sums .entry)) (now (bins .entry)) (now (picture .entry)) (now (rest .entry)) r (now (sums .exit)) (now (bins .exit)) (now (picture .exit)) ⌝ }
+{
+    if is_plain(g, s, rest) {
+        let e = plain_row(bins, picture, g, s, rest);
+        return Taken {
+            used: g.width,
+            state: e,
+        };
+    }
+    let p = luma_blocks::feed_rows(sums, g.side, g.columns, g.width, s.row, s.col, rest);
+    let used = p.used;
+    let t = moved_to(s, p.row, p.col, used);
+    if p.row == g.side {
+        let e = end_row(sums, bins, picture, g, t);
+        return Taken {
+            used: used,
+            state: e,
+        };
+    }
+    Taken {
+        used: used,
+        state: t,
+    }
+}

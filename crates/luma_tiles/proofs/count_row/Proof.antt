@@ -1,0 +1,106 @@
+use mathlib.Core.Path.{refl}
+use native.Mathlib.Omega.{arith}
+use Rattle.rules.specs.Histograms.{third}
+use Rattle.rules.proofs.Laws.Histograms.{third-small}
+use Rattle.luma_tiles.proofs.Laws.{row-counted}
+use borrow.Author.Needs.{needs}
+use Rattle.luma_tiles.proofs.count_row.Statement.{statement}
+use Rattle.luma_tiles.proofs.count_row.Tie as tie
+
+mul-from : tie.Need-mul-from
+mul-from c = search needs
+
+mul-t : tie.Need-mul-t
+mul-t c = search needs
+
+div-t : tie.Need-div-t
+div-t c = search needs
+
+mul-t-2 : tie.Need-mul-t-2
+unfolding third
+mul-t-2 c = omega (arith, third-small (c .before .args .h) (c .before .args .r) (c .before .pre .inside))
+
+add-second : tie.Need-add-second
+add-second c = search needs
+
+mul-third : tie.Need-mul-third
+mul-third c = search needs
+
+add-third : tie.Need-add-third
+add-third c = search needs
+
+sub-m : tie.Need-sub-m
+sub-m c = search needs
+
+add-count-columns : tie.Need-add-count-columns
+add-count-columns c = search needs
+
+add-count-columns-2 : tie.Need-add-count-columns-2
+add-count-columns-2 c = search needs
+
+count-columns-requires : tie.Need-count-columns-requires
+unfolding third
+count-columns-requires c κs = record { slot = omega arith; tiles = omega (arith, third-small (c .before .before .args .h) (c .before .before .args .r) (c .before .before .pre .inside)); first = omega arith; second = omega arith; third = omega arith }
+
+add-count-last : tie.Need-add-count-last
+add-count-last c = search needs
+
+sub-count-last : tie.Need-sub-count-last
+sub-count-last c = search needs
+
+count-last-requires : tie.Need-count-last-requires
+unfolding third
+count-last-requires c κs = (omega arith, omega (arith, third-small (c .before .before .before .before .args .h) (c .before .before .before .before .args .r) (c .before .before .before .before .pre .inside)), omega arith, omega arith)
+
+add-count-last-2 : tie.Need-add-count-last-2
+unfolding third
+add-count-last-2 c = omega (arith, third-small (c .before .before .before .before .before .before .args .h) (c .before .before .before .before .before .before .args .r) (c .before .before .before .before .before .before .pre .inside))
+
+add-count-last-3 : tie.Need-add-count-last-3
+add-count-last-3 c = search needs
+
+add-count-last-4 : tie.Need-add-count-last-4
+add-count-last-4 c = search needs
+
+sub-count-last-2 : tie.Need-sub-count-last-2
+sub-count-last-2 c = search needs
+
+sub-count-last-3 : tie.Need-sub-count-last-3
+sub-count-last-3 c = search needs
+
+count-last-requires-2 : tie.Need-count-last-requires-2
+unfolding third
+count-last-requires-2 c κs = (omega arith, omega (arith, third-small (c .before .before .before .before .before .before .args .h) (c .before .before .before .before .before .before .args .r) (c .before .before .before .before .before .before .pre .inside)), omega arith, omega arith)
+
+returns : tie.Need-returns
+unfolding third
+returns c =
+    let a = c .before .before .before .before .before .before .before .args in
+    let p = c .before .before .before .before .before .before .before .pre in
+    row-counted (a .w) (a .h) (a .r) (a .base) _ _ _ (a .pixels .now) refl refl refl (p .wide) (p .there) (c .before .before .before .before .count-columns .ensures) (c .before .before .count-last .ensures) (c .count-last2 .ensures)
+
+pub count-row-spec : {M : Type 1} → statement M
+count-row-spec =
+    tie.close
+    (tie.spec
+    mul-from
+    mul-t
+    div-t
+    mul-t-2
+    add-second
+    mul-third
+    add-third
+    sub-m
+    add-count-columns
+    add-count-columns-2
+    count-columns-requires
+    add-count-last
+    sub-count-last
+    count-last-requires
+    add-count-last-2
+    add-count-last-3
+    add-count-last-4
+    sub-count-last-2
+    sub-count-last-3
+    count-last-requires-2
+    returns)
