@@ -1,4 +1,3 @@
 -- The laws that the functions' proofs stand on, one file a chapter.
 pub mod Products
-pub mod Roots
 pub mod Sizes

@@ -1,4 +1,3 @@
 -- What the functions promise, where that is more than one equation.
 pub mod Units
-pub mod Changes
 pub mod Opening

@@ -1,10 +1,8 @@
 // The figures of document 01, each from plain numbers: what the engines, the seal and the reader are made of.
-mod changes;
 mod gaps;
 mod numbers;
 pub mod opening;
 
-pub use changes::change;
 pub use gaps::gap_loss;
 pub use numbers::apart;
 pub use numbers::low;

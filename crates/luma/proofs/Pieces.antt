@@ -9,7 +9,7 @@ use borrow.Author.Tests.{lt-ltb}
 use Rattle.rules.specs.declared.Opening.{Opening}
 use Rattle.rules.specs.Pictures.{pictureSize, lumaFault}
 use Rattle.rules.specs.Bytes.{Bytes}
-use Rattle.rules.proofs.Laws.Pictures.{bytes-append, bytes-take}
+use Rattle.luma_laws.proofs.Pictures.{bytes-append, bytes-take}
 use Rattle.luma_rows.specs.declared.Grid.{Grid}
 use Rattle.luma_rows.specs.declared.Progress.{Progress}
 use Rattle.luma_rows.specs.declared.Taken.{Taken}

@@ -16,9 +16,9 @@ use Rattle.rules.specs.Refusals.{Fault, none, fault, _orElse_, answer}
 use Rattle.rules.specs.Opening.{openingFault, side, columns, lines, pixelCount}
 use Rattle.rules.specs.Pictures.{pictureSize, lumaFault}
 use Rattle.rules.specs.Seal.{lumaAnswer}
-use Rattle.rules.proofs.Laws.Pictures.{luma-kept}
-use Rattle.rules.proofs.Laws.Blocks.{side-some}
-use Rattle.rules.proofs.Laws.Sizes.{good, sizes}
+use Rattle.luma_laws.proofs.Pictures.{luma-kept}
+use Rattle.luma_laws.proofs.Blocks.{side-some}
+use Rattle.luma_laws.proofs.Sizes.{good, sizes}
 use Rattle.figures.specs.Opening.{OpeningFault}
 use Rattle.luma_rows.specs.declared.Grid.{Grid}
 use Rattle.luma_rows.specs.declared.Progress.{Progress}

@@ -17,9 +17,9 @@ use Rattle.rules.specs.Pictures.{pictureSize, pictureCount, lumaFault}
 use Rattle.rules.specs.Histograms.{histograms}
 use Rattle.rules.specs.Changes.{repeats}
 use Rattle.rules.specs.Seal.{reduced, unrepeated, lumaUnfinished}
-use Rattle.rules.proofs.Laws.Sizes.{good, sizes}
+use Rattle.luma_laws.proofs.Sizes.{good, sizes}
 use Rattle.rules.proofs.Laws.Lists.{count-few}
-use Rattle.luma_laws.proofs.Laws.{count-whole, reduced-whole, length-repeats}
+use Rattle.luma_laws.proofs.Past.{count-whole, reduced-whole, length-repeats}
 use Rattle.luma_cuts.specs.Counts.{tilesAt}
 use Rattle.luma_rows.specs.declared.Grid.{Grid}
 use Rattle.luma_rows.specs.declared.Progress.{Progress}

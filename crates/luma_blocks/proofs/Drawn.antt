@@ -7,7 +7,7 @@ use lib.ListN.{take}
 use Rattle.rules.specs.declared.Opening.{Opening}
 use Rattle.rules.specs.Opening.{side, columns, lines}
 use Rattle.rules.specs.Pictures.{pixels}
-use Rattle.rules.proofs.Laws.Blocks.{rows-are, pixels-are}
+use Rattle.luma_laws.proofs.Blocks.{rows-are, pixels-are}
 use Rattle.luma_blocks.specs.Pixels.{RowsOf}
 
 -- the first b rows of the pixels, whatever follows in the picture

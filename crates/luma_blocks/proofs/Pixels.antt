@@ -11,9 +11,10 @@ use lib.Seq.{length-take-le, getD-set-same, getD-set-other}
 use borrow.Author.Count.{below-more}
 use borrow.Author.Tests.{eqb-true}
 use Rattle.rules.specs.Bytes.{pick, tally, empty, and, Bytes}
-use Rattle.rules.proofs.Laws.Pictures.{bytes-take, bytes-drop}
-use Rattle.rules.proofs.Laws.Tally.{tally-append}
-use Rattle.rules.proofs.Laws.Blocks.{inBlock, blockTally, earlier, settled}
+use Rattle.luma_laws.proofs.Pictures.{bytes-take, bytes-drop}
+use Rattle.luma_laws.proofs.Tally.{tally-append}
+use Rattle.luma_laws.specs.Tallies.{inBlock, blockTally}
+use Rattle.luma_laws.proofs.Blocks.{earlier, settled}
 use Rattle.luma_blocks.specs.Sums.{inColumn}
 use Rattle.luma_blocks.specs.Pixels.{Finished, RowDone}
 use Rattle.luma_blocks.proofs.Rows.{bridge}

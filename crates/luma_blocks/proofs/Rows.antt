@@ -9,8 +9,8 @@ use lib.Seq.{take-add, length-take-le}
 use borrow.Author.Tests.{eq-eqb}
 use Rattle.luma_blocks.specs.declared.Spot.{Spot}
 use Rattle.rules.specs.Bytes.{tally}
-use Rattle.rules.proofs.Laws.Tally.{tally-append, tally-shift}
-use Rattle.rules.proofs.Laws.Blocks.{inBlock}
+use Rattle.luma_laws.proofs.Tally.{tally-append, tally-shift}
+use Rattle.luma_laws.specs.Tallies.{inBlock}
 use Rattle.luma_blocks.specs.Sums.{run, inColumn, Added}
 use Rattle.luma_blocks.specs.Rows.{SumsOf, Advanced, Going}
 use Rattle.luma_blocks.proofs.Runs.{column, run-length}

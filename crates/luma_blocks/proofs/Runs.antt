@@ -10,7 +10,7 @@ use lib.Dec.{eqb}
 use lib.Seq.{take-add, drop-drop, length-take-le, getD-set-same, getD-set-other}
 use borrow.Author.Tests.{eq-eqb, ne-eqb, eqb-true, eqb-false}
 use Rattle.rules.specs.Bytes.{total, tally}
-use Rattle.rules.proofs.Laws.Tally.{tally-append, tally-all, tally-none}
+use Rattle.luma_laws.proofs.Tally.{tally-append, tally-all, tally-none}
 use Rattle.luma_blocks.specs.Sums.{run, inColumn, Added, Part, Blocks}
 
 pub run-length : (s : List ℕ) (at m : ℕ) → at + m ≤ length s → length (run s at m) ≡ m

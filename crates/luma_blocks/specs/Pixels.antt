@@ -4,7 +4,7 @@ use mathlib.Core.Path.{_≡_}
 use mathlib.Core.List.{List, _++_}
 use lib.ListN.{length, getD}
 use Rattle.rules.specs.Bytes.{Bytes}
-use Rattle.rules.proofs.Laws.Blocks.{blockTally}
+use Rattle.luma_laws.specs.Tallies.{blockTally}
 use Rattle.luma_blocks.specs.Rows.{SumsOf}
 
 -- The first b rows of the pixels (reduced pixels), in w columns each: a block's sum divided once by its n × n bytes. They are those of every picture that

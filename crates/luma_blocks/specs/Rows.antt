@@ -4,7 +4,7 @@ use mathlib.Core.Path.{_≡_}
 use mathlib.Core.List.{List, _++_}
 use lib.ListN.{length, getD, take}
 use Rattle.luma_blocks.specs.declared.Spot.{Spot}
-use Rattle.rules.proofs.Laws.Blocks.{blockTally}
+use Rattle.luma_laws.specs.Tallies.{blockTally}
 
 -- The sums stand for block row b of a picture whose first bytes are p: modulo 2 ^ 32 they are its w block sums
 pub record SumsOf (W n w b : ℕ) (p sums : List ℕ) : Type 0 where

@@ -2,14 +2,14 @@
 use Prim.Native.Nat.{ℕ, _+_, _-_, _*_, _/_, _%_, _^_, _<_}
 use native.Mathlib.Omega.{arith}
 use native.Mathlib.Numerals.{add-one}
-use mathlib.Core.Path.{_≡_, refl, ap, _∙_}
+use mathlib.Core.Path.{_≡_, ap, _∙_}
 use mathlib.Core.List.{List, [], _∷_, _++_, append-nil, append-assoc}
 use lib.ListN.{length, getD, take, drop, length-append, length-drop}
 use lib.Seq.{take-suc, length-take-le, getD-drop}
 use Rattle.rules.specs.Bytes.{tally}
-use Rattle.rules.proofs.Laws.Tally.{tally-append}
-use Rattle.rules.proofs.Laws.Moves.{rise, fall, square}
-use Rattle.luma_changes.specs.declared.Moves.{Moves}
+use Rattle.luma_laws.proofs.Tally.{tally-append}
+use Rattle.luma_laws.specs.Tallies.{rise, fall, square}
+use Rattle.luma_changes.specs.declared.sums.Moves.{Moves}
 use Rattle.luma_changes.specs.Figures.{Figures, Compared}
 
 -- one pixel more: a in the old picture, b in the new

@@ -8,8 +8,9 @@ use lib.ListN.{length}
 use lib.Dec.{eqb}
 use Rattle.rules.specs.Bytes.{apart, Bytes}
 use Rattle.rules.specs.Changes.{same, spread}
-use Rattle.rules.proofs.Laws.Moves.{ups, downs, squared, ups-most, downs-most, squared-most, squares-are, spread-are, same-squares}
-use Rattle.luma_changes.specs.declared.Moves.{Moves}
+use Rattle.luma_laws.specs.Tallies.{ups, downs, squared}
+use Rattle.luma_laws.proofs.Moves.{ups-most, downs-most, squared-most, squares-are, spread-are, same-squares}
+use Rattle.luma_changes.specs.declared.sums.Moves.{Moves}
 use Rattle.luma_changes.specs.Figures.{Figures}
 
 -- the three sums, below 2 ^ 32

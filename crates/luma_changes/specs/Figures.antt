@@ -1,10 +1,10 @@
 -- What moves from one reduced picture to the next: running sums of its pixels' differences e, from which V of document 01 is made.
 use Prim.Native.Nat.{ℕ, _+_, _%_, _^_, _≤_, _<_}
 use mathlib.Core.Path.{_≡_}
-use mathlib.Core.List.{List, [], _++_}
+use mathlib.Core.List.{List, _++_}
 use lib.ListN.{length, getD, take, drop}
-use Rattle.rules.proofs.Laws.Moves.{ups, downs, squared}
-use Rattle.luma_changes.specs.declared.Moves.{Moves}
+use Rattle.luma_laws.specs.Tallies.{ups, downs, squared}
+use Rattle.luma_changes.specs.declared.sums.Moves.{Moves}
 
 -- the figures m are those of the first pixels p of the new picture, modulo 2 ^ 32; `old` is the whole picture before
 pub record Figures (old p : List ℕ) (m : Moves) : Type 0 where

@@ -1,1 +1,1 @@
-// What a picture more changes of the lists that the rules make of a run of pictures: pictures, cut scores, repeats and changes. No code.
+// The laws of the luma side, and the words that its contracts cite for a run of pictures that goes on. No code.

@@ -15,9 +15,9 @@ use Rattle.rules.specs.Bytes.{pick, tally, parts, count, empty, and, Bytes}
 use Rattle.rules.specs.Opening.{side, columns, lines}
 use Rattle.rules.specs.Pictures.{pictureSize, pixels}
 use Rattle.rules.specs.Changes.{repeats}
-use Rattle.rules.proofs.Laws.Pictures.{pixels-small, pixels-length}
+use Rattle.luma_laws.proofs.Pictures.{pixels-small, pixels-length}
 use Rattle.luma_laws.specs.Past.{previous, nextRepeat}
-use Rattle.luma_laws.proofs.Laws.{getD-last, getD-other, reduced-more, previous-more, previous-at, fresh-more}
+use Rattle.luma_laws.proofs.Past.{getD-last, getD-other, reduced-more, previous-more, previous-at, fresh-more}
 use Rattle.luma_blocks.specs.Pixels.{RowsOf}
 use Rattle.luma_blocks.proofs.Drawn.{picture-whole}
 use Rattle.luma_tiles.specs.Bins.{Counts, Cleared}

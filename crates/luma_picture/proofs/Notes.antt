@@ -15,13 +15,13 @@ use Rattle.rules.specs.Pictures.{pictureSize, pixels}
 use Rattle.rules.specs.Histograms.{histograms}
 use Rattle.rules.specs.Cuts.{at, cutScore}
 use Rattle.rules.specs.Changes.{change, repeats, changes}
-use Rattle.rules.proofs.Laws.Pictures.{bytes-take, bytes-drop, pixels-small, pixels-length}
-use Rattle.rules.proofs.Laws.Tables.{getD-mapped}
-use Rattle.rules.proofs.Laws.Moves.{squared-most}
+use Rattle.luma_laws.proofs.Pictures.{bytes-take, bytes-drop, pixels-small, pixels-length}
+use Rattle.luma_laws.proofs.Tables.{getD-mapped}
+use Rattle.luma_laws.proofs.Moves.{squared-most}
 use Rattle.luma_laws.specs.Past.{previous, nextChange, nextRepeat, nextScore, mapWord}
-use Rattle.rules.proofs.Laws.Tables.{parts-length, part-at}
-use Rattle.luma_laws.proofs.Laws.{getD-last, getD-other, map-append, score-other, score-next, next-some, next-none, repeats-more, changes-more, length-repeats, length-changes, word-more, word-other, word-small}
-use Rattle.figures.specs.Changes.{spreadOf}
+use Rattle.luma_laws.proofs.Tables.{parts-length, part-at}
+use Rattle.luma_laws.proofs.Past.{getD-last, getD-other, map-append, score-other, score-next, next-some, next-none, repeats-more, changes-more, length-repeats, length-changes, word-more, word-other, word-small}
+use Rattle.luma_changes.specs.Changes.{spreadOf}
 use Rattle.luma_cuts.specs.Counts.{binsAt, tilesAt}
 use Rattle.luma_tiles.specs.Bins.{Counts}
 use Rattle.luma_tiles.proofs.Whole.{counts-are}

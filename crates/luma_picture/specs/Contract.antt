@@ -5,7 +5,7 @@ use mathlib.Core.List.{List, []}
 use lib.ListN.{getD, set}
 use lib.Dec.{eqb}
 use Rattle.rules.specs.Bytes.{pick}
-use Rattle.figures.specs.Changes.{Changed}
+use Rattle.luma_changes.specs.Changes.{Changed}
 use Rattle.luma_cuts.specs.Counts.{leastAt}
 use Rattle.luma_rows.specs.declared.Grid.{Grid}
 use Rattle.luma_rows.specs.declared.Progress.{Progress}

@@ -31,7 +31,7 @@ fn change_of(g: Grid, s: Progress) -> u64
     }
     let m = luma_rows::moves_in(s);
     let n = (g.lines * g.columns) as u32;
-    figures::change(n, m.up, m.down, m.squares)
+    luma_changes::change(n, m.up, m.down, m.squares)
 }
 
 // Where the counts of picture i stand in the ring.

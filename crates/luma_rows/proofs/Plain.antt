@@ -10,18 +10,19 @@ use lib.Seq.{getD-set-same, getD-set-other, getD-take, getD-drop, drop-cons, len
 use borrow.Author.Count.{below-more}
 use Rattle.rules.specs.declared.Opening.{Opening}
 use Rattle.rules.specs.Bytes.{tally, table}
-use Rattle.rules.proofs.Laws.Pictures.{bytes-take}
+use Rattle.luma_laws.proofs.Pictures.{bytes-take}
 use Rattle.rules.proofs.Laws.Lists.{length-table}
-use Rattle.rules.proofs.Laws.Tables.{getD-table}
-use Rattle.rules.proofs.Laws.Tally.{tally-append, tally-cut}
-use Rattle.rules.proofs.Laws.Blocks.{inBlock, blockTally, earlier, settled}
+use Rattle.luma_laws.proofs.Tables.{getD-table}
+use Rattle.luma_laws.proofs.Tally.{tally-append, tally-cut}
+use Rattle.luma_laws.specs.Tallies.{inBlock, blockTally}
+use Rattle.luma_laws.proofs.Blocks.{earlier, settled}
 use Rattle.luma_blocks.specs.Sums.{inColumn}
 use Rattle.luma_blocks.specs.Rows.{SumsOf, FedRows}
 use Rattle.luma_blocks.specs.Pixels.{RowDone}
 use Rattle.luma_blocks.proofs.Rows.{bridge}
 use Rattle.luma_blocks.proofs.Pixels.{pixel-small}
 use Rattle.luma_tiles.specs.Bins.{CountedRow}
-use Rattle.luma_changes.specs.declared.Moves.{Moves}
+use Rattle.luma_changes.specs.declared.sums.Moves.{Moves}
 use Rattle.luma_changes.specs.Figures.{Compared}
 use Rattle.luma_rows.specs.declared.Grid.{Grid}
 use Rattle.luma_rows.specs.declared.Progress.{Progress}

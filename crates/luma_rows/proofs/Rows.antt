@@ -11,14 +11,14 @@ use lib.Seq.{getD-set-same, getD-set-other, take-add, length-take-le, getD-take,
 use borrow.Author.Count.{below-more}
 use Rattle.rules.specs.declared.Opening.{Opening}
 use Rattle.rules.specs.Bytes.{empty, and, Bytes}
-use Rattle.rules.proofs.Laws.Pictures.{bytes-append, bytes-take}
-use Rattle.rules.proofs.Laws.Blocks.{earlier}
+use Rattle.luma_laws.proofs.Pictures.{bytes-append, bytes-take}
+use Rattle.luma_laws.proofs.Blocks.{earlier}
 use Rattle.luma_laws.specs.Past.{previous}
 use Rattle.luma_blocks.specs.declared.Spot.{Spot}
 use Rattle.luma_blocks.specs.Rows.{SumsOf, FedRows}
 use Rattle.luma_blocks.specs.Pixels.{RowsOf, RowDone}
 use Rattle.luma_tiles.specs.Bins.{Counts, Kept, CountedRow}
-use Rattle.luma_changes.specs.declared.Moves.{Moves}
+use Rattle.luma_changes.specs.declared.sums.Moves.{Moves}
 use Rattle.luma_changes.specs.Figures.{Figures, Compared}
 use Rattle.luma_rows.specs.declared.Grid.{Grid}
 use Rattle.luma_rows.specs.declared.Progress.{Progress}

@@ -4,7 +4,7 @@ use mathlib.Core.Path.{_≡_}
 use mathlib.Core.List.{List, [], _++_}
 use lib.ListN.{length, getD, take}
 use Rattle.rules.specs.declared.Opening.{Opening}
-use Rattle.luma_changes.specs.declared.Moves.{Moves}
+use Rattle.luma_changes.specs.declared.sums.Moves.{Moves}
 use Rattle.luma_rows.specs.declared.Grid.{Grid}
 use Rattle.luma_rows.specs.declared.Progress.{Progress}
 use Rattle.luma_rows.specs.declared.Taken.{Taken}

@@ -18,7 +18,7 @@ use Rattle.luma_laws.specs.Past.{previous, mapWord}
 use Rattle.luma_blocks.specs.Rows.{SumsOf}
 use Rattle.luma_blocks.specs.Pixels.{RowsOf}
 use Rattle.luma_tiles.specs.Bins.{Counts}
-use Rattle.luma_changes.specs.declared.Moves.{Moves}
+use Rattle.luma_changes.specs.declared.sums.Moves.{Moves}
 use Rattle.luma_changes.specs.Figures.{Figures}
 use Rattle.luma_rows.specs.declared.Grid.{Grid}
 use Rattle.luma_rows.specs.declared.Progress.{Progress}

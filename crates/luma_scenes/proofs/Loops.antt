@@ -11,7 +11,7 @@ use Rattle.rules.specs.Scenes.{span, isTrue, longestFrom, startsScene, isStart,
 use Rattle.luma_scenes.specs.Words.{Column, Bits, Holds, bitAt}
 use Rattle.luma_scenes.specs.Next.{nextStart, scenesFrom}
 use Rattle.luma_scenes.specs.Contract.{NextPost, RowPost, CountPost, TotalPost, PeakPost, RepeatedPost, LongestPost}
-use Rattle.rules.proofs.Laws.Spans.{total-end, total-step, total-more, peak-end, peak-step, repeated-end, repeated-step, longest-end, longest-true, longest-false, longest-least, longest-most, peak-most, total-most}
+use Rattle.luma_laws.proofs.Spans.{total-end, total-step, total-more, peak-end, peak-step, repeated-end, repeated-step, longest-end, longest-true, longest-false, longest-least, longest-most, peak-most, total-most}
 use Rattle.luma_scenes.proofs.Held.{figure-is, bit-true, bit-false}
 use Rattle.luma_scenes.proofs.Starts.{Sought, sought-first, sought-more, sought-found, sought-none, scenes-none, scenes-next, scenes-first}
 

@@ -14,10 +14,10 @@ use Rattle.rules.specs.Histograms.{histograms}
 use Rattle.rules.specs.Cuts.{cutScore, cutScores}
 use Rattle.rules.specs.Changes.{repeats, changes}
 use Rattle.rules.specs.Seal.{reduced}
-use Rattle.rules.proofs.Laws.Scenes.{score-at, sample-scores, scores-length, pictures-most, reduced-length}
-use Rattle.rules.proofs.Laws.Ranges.{AtMost, sample-scored, sample-changed}
+use Rattle.luma_laws.proofs.Scenes.{score-at, sample-scores, scores-length, pictures-most, reduced-length}
+use Rattle.luma_laws.proofs.Ranges.{AtMost, sample-scored, sample-changed}
 use Rattle.luma_laws.specs.Past.{mapWord}
-use Rattle.luma_laws.proofs.Laws.{length-repeats, length-changes, word-bit}
+use Rattle.luma_laws.proofs.Past.{length-repeats, length-changes, word-bit}
 use Rattle.luma_scenes.specs.Words.{Bits, Holds, bitAt}
 
 map-bits : (w : List ℕ) (n : ℕ) (rs : List Bool) → n ≤ 750 → length rs ≡ n → ((j : ℕ) → j < 12 → getD w (64 + j) 0 ≡ mapWord rs j) → Bits w n rs

@@ -16,8 +16,9 @@ use Rattle.rules.specs.Bytes.{pick, count, tally}
 use Rattle.rules.specs.Histograms.{third, tileAt, bin, inBin}
 use Rattle.rules.proofs.Laws.Lists.{count-append}
 use Rattle.rules.specs.Counted.{hits}
-use Rattle.rules.proofs.Laws.Tiles.{binTally, bin-more}
-use Rattle.rules.proofs.Laws.Thirds.{tile-of}
+use Rattle.luma_laws.specs.Tallies.{binTally}
+use Rattle.luma_laws.proofs.Tiles.{bin-more}
+use Rattle.luma_laws.proofs.Thirds.{tile-of}
 use Rattle.luma_blocks.specs.Sums.{run}
 use Rattle.luma_blocks.proofs.Runs.{run-length, run-split, column}
 use Rattle.luma_tiles.specs.Bins.{Counts, Kept, Cleared, inTile, Grown, Three, CountedRow}

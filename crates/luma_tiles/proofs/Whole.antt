@@ -9,8 +9,9 @@ use Rattle.rules.specs.declared.Opening.{Opening}
 use Rattle.rules.specs.Bytes.{table}
 use Rattle.rules.specs.Opening.{columns, lines}
 use Rattle.rules.specs.Histograms.{histograms}
-use Rattle.rules.proofs.Laws.Tables.{same-table}
-use Rattle.rules.proofs.Laws.Tiles.{binTally, bin-most, histograms-are}
+use Rattle.luma_laws.proofs.Tables.{same-table}
+use Rattle.luma_laws.specs.Tallies.{binTally}
+use Rattle.luma_laws.proofs.Tiles.{bin-most, histograms-are}
 use Rattle.luma_tiles.specs.Bins.{Counts}
 
 -- a count of 32 bits is the bin itself

@@ -6,7 +6,7 @@ use lib.ListN.{length, getD}
 use lib.Dec.{eqb}
 use Rattle.rules.specs.Bytes.{pick}
 use Rattle.rules.specs.Histograms.{inBin}
-use Rattle.rules.proofs.Laws.Tiles.{binTally}
+use Rattle.luma_laws.specs.Tallies.{binTally}
 use Rattle.luma_blocks.specs.Sums.{run}
 
 -- The 144 counts from `base` on stand for the first pixels p of a picture: bin b of tile t is count 16 t + b, modulo 2 ^ 32

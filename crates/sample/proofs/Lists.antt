@@ -9,7 +9,7 @@ use Rattle.rules.specs.Refusals.{none, fault}
 use Rattle.rules.specs.Histograms.{histograms}
 use Rattle.rules.specs.Seal.{reduced, sealAnswer, sealedBuffer}
 use Rattle.rules.specs.Calls.{Call, feedCapture, feedLuma, seal, Outcome, fed, sealedInto, expected, captureFed, lumaFed}
-use Rattle.rules.proofs.Laws.Counted.{whole-counted, every-picture}
+use Rattle.luma_laws.proofs.Counted.{whole-counted, every-picture}
 use Rattle.luma_cuts.specs.Counts.{tilesAt}
 use Rattle.luma_rows.specs.State as side-luma
 use Rattle.luma_rows.specs.State.{loaded, slot, Stands, refused, live}

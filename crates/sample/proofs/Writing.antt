@@ -27,16 +27,16 @@ use Rattle.rules.specs.Index.{indexOf, indexBits}
 use Rattle.rules.specs.Record.{recordLength, recordBytes}
 use Rattle.rules.specs.Seal.{reduced, scenesIn, scenes, unrepeated, indexFrom, index, header, sealed, sealedLength, over, noRoom, sealFault, sealAnswer, sealedBuffer}
 use Rattle.rules.proofs.Laws.Lists.{count-few}
-use Rattle.rules.proofs.Laws.Counted.{reduced-length}
-use Rattle.rules.proofs.Laws.Sizes.{good}
-use Rattle.rules.proofs.Laws.Scenes.{pictures-most}
+use Rattle.luma_laws.proofs.Counted.{reduced-length}
+use Rattle.luma_laws.proofs.Sizes.{good}
+use Rattle.luma_laws.proofs.Scenes.{pictures-most}
 use Rattle.rules.proofs.Laws.UnitsMore.{allPackets, allLost, packets-total, lost-small, units-none}
 use Rattle.index.specs.Counts.{Counts}
 use Rattle.luma_scenes.specs.Words.{Holds}
 use Rattle.luma_scenes.specs.Contract.{CountPost}
 use Rattle.luma_scenes.proofs.Sample.{sample-holds}
 use Rattle.sealing.specs.Contract.{RecordWritten}
-use Rattle.luma_laws.proofs.Laws.{length-repeats}
+use Rattle.luma_laws.proofs.Past.{length-repeats}
 use Rattle.counts.specs.declared.Summary.{Summary}
 use Rattle.luma.specs.declared.Summary as of-luma
 use Rattle.sample.specs.Contract.{BitsOf, HeaderOf, Ready}

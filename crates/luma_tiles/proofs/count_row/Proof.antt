@@ -1,7 +1,7 @@
 use mathlib.Core.Path.{refl}
 use native.Mathlib.Omega.{arith}
 use Rattle.rules.specs.Histograms.{third}
-use Rattle.rules.proofs.Laws.Histograms.{third-small}
+use Rattle.luma_laws.proofs.Histograms.{third-small}
 use Rattle.luma_tiles.proofs.Laws.{row-counted}
 use borrow.Author.Needs.{needs}
 use Rattle.luma_tiles.proofs.count_row.Statement.{statement}

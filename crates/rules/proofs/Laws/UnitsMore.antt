@@ -1,22 +1,21 @@
 -- Units of one packet more, in figures: a new row behind the others, or the last row changed. As many units as beginnings, and the totals over all units.
-use Prim.Native.Nat.{ℕ, zero, suc, _+_, _-_, _*_, _%_, _≤_, _<_, min, max}
+use Prim.Native.Nat.{ℕ, zero, suc, _+_, _-_, _*_, _%_, _≤_, _<_}
 use native.Mathlib.Omega.{arith}
-use native.Mathlib.Nat.{lt-of-not-le}
-use native.Mathlib.Decide.{decLe, decLt}
+use native.Mathlib.Decide.{decLt}
 use mathlib.Core.Path.{_≡_, refl, sym, ap, _∙_}
 use mathlib.Core.List.{List, [], _∷_, _++_, append-nil, map, map-append}
 use mathlib.Core.Bool.{Bool, true, false}
 use lib.ListN.{length, getD, set, drop, length-append, length-map, drop-of-length-le}
 use lib.Seq.{drop-at}
-use lib.Dec.{leb, ltb}
-use borrow.Author.Tests.{le-leb, lt-leb, lt-ltb, le-ltb}
+use lib.Dec.{ltb}
+use borrow.Author.Tests.{lt-ltb, le-ltb}
 use Rattle.rules.specs.declared.UnitRow.{UnitRow}
 use Rattle.rules.specs.Bytes.{pick, total, smaller, larger, leastOf, greatestOf, only, endToEnd, All, and, empty}
-use Rattle.rules.specs.Refusals.{Fault, none, fault}
+use Rattle.rules.specs.Refusals.{none, fault}
 use Rattle.rules.specs.Packets.{Packet, startMark, counter}
 use Rattle.rules.specs.Units.{Arrival, gapLoss, arrivalsAfter, arrivals, intoFirst, groups, leastTime, unitOf, unitsOf, beginnings}
 use Rattle.rules.specs.Capture.{beginsAt}
-use Rattle.rules.proofs.Laws.Lists.{total-append, only-append}
+use Rattle.rules.proofs.Laws.Lists.{total-append, only-append, smaller-min, larger-max}
 use Rattle.rules.proofs.Laws.Units.{lastOf, arrivals-append, behind, anew, groups-begin, groups-join}
 
 -- ---- the arrival of one packet more
@@ -71,20 +70,6 @@ joins u time lost =
       packets = u .packets + 1;
       lost = u .lost + lost;
     }
-
-pub smaller-min : (a b : ℕ) → smaller a b ≡ min a b
-smaller-min a b = go (decLe a b)
-  where
-    go : Dec (a ≤ b) → smaller a b ≡ min a b
-    go (yes h) = rw (le-leb a b h) (omega arith)
-    go (no h) = rw (lt-leb a b (lt-of-not-le h)) (omega arith)
-
-pub larger-max : (a b : ℕ) → larger a b ≡ max a b
-larger-max a b = go (decLe a b)
-  where
-    go : Dec (a ≤ b) → larger a b ≡ max a b
-    go (yes h) = rw (le-leb a b h) (omega arith)
-    go (no h) = rw (lt-leb a b (lt-of-not-le h)) (omega arith)
 
 smaller-assoc : (a b c : ℕ) → smaller a (smaller b c) ≡ smaller (smaller a b) c
 smaller-assoc a b c = simp smaller-min (omega arith)

@@ -1,0 +1,3 @@
+-- The laws of sealed records, one file a chapter.
+pub mod Ranges
+pub mod Sealed
