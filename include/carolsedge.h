@@ -98,8 +98,10 @@ static inline uint32_t carolsedge_sample_feed_luma(struct carolsedge_sample *s, 
     return carolsedge_feed_luma(s->luma, s->sums, s->bins, s->picture, length ? piece : &none, length, value);
 }
 
-/* Seals what was fed: the record goes to the front of the buffer, and *value is its length; bytes behind it stand. Refused: the opening's number, a feed's,
- * or 11 to 15; the buffer stands, and *value is the place. The state does not change, so feeding may go on, and a length of 0 asks how long the record is. */
+/* Seals what was fed: the record goes to the front of the buffer, and *value is its length; bytes behind it stand.
+ * Refused: the opening's number, a feed's, or 11 to 15; the buffer stands, and *value is the place. The state does not
+ * change, so feeding may go on, and a length of 0 asks how long the record is. Proved of any contents of the state: a
+ * refused seal leaves every byte of the buffer. */
 static inline uint32_t carolsedge_sample_seal(const struct carolsedge_sample *s, uint8_t *buffer, size_t length, uint64_t *value)
 {
     uint8_t none = 0;
@@ -142,10 +144,10 @@ CAROLSEDGE_ASSERT(sizeof(struct carolsedge_header) == 88 && sizeof(struct carols
 /* Tests a whole record, which has the length given, and gives the figures of its header. Refused: 16, 17 or 18, and *header stands. */
 uint32_t carolsedge_read_header(const uint8_t *record, size_t length, struct carolsedge_header *header);
 
-/* Unit row j and scene row j, from 0, of a record whose header was read. The record is not tested again; *header has to be its own, or the answer is free.
- * Refused: 19 where j is at or past the count, and *row stands. */
-uint32_t carolsedge_read_unit(const uint8_t *record, size_t length, const struct carolsedge_header *header, size_t j, struct carolsedge_unit *row);
-uint32_t carolsedge_read_scene(const uint8_t *record, size_t length, const struct carolsedge_header *header, size_t j, struct carolsedge_scene *row);
+/* Tests a whole record likewise, and gives unit row j or scene row j, from 0. Refused: 16, 17 or 18, then 19 where j
+ * is at or past the count, and *row stands. */
+uint32_t carolsedge_read_unit(const uint8_t *record, size_t length, size_t j, struct carolsedge_unit *row);
+uint32_t carolsedge_read_scene(const uint8_t *record, size_t length, size_t j, struct carolsedge_scene *row);
 
 #ifdef __cplusplus
 }

@@ -83,9 +83,9 @@ static int print_record(const uint8_t *record, size_t length)
         return refused(k, 0);
     printf("sample %" PRIu64 " %" PRIu64 " %" PRIu64 " %" PRIu64 " %" PRIu64 " %" PRIu64 " %" PRIu64 " %" PRIu64 " %016" PRIX64 "\n",
            h.width, h.height, h.time, h.pid, h.pictures, h.frames, h.skipped, h.bad, h.index);
-    for (size_t j = 0; carolsedge_read_unit(record, length, &h, j, &u) == CAROLSEDGE_DONE; j++)
+    for (size_t j = 0; carolsedge_read_unit(record, length, j, &u) == CAROLSEDGE_DONE; j++)
         print_unit(j, &u);
-    for (size_t j = 0; carolsedge_read_scene(record, length, &h, j, &s) == CAROLSEDGE_DONE; j++)
+    for (size_t j = 0; carolsedge_read_scene(record, length, j, &s) == CAROLSEDGE_DONE; j++)
         print_scene(j, &s);
     return 0;
 }

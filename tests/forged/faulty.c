@@ -1,12 +1,15 @@
-/* Functions with one fault each (FAULT, 1 to 8) in the place of the library's own, by the linker's --wrap: the forged calls have to notice every one. */
+/* Functions with one fault each (FAULT, 1 to 9) in the place of the library's own, by the linker's --wrap: the forged
+ * calls have to notice every one. */
 #include <stddef.h>
 #include <stdint.h>
 
 struct carolsedge_header;
+struct carolsedge_unit;
 uint32_t __real_carolsedge_feed_capture(uint64_t *, const uint8_t *, size_t, uint64_t *);
 uint32_t __real_carolsedge_feed_luma(uint64_t *, uint32_t *, uint32_t *, uint8_t *, const uint8_t *, size_t, uint64_t *);
 uint32_t __real_carolsedge_seal(const uint64_t *, const uint64_t *, uint8_t *, size_t, uint64_t *);
 uint32_t __real_carolsedge_read_header(const uint8_t *, size_t, struct carolsedge_header *);
+uint32_t __real_carolsedge_read_unit(const uint8_t *, size_t, size_t, struct carolsedge_unit *);
 
 uint32_t __wrap_carolsedge_feed_capture(uint64_t *capture, const uint8_t *piece, size_t length, uint64_t *value)
 {
@@ -42,4 +45,10 @@ uint32_t __wrap_carolsedge_read_header(const uint8_t *record, size_t length, str
     if (FAULT == 8) /* reads the byte in front of a record */
         (void)*(const volatile uint8_t *)(record - 1);
     return __real_carolsedge_read_header(record, length, header);
+}
+
+uint32_t __wrap_carolsedge_read_unit(const uint8_t *record, size_t length, size_t j, struct carolsedge_unit *row)
+{
+    uint32_t k = __real_carolsedge_read_unit(record, length, j, row);
+    return FAULT == 9 && k == 17 ? 0 : k; /* a row of a record of another edition */
 }

@@ -381,45 +381,44 @@ static const uint8_t *forge_record(size_t *length)
 
 static int out_guarded; /* the record cannot be written just now */
 
-static const uint8_t *call_read_header(size_t *n)
+/* Reads the header: the record, its length, and what it was refused with. */
+static const uint8_t *call_read_header(size_t *n, uint32_t *refused)
 {
     const uint8_t *p = forge_record(n);
     struct carolsedge_header *h = (struct carolsedge_header *)(void *)lend(&header, sizeof *h);
     if ((out_guarded = below(4) == 0))
         protect(&out, PROT_READ);
     begin(READ_HEADER);
-    if (end(carolsedge_read_header(p, *n, h)) != CAROLSEDGE_DONE) {
-        if (!untouched(at(&header), sizeof *h))
-            fail("a refused reading wrote to its header");
-        h->units = below(2) ? below(800) : figure();
-        h->scenes = below(2) ? below(300) : figure();
-    } else if (below(8) == 0) {
-        h->units = figure();
-    }
+    *refused = end(carolsedge_read_header(p, *n, h));
+    if (*refused != CAROLSEDGE_DONE && !untouched(at(&header), sizeof *h))
+        fail("a refused reading wrote to its header");
     check_slack(&header);
     return p;
 }
 
+/* The rows of a record are refused with its header's number, or with 19 at or past the count. */
 static void call_readings(void)
 {
     size_t n;
-    const uint8_t *p = call_read_header(&n);
+    uint32_t refused;
+    const uint8_t *p = call_read_header(&n, &refused);
     const struct carolsedge_header *h = (const struct carolsedge_header *)(void *)at(&header);
-    int guarded = below(4) == 0;
-    if (guarded)
-        protect(&header, PROT_READ);
     for (int i = 0; i < 2; i++) {
-        size_t j = below(4) ? below(40) : (size_t)figure(), size = i ? sizeof(struct carolsedge_scene) : sizeof(struct carolsedge_unit);
+        size_t j = below(4) ? below(40) : (size_t)figure();
+        size_t size = i ? sizeof(struct carolsedge_scene) : sizeof(struct carolsedge_unit);
         uint8_t *row = lend(&lent, size);
         begin(i ? READ_SCENE : READ_UNIT);
-        uint32_t k = i ? carolsedge_read_scene(p, n, h, j, (struct carolsedge_scene *)(void *)row)
-                       : carolsedge_read_unit(p, n, h, j, (struct carolsedge_unit *)(void *)row);
-        if (end(k) != CAROLSEDGE_DONE && !untouched(row, size))
+        uint32_t k = i ? carolsedge_read_scene(p, n, j, (struct carolsedge_scene *)(void *)row)
+                       : carolsedge_read_unit(p, n, j, (struct carolsedge_unit *)(void *)row);
+        uint32_t right = refused;
+        if (refused == CAROLSEDGE_DONE && j >= (i ? h->scenes : h->units))
+            right = CAROLSEDGE_REFUSED_ROW;
+        if (end(k) != right)
+            fail("a row of a record that is refused, or that it has not");
+        if (k != CAROLSEDGE_DONE && !untouched(row, size))
             fail("a refused reading wrote to its row");
         check_slack(&lent);
     }
-    if (guarded)
-        protect(&header, PROT_READ | PROT_WRITE);
     if (out_guarded)
         protect(&out, PROT_READ | PROT_WRITE);
 }

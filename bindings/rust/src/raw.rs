@@ -52,14 +52,12 @@ extern "C" {
     fn carolsedge_read_unit(
         record: *const u8,
         length: usize,
-        figures: &Figures,
         j: usize,
         row: &mut UnitFigures,
     ) -> u32;
     fn carolsedge_read_scene(
         record: *const u8,
         length: usize,
-        figures: &Figures,
         j: usize,
         row: &mut SceneFigures,
     ) -> u32;
@@ -148,20 +146,18 @@ pub fn read_header(record: &[u8]) -> Result<Figures, u32> {
 }
 
 /// Unit row j, or the refusal's number.
-pub fn read_unit(record: &[u8], figures: &Figures, j: usize) -> Result<UnitFigures, u32> {
+pub fn read_unit(record: &[u8], j: usize) -> Result<UnitFigures, u32> {
     let mut row = [0; 5];
-    // SAFETY: pointer and length are a slice's; the arrays have the sizes that the function uses.
-    let number =
-        unsafe { carolsedge_read_unit(record.as_ptr(), record.len(), figures, j, &mut row) };
+    // SAFETY: pointer and length are a slice's; the array has the size that the function writes to.
+    let number = unsafe { carolsedge_read_unit(record.as_ptr(), record.len(), j, &mut row) };
     given(number, row)
 }
 
 /// Scene row j, or the refusal's number.
-pub fn read_scene(record: &[u8], figures: &Figures, j: usize) -> Result<SceneFigures, u32> {
+pub fn read_scene(record: &[u8], j: usize) -> Result<SceneFigures, u32> {
     let mut row = [0; 7];
-    // SAFETY: pointer and length are a slice's; the arrays have the sizes that the function uses.
-    let number =
-        unsafe { carolsedge_read_scene(record.as_ptr(), record.len(), figures, j, &mut row) };
+    // SAFETY: pointer and length are a slice's; the array has the size that the function writes to.
+    let number = unsafe { carolsedge_read_scene(record.as_ptr(), record.len(), j, &mut row) };
     given(number, row)
 }
 

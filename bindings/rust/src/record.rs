@@ -95,10 +95,10 @@ impl<'a> Record<'a> {
         }
     }
 
-    /// Unit row j, from 0, or refusal 19. The record is not tested again.
+    /// Unit row j, from 0, or refusal 19. The record is tested again.
     pub fn unit(&self, j: usize) -> Result<Unit, Refusal> {
         let [least, greatest, size, packets, lost] =
-            raw::read_unit(self.bytes, &self.figures, j).map_err(unplaced)?;
+            raw::read_unit(self.bytes, j).map_err(unplaced)?;
         Ok(Unit {
             least,
             greatest,
@@ -108,9 +108,9 @@ impl<'a> Record<'a> {
         })
     }
 
-    /// Scene row j, from 0, or refusal 19. The record is not tested again.
+    /// Scene row j, from 0, or refusal 19. The record is tested again.
     pub fn scene(&self, j: usize) -> Result<Scene, Refusal> {
-        let row = raw::read_scene(self.bytes, &self.figures, j).map_err(unplaced)?;
+        let row = raw::read_scene(self.bytes, j).map_err(unplaced)?;
         let [first, pictures, repeated, longest, score, peak, change] =
             row.map(|figure| figure as u32);
         Ok(Scene {

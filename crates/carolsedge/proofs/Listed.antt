@@ -1,153 +1,20 @@
 -- No refusal of the rules has a number outside document 01's table, so the interface renumbers none of them.
-use Prim.Native.Nat.{ℕ, _+_, _*_, _%_}
+use Prim.Native.Nat.{ℕ}
 use mathlib.Core.Path.{_≡_, refl}
-use mathlib.Core.Bool.{Bool, true, false, not, _&&_}
-use mathlib.Core.List.{List, [], _∷_}
-use lib.ListN.{length, drop}
-use lib.Dec.{leb, ltb, eqb}
+use mathlib.Core.List.{List}
 use Rattle.rules.specs.declared.Opening.{Opening}
 use Rattle.rules.specs.declared.Header.{Header}
 use Rattle.rules.specs.declared.UnitRow.{UnitRow}
 use Rattle.rules.specs.declared.SceneRow.{SceneRow}
-use Rattle.rules.specs.Bytes.{pick, byte, word32}
-use Rattle.rules.specs.Refusals.{Fault, none, fault, unless, _orElse_, answer}
-use Rattle.rules.specs.Opening.{goodSize, goodTime, goodPid, openingFault, openAnswer}
-use Rattle.rules.specs.Frames.{microseconds, storedLength}
-use Rattle.rules.specs.Units.{Arrival, beginnings}
-use Rattle.rules.specs.Capture.{allFrames, units, shownWanted, showing, earlier, tooLong, wrongMagic, wrongLink, wrongFrameHeader, wrongFrame, beginsAt, tooManyUnits, captureFault, captureInside}
-use Rattle.rules.specs.Pictures.{pictureSize, pictureCount, lumaFault}
-use Rattle.rules.specs.Seal.{sealedLength, captureUnfinished, noPacket, lumaUnfinished, noPicture, noRoom, sealFault, captureAnswer, lumaAnswer, sealAnswer}
-use Rattle.rules.specs.Reading.{allowed, readingFault, rowFault, unitFault, sceneFault, headerOf, unitAt, sceneAt, orHeader, orUnit, orScene, headerAnswer, unitAnswer, sceneAnswer}
-use Rattle.carolsedge.specs.Numbers.{listed, numberOf, headerNumber, unitNumber, sceneNumber}
-
--- the number is in the table
-abbrev pub Numbered : Fault → Type 0
-Numbered none = Unit {0}
-Numbered (fault k p) = listed k ≡ k
-
--- ---- choices keep it
-
-of-pick : (b : Bool) (f g : Fault) → Numbered f → Numbered g → Numbered (pick b f g)
-of-pick true f g x y = x
-of-pick false f g x y = y
-
-of-either : (f g : Fault) → Numbered f → Numbered g → Numbered (f orElse g)
-of-either none g x y = y
-of-either (fault k p) g x y = x
-
-of-unless : (b : Bool) (k : ℕ) → listed k ≡ k → Numbered (unless b k)
-of-unless true k x = tt
-of-unless false k x = x
-
-of-earlier : (f g : Fault) → Numbered f → Numbered g → Numbered (earlier f g)
-of-earlier none g x y = y
-of-earlier (fault k p) none x y = x
-of-earlier (fault k p) (fault l q) x y = of-pick (leb p q) (fault k p) (fault l q) x y
-
-of-showing : (size k place : ℕ) (wrong : Bool) → listed k ≡ k → Numbered (showing size k place wrong)
-unfolding showing
-of-showing size k place wrong x = of-pick (ltb place size && wrong) (fault k place) none x tt
-
--- ---- the refusals of the rules
-
-pub opening : (o : Opening) → Numbered (openingFault o)
-unfolding openingFault
-opening o =
-    of-either (unless (goodSize (o .width) (o .height)) 1) _ (of-unless (goodSize (o .width) (o .height)) 1 refl)
-    (of-either (unless (goodTime (o .time)) 2) _ (of-unless (goodTime (o .time)) 2 refl) (of-unless (goodPid (o .pid)) 3 refl))
-
-of-header : (size place : ℕ) (f : List ℕ) → Numbered (wrongFrameHeader size place f)
-unfolding wrongFrameHeader
-of-header size place f =
-    of-earlier (showing size 7 (place + 7) (ltb 999999 (microseconds f))) (showing size 8 (place + 11) (ltb 65535 (storedLength f)))
-    (of-showing size 7 (place + 7) (ltb 999999 (microseconds f)) refl) (of-showing size 8 (place + 11) (ltb 65535 (storedLength f)) refl)
-
-of-frames : (size place : ℕ) (fs : List (List ℕ)) → Numbered (wrongFrame size place fs)
-unfolding wrongFrame
-of-frames size place [] = tt
-of-frames size place (f ∷ fs) =
-    of-earlier (wrongFrameHeader size place f) (wrongFrame size (place + length f) fs) (of-header size place f) (of-frames size (place + length f) fs)
-
-of-begins : (xs : List Arrival) → Numbered (beginsAt xs)
-of-begins [] = tt
-of-begins (a ∷ more) = refl
-
-of-long : (c : List ℕ) → Numbered (tooLong c)
-unfolding tooLong
-of-long c = of-showing (length c) 4 268435456 true refl
-
-of-magic : (c : List ℕ) → Numbered (wrongMagic c)
-unfolding wrongMagic
-of-magic c =
-    of-showing (length c) 5 3 (not (eqb (byte c 0) 0xD4 && eqb (byte c 1) 0xC3 && eqb (byte c 2) 0xB2 && eqb (byte c 3) 0xA1)) refl
-
-of-link : (c : List ℕ) → Numbered (wrongLink c)
-unfolding wrongLink
-of-link c = of-showing (length c) 6 23 (not (eqb (word32 c 20) 1)) refl
-
-of-many : (o : Opening) (c : List ℕ) → Numbered (tooManyUnits o c)
-unfolding tooManyUnits
-of-many o c = of-begins (drop 750 (beginnings (shownWanted o c)))
-
-pub capture : (o : Opening) (c : List ℕ) → Numbered (captureFault o c)
-unfolding captureFault
-capture o c =
-    let frames = wrongFrame (length c) 24 (allFrames c) in
-    let many = tooManyUnits o c in
-    of-earlier (tooLong c) (earlier (wrongMagic c) (earlier (wrongLink c) (earlier frames many))) (of-long c)
-    (of-earlier (wrongMagic c) (earlier (wrongLink c) (earlier frames many)) (of-magic c)
-    (of-earlier (wrongLink c) (earlier frames many) (of-link c)
-    (of-earlier frames many (of-frames (length c) 24 (allFrames c)) (of-many o c))))
-
-pub luma : (o : Opening) (l : List ℕ) → Numbered (lumaFault o l)
-unfolding lumaFault
-luma o l = of-pick (ltb (750 * pictureSize o) (length l)) (fault 10 (750 * pictureSize o)) none refl tt
-
-of-units : (us : List UnitRow) → Numbered (noPacket us)
-unfolding noPacket
-of-units [] = refl
-of-units (u ∷ us) = tt
-
--- 11 to 15, in their order
-of-ends : (inside whole none-yet short : Bool) (us : List UnitRow) (c l n : ℕ) →
-    Numbered
-    (pick inside (fault 11 c) none
-    orElse noPacket us
-    orElse pick whole none (fault 13 l)
-    orElse pick none-yet (fault 14 0) none
-    orElse pick short (fault 15 n) none)
-unfolding noPacket
-of-ends true w y s us c l n = refl
-of-ends false w y s [] c l n = refl
-of-ends false false y s (u ∷ us) c l n = refl
-of-ends false true true s (u ∷ us) c l n = refl
-of-ends false true false true (u ∷ us) c l n = refl
-of-ends false true false false (u ∷ us) c l n = tt
-
-pub seal : (o : Opening) (c l : List ℕ) (n : ℕ) → Numbered (sealFault o c l n)
-unfolding sealFault captureUnfinished lumaUnfinished noPicture noRoom
-seal o c l n =
-    let size = sealedLength o c l in
-    let ends = of-ends (captureInside c) (eqb (length l % pictureSize o) 0) (eqb (pictureCount o l) 0) (ltb n size) (units o c) (length c) (length l) size in
-    of-either (openingFault o) _ (opening o) (of-either (captureFault o c) _ (capture o c) (of-either (lumaFault o l) _ (luma o l) ends))
-
-pub reading : (r : List ℕ) → Numbered (readingFault r)
-unfolding readingFault
-reading r =
-    of-either (unless (leb 64 (length r)) 16) _ (of-unless (leb 64 (length r)) 16 refl)
-    (of-either (unless (eqb (word32 r 0) 1) 17) _ (of-unless (eqb (word32 r 0) 1) 17 refl) (of-unless (allowed r) 18 refl))
-
-of-row : (rows j : ℕ) → Numbered (rowFault rows j)
-unfolding rowFault
-of-row rows j = of-unless (ltb j rows) 19 refl
-
-pub unit : (r : List ℕ) (j : ℕ) → Numbered (unitFault r j)
-unfolding unitFault
-unit r j = of-either (readingFault r) (rowFault (word32 r 8) j) (reading r) (of-row (word32 r 8) j)
-
-pub scene : (r : List ℕ) (j : ℕ) → Numbered (sceneFault r j)
-unfolding sceneFault
-scene r j = of-either (readingFault r) (rowFault (word32 r 16) j) (reading r) (of-row (word32 r 16) j)
+use Rattle.rules.specs.Refusals.{Fault, none, fault, _orElse_, answer}
+use Rattle.rules.specs.Opening.{openingFault, openAnswer}
+use Rattle.rules.specs.Capture.{captureFault}
+use Rattle.rules.specs.Pictures.{lumaFault}
+use Rattle.rules.specs.Seal.{sealedLength, sealFault, captureAnswer, lumaAnswer, sealAnswer}
+use Rattle.rules.specs.Reading.{readingFault, unitFault, sceneFault, headerOf, unitAt, sceneAt, orHeader, orUnit}
+use Rattle.rules.specs.Reading.{orScene, headerAnswer, unitAnswer, sceneAnswer}
+use Rattle.rules.proofs.Laws.Listed.{Numbered, of-either, opening, capture, luma, seal, reading, unit, scene}
+use Rattle.carolsedge.specs.Numbers.{numberOf, headerNumber, unitNumber, sceneNumber}
 
 -- ---- and so the number of an answer of the rules is the refusal's own
 

@@ -8,11 +8,8 @@ use Rattle.rules.specs.declared.SceneAnswer.{SceneAnswer}
 use Rattle.rules.specs.declared.HeaderAnswer.the-variants as of-header
 use Rattle.rules.specs.declared.UnitAnswer.the-variants as of-unit
 use Rattle.rules.specs.declared.SceneAnswer.the-variants as of-scene
-use Rattle.rules.specs.Bytes.{pick, within}
-
--- a refusal's number. No refusal of the rules has one outside 1 to 19 (proofs/Listed); a state that somebody else wrote on can, and gets 18
-abbrev pub listed : ℕ → ℕ
-listed k = pick (within 1 19 k) k 18
+use Rattle.rules.specs.Refusals.{listed}
+use Rattle.rules.specs.Calls.{Reply, sealedInto}
 
 abbrev pub numberOf : Answer → ℕ
 numberOf (Done n) = 0
@@ -21,6 +18,13 @@ numberOf (Refused k p) = listed k
 abbrev pub valueOf : Answer → ℕ
 valueOf (Done n) = n
 valueOf (Refused k p) = p
+
+-- of a question's reply
+abbrev pub replyNumber : Reply → ℕ
+replyNumber (sealedInto a buffer) = numberOf a
+
+abbrev pub replyValue : Reply → ℕ
+replyValue (sealedInto a buffer) = valueOf a
 
 -- of a reading, whose refusals all stand at 0
 abbrev pub headerNumber : HeaderAnswer → ℕ

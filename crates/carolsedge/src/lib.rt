@@ -1,10 +1,14 @@
-// The calls as C functions. A slice goes as a pointer and a length, an array as a pointer. Each function is thin: it hands its memory to the call of `sample`,
-// `record` or `view` and splits the answer into numbers. A number is 0 where the call is done, and otherwise that of document 01's table.
+// The calls as C functions. A slice goes as a pointer and a length, an array as a pointer. Each function is thin: it
+// hands its memory to the call of `sample`
+// or `view` and splits the answer into numbers. A number is 0 where the call is done, and otherwise that of document
+// 01's table.
 ghost use mathlib.Core.Path.{_≡_};
 ghost use Rattle.replay.specs.Script.{Replayed};
-ghost use Rattle.carolsedge.specs.Numbers.{listed, numberOf, valueOf};
+ghost use Rattle.rules.specs.Refusals.{listed};
+ghost use Rattle.rules.specs.Calls.{seal};
+ghost use Rattle.carolsedge.specs.Numbers.{numberOf, valueOf};
 ghost use Rattle.carolsedge.specs.Figures.{figuresOf, unitFigures, sceneFigures};
-ghost use Rattle.carolsedge.specs.Contract.{Opened, FedCapture, FedLuma, Sealed, HeaderRead, UnitRead, SceneRead};
+ghost use Rattle.carolsedge.specs.Contract.{Opened, FedCapture, FedLuma, Told, HeaderRead, UnitRead, SceneRead};
 use rules::Answer;
 use rules::Header;
 use rules::HeaderAnswer;
@@ -14,17 +18,11 @@ use rules::SceneRow;
 use rules::UnitAnswer;
 use rules::UnitRow;
 
-// A refusal's number. Only a state that somebody else wrote on can hold one that is not in the table.
+// A refusal's number.
 fn listed_number(number: u64) -> u32
     ensures { λ r. ⌜ r ≡ listed number ⌝ }
 {
-    if number < 1 {
-        return 18;
-    }
-    if 19 < number {
-        return 18;
-    }
-    number as u32
+    sample::listed_number(number) as u32
 }
 
 fn number_of(a: Answer) -> u32
@@ -111,7 +109,8 @@ pub extern "C" fn carolsedge_seal(
     buffer: &mut [u8],
     value: &mut u64,
 ) -> u32
-    ensures { λ r. ⌜ Sealed (now (capture .entry)) (now (luma .entry)) (now (buffer .entry)) r (now (value .exit)) (now (buffer .exit)) ⌝ }
+    ensures { λ r. ⌜ Told (record { capture = now (capture .entry); luma = now (luma .entry) })
+        (seal (now (buffer .entry))) r (now (value .exit)) (now (buffer .exit)) ⌝ }
 {
     let a = sample::seal(capture, luma, buffer);
     *value = value_of(a);
@@ -178,7 +177,7 @@ fn put_scene(row: &mut [u64; 7], s: SceneRow)
 pub extern "C" fn carolsedge_read_header(bytes: &[u8], figures: &mut [u64; 11]) -> u32
     ensures { λ r. ⌜ HeaderRead (now (bytes .entry)) (now (figures .entry)) r (now (figures .exit)) ⌝ }
 {
-    match record::header(bytes) {
+    match view::read_header(bytes) {
         HeaderAnswer::Given(h) => {
             put_header(figures, h);
             0
@@ -187,19 +186,12 @@ pub extern "C" fn carolsedge_read_header(bytes: &[u8], figures: &mut [u64; 11]) 
     }
 }
 
-// Unit row j of a record with these header figures. The record is not tested again: figures that are not its own get free answers.
+// Tests the whole record, and gives unit row j.
 #[no_mangle]
-pub extern "C" fn carolsedge_read_unit(
-    bytes: &[u8],
-    figures: &[u64; 11],
-    j: usize,
-    row: &mut [u64; 5],
-) -> u32
-    ensures { λ r. ⌜ UnitRead (now (bytes .entry)) (now (figures .entry)) j (now (row .entry)) r (now (row .exit)) ⌝ }
+pub extern "C" fn carolsedge_read_unit(bytes: &[u8], j: usize, row: &mut [u64; 5]) -> u32
+    ensures { λ r. ⌜ UnitRead (now (bytes .entry)) j (now (row .entry)) r (now (row .exit)) ⌝ }
 {
-    let units = figures[0] as usize;
-    let scenes = figures[1] as usize;
-    match view::unit_at(bytes, units, scenes, j) {
+    match view::read_unit(bytes, j) {
         UnitAnswer::Given(u) => {
             put_unit(row, u);
             0
@@ -208,19 +200,12 @@ pub extern "C" fn carolsedge_read_unit(
     }
 }
 
-// Scene row j, likewise.
+// Tests the whole record, and gives scene row j.
 #[no_mangle]
-pub extern "C" fn carolsedge_read_scene(
-    bytes: &[u8],
-    figures: &[u64; 11],
-    j: usize,
-    row: &mut [u64; 7],
-) -> u32
-    ensures { λ r. ⌜ SceneRead (now (bytes .entry)) (now (figures .entry)) j (now (row .entry)) r (now (row .exit)) ⌝ }
+pub extern "C" fn carolsedge_read_scene(bytes: &[u8], j: usize, row: &mut [u64; 7]) -> u32
+    ensures { λ r. ⌜ SceneRead (now (bytes .entry)) j (now (row .entry)) r (now (row .exit)) ⌝ }
 {
-    let units = figures[0] as usize;
-    let scenes = figures[1] as usize;
-    match view::scene_at(bytes, units, scenes, j) {
+    match view::read_scene(bytes, j) {
         SceneAnswer::Given(s) => {
             put_scene(row, s);
             0

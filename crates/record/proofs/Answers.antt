@@ -77,6 +77,7 @@ pub record AcceptedAs (r : List ℕ) (u s : ℕ) : Type 0 where
   pub fault : readingFault r ≡ none
   pub allowed : allowed r ≡ true
   pub size : length r ≡ 64 + 32 * (u + s)
+  pub unitsMore : 1 ≤ u
   pub unitsLess : u ≤ 750
   pub scenesLess : s ≤ 250
 
@@ -111,6 +112,7 @@ accepted-as r u s e =
       fault = f .0;
       allowed = g;
       size = omega (arith, f .1, f .2, n);
+      unitsMore = omega (arith, f .1, h .unitsMore);
       unitsLess = omega (arith, f .1, h .unitsLess);
       scenesLess = omega (arith, f .2, h .scenesLess);
     }

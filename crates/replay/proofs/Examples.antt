@@ -3,7 +3,7 @@ use Prim.Native.Nat.{ℕ}
 use mathlib.Core.Path.{_≡_, refl}
 use mathlib.Core.List.{List, [], _∷_}
 use Rattle.rules.specs.Bytes.{word32}
-use Rattle.rules.specs.Calls.{feedCapture, feedLuma, seal}
+use Rattle.rules.specs.Calls.{feedCapture, feedLuma, ask, seal}
 use Rattle.replay.specs.Script.{wordAt, openingOf, headBy, callsBy, callsOf}
 
 -- 320 × 240, d 40,000, PID 256, edition 1; then C of two bytes, S of three, L of one, and a C whose second byte is missing
@@ -19,6 +19,6 @@ opens : openingOf example ≡ record { width = 320; height = 240; time = 40000; 
 unfolding example wordAt word32
 opens = refl
 
-calls : callsOf example ≡ feedCapture (71 ∷ 9 ∷ []) ∷ seal (0xA5 ∷ 0xA5 ∷ 0xA5 ∷ []) ∷ feedLuma (200 ∷ []) ∷ []
+calls : callsOf example ≡ feedCapture (71 ∷ 9 ∷ []) ∷ ask (seal (0xA5 ∷ 0xA5 ∷ 0xA5 ∷ [])) ∷ feedLuma (200 ∷ []) ∷ []
 unfolding example callsOf callsBy headBy word32
 calls = refl

@@ -9,15 +9,16 @@ use lib.Seq.{take-all, drop-at, length-take-le, take-suc-set}
 use borrow.Rule.Slice.PartMut.{midOf, postOf, putMid}
 use Rattle.rules.specs.declared.Answer.{Answer}
 use Rattle.rules.specs.Bytes.{bytesOf}
-use Rattle.rules.specs.Calls.{feedCapture, feedLuma, seal, fed, sealedInto}
+use Rattle.rules.specs.Calls.{Question, seal, sealedInto, Call, feedCapture, feedLuma, ask, fed, replied}
 use Rattle.words.specs.Written.{written}
 use Rattle.words.proofs.Laws.{written-sets, written-append}
-use Rattle.sample.specs.State.{State}
+use Rattle.sample.specs.State.{State, Words, wordsOf}
 use Rattle.sample.specs.Contract.{SealPost}
-use Rattle.sample.specs.Calls.{feedsCapture, feedsLuma, seals}
+use Rattle.sample.specs.Calls.{feedsCapture, feedsLuma, asks}
 use Rattle.replay.specs.declared.reading.Head.{Head}
 use Rattle.replay.specs.declared.reading.Head.the-variants.{Capture, Luma, Seal}
-use Rattle.replay.specs.Script.{kindOf, firstOf, secondOf, code, FedCapture, FedLuma, Sealed, CallPost}
+use Rattle.replay.specs.Script.{kindOf, firstOf, secondOf, code, callsWith, replyRoom, sizeOf, FedCapture}
+use Rattle.replay.specs.Script.{FedLuma, Replied, CallPost}
 
 -- an answer's three stores
 pub put-law : (out : List ℕ) (a : Answer) → 17 ≤ length out →
@@ -46,14 +47,14 @@ part-back out part k h g =
     drop-at (take 17 out) (part ++ postOf 17 k out) 17 (length-take-le 17 out h)
     ∙ rw (drop-of-length-le (drop 17 out) {i = k} (omega arith), append-nil part)
 
-pub sealed-law : (capture luma out filled buffer out′ : List ℕ) (a : Answer) (m : ℕ) → 17 ≤ length out →
+pub sealed-law : (w : Words) (out filled buffer out′ : List ℕ) (a : Answer) (m : ℕ) → 17 ≤ length out →
     filled ≡ replicate (length (midOf 17 (length out - 17) out)) 165 →
     m ≡ length out - 17 →
-    SealPost capture luma (midOf 17 m (putMid 17 (length out - 17) out filled)) a buffer →
+    SealPost w (midOf 17 m (putMid 17 (length out - 17) out filled)) a buffer →
     out′ ≡ code a ++ drop 17 (putMid 17 m (putMid 17 (length out - 17) out filled) buffer) →
     17 ≤ length (putMid 17 (length out - 17) out filled) → length (putMid 17 (length out - 17) out filled) ≤ 17 + m →
-    Sealed capture luma (length out) out′
-sealed-law capture luma out filled buffer out′ a m h f z p w lo hi =
+    Replied w (seal (replicate (length out - 17) 165)) out′
+sealed-law v out filled buffer out′ a m h f z p w lo hi =
     let size = part-size out h in
     let back = part-back out filled (length out - 17) h (omega arith) in
     let long : length filled ≡ length out - 17 = ap length f ∙ length-replicate {A = ℕ} _ 165 ∙ size in
@@ -61,13 +62,12 @@ sealed-law capture luma out filled buffer out′ a m h f z p w lo hi =
     ap (take m) back ∙ take-all m filled (omega arith) ∙ f ∙ ap (λ (n : ℕ). replicate n 165) size
     in
     record {
-      answer = a;
-      buffer = buffer;
+      reply = sealedInto a buffer;
       post = rw same at p;
       wrote = w ∙ ap (λ (l : List ℕ). code a ++ l) (part-back (putMid 17 (length out - 17) out filled) buffer m lo hi);
     }
 
--- ---- the three calls
+-- ---- feeds and questions
 
 pub after-capture : (capture luma sums bins picture capture′ script out′ : List ℕ) (at n from end : ℕ) (h : Head) → h ≡ Capture n → from ≡ at + 5 → end ≡ from + n →
     FedCapture capture (take (end - from) (drop from script)) capture′ out′ →
@@ -113,16 +113,25 @@ after-luma capture luma sums bins picture luma′ sums′ bins′ picture′ scr
       on = omega arith;
     }
 
-pub after-seal : (st : State) (script out′ : List ℕ) (at n from size : ℕ) (h : Head) → h ≡ Seal n → from ≡ at + 5 → size ≡ 17 + n →
-    Sealed (st .capture) (st .luma) size out′ → CallPost st script at h from st out′
+-- a question changes no state; the next call stands at `next`
+pub after-question : (st : State) (script out′ : List ℕ) (at next : ℕ) (h : Head) (q : Question) →
+    ((more : ℕ → List Call) → callsWith h script at more ≡ ask q ∷ more next) →
+    sizeOf h ≡ replyRoom q → at < next → Replied (wordsOf st) q out′ → CallPost st script at h next st out′
+after-question st script out′ at next h q first size on p =
+    record {
+      call = ask q;
+      outcome = replied (p .reply);
+      first = first;
+      ran = asks (p .post);
+      wrote = p .wrote;
+      size = size;
+      on = on;
+    }
+
+pub after-seal : (st : State) (script out′ : List ℕ) (at n from size : ℕ) (h : Head) → h ≡ Seal n → from ≡ at + 5 →
+    size ≡ 17 + n →
+    Replied (wordsOf st) (seal (replicate (size - 17) 165)) out′ → CallPost st script at h from st out′
 after-seal st script out′ at n from size h e f z p =
     let k : size - 17 ≡ n = omega arith in
-    record {
-      call = seal (replicate (size - 17) 165);
-      outcome = sealedInto (p .answer) (p .buffer);
-      first = λ more. rw (e, k, f);
-      ran = seals (p .post);
-      wrote = p .wrote;
-      size = rw (e, k, length-replicate {A = ℕ} n 165);
-      on = omega arith;
-    }
+    after-question st script out′ at from h (seal (replicate (size - 17) 165)) (λ more. rw (e, k, f))
+    (rw (e, k, length-replicate {A = ℕ} n 165)) (omega arith) p

@@ -10,11 +10,12 @@ use Rattle.rules.specs.declared.Answer.{Answer}
 use Rattle.rules.specs.declared.Answer.the-variants.{Done, Refused}
 use Rattle.rules.specs.Bytes.{pick, byte, word32, bytesOf}
 use Rattle.rules.specs.Opening.{openAnswer}
-use Rattle.rules.specs.Calls.{Call, feedCapture, feedLuma, seal, Outcome, fed, sealedInto, expected}
+use Rattle.rules.specs.Calls.{Question, seal, Reply, sealedInto, Call, feedCapture, feedLuma, ask, Outcome, fed}
+use Rattle.rules.specs.Calls.{replied, expected}
 use Rattle.capture.specs.Contract as side-capture
 use Rattle.luma.specs.Contract as side-luma
-use Rattle.sample.specs.State.{State}
-use Rattle.sample.specs.Contract.{SealPost}
+use Rattle.sample.specs.State.{State, Words}
+use Rattle.sample.specs.Contract.{Asked}
 use Rattle.sample.specs.Calls.{Ran, Runs}
 use Rattle.replay.specs.declared.reading.Head.{Head}
 use Rattle.replay.specs.declared.reading.Head.the-variants.{Stop, Capture, Luma, Seal}
@@ -43,7 +44,7 @@ abbrev pub callsWith : Head → List ℕ → ℕ → (ℕ → List Call) → Lis
 callsWith Stop script at more = []
 callsWith (Capture n) script at more = feedCapture (take n (drop (at + 5) script)) ∷ more (at + 5 + n)
 callsWith (Luma n) script at more = feedLuma (take n (drop (at + 5) script)) ∷ more (at + 5 + n)
-callsWith (Seal n) script at more = seal (replicate n 0xA5) ∷ more (at + 5)
+callsWith (Seal n) script at more = ask (seal (replicate n 0xA5)) ∷ more (at + 5)
 
 -- at most as many calls as the first number says
 unfoldable pub callsBy : ℕ → List ℕ → ℕ → List Call
@@ -75,21 +76,28 @@ secondOf (Refused number place) = place
 unfoldable pub code : Answer → List ℕ
 code a = kindOf a ∷ bytesOf 8 (firstOf a) ++ bytesOf 8 (secondOf a)
 
--- a call's outcome: its answer and, of a seal, the whole buffer behind it
+-- a question's reply. Of a seal: its answer and the whole buffer behind it
+abbrev pub replyCode : Reply → List ℕ
+replyCode (sealedInto a buffer) = code a ++ buffer
+
+-- a call's outcome
 abbrev pub codeOf : Outcome → List ℕ
 codeOf (fed a) = code a
-codeOf (sealedInto a buffer) = code a ++ buffer
+codeOf (replied r) = replyCode r
 
 -- the outcomes of a list of calls, one behind the other
 unfoldable pub codes : List Outcome → List ℕ
 codes [] = []
 codes (o ∷ os) = codeOf o ++ codes os
 
--- how many bytes a call's outcome takes
+-- how many bytes a question's reply takes, and a call's outcome
+abbrev pub replyRoom : Question → ℕ
+replyRoom (seal buffer) = 17 + length buffer
+
 abbrev pub roomOf : Call → ℕ
 roomOf (feedCapture piece) = 17
 roomOf (feedLuma piece) = 17
-roomOf (seal buffer) = 17 + length buffer
+roomOf (ask q) = replyRoom q
 
 -- how many the outcomes of all calls take
 unfoldable pub room : List Call → ℕ
@@ -138,12 +146,11 @@ pub record FedLuma (luma sums bins picture piece luma′ sums′ bins′ picture
   pub post : side-luma.FeedPost luma sums bins picture piece answer luma′ sums′ bins′ picture′
   pub wrote : out′ ≡ code answer
 
--- a seal whose outcome takes n bytes, and its code: the buffer, all 0xA5 before, has all of them but the answer's 17
-pub record Sealed (capture luma : List ℕ) (n : ℕ) (out′ : List ℕ) : Type 0 where
-  pub answer : Answer
-  pub buffer : List ℕ
-  pub post : SealPost capture luma (replicate (n - 17) 0xA5) answer buffer
-  pub wrote : out′ ≡ code answer ++ buffer
+-- a question, and the code of its reply
+pub record Replied (w : Words) (q : Question) (out′ : List ℕ) : Type 0 where
+  pub reply : Reply
+  pub post : Asked w q reply
+  pub wrote : out′ ≡ replyCode reply
 
 -- a call's head stands there, and its outcome takes n bytes
 pub record Called (script : List ℕ) (at : ℕ) (h : Head) (n : ℕ) : Type 0 where

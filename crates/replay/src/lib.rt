@@ -2,9 +2,10 @@
 // W, H, d, PID and a rule edition, which is ignored; then calls. A call: byte C or L, a 32-bit length n and n bytes, a feed of that side; or byte S and
 // a 32-bit length n, a seal into n bytes of 0xA5. Where the script ends inside a call, or where another byte stands, the list ends.
 ghost use mathlib.Core.Path.{_≡_};
-ghost use Prim.Native.Nat.{_≤_};
-ghost use lib.ListN.{length};
-ghost use Rattle.replay.specs.Script.{FedCapture, FedLuma, Sealed, Called, CallPost, All, Replayed};
+ghost use Prim.Native.Nat.{_-_, _≤_};
+ghost use lib.ListN.{length, replicate};
+ghost use Rattle.rules.specs.Calls.{seal};
+ghost use Rattle.replay.specs.Script.{FedCapture, FedLuma, Replied, Called, CallPost, All, Replayed};
 
 mod reading;
 mod writing;
@@ -45,7 +46,8 @@ fn call_luma(
 
 fn call_seal(capture: &[u64; 3840], luma: &[u64; 1600], out: &mut [u8])
     requires { ⌜ 17 ≤ length (now out) ⌝ }
-    ensures { λ _. ⌜ Sealed (now (capture .entry)) (now (luma .entry)) (length (now (out .entry))) (now (out .exit)) ⌝ }
+    ensures { λ _. ⌜ Replied (record { capture = now (capture .entry); luma = now (luma .entry) })
+        (seal (replicate (length (now (out .entry)) - 17) 0xA5)) (now (out .exit)) ⌝ }
 {
     fill(&mut out[17..]);
     let a = sample::seal(capture, luma, &mut out[17..]);

@@ -26,7 +26,8 @@ use Rattle.rules.specs.Index.{icOf, ipOf, valueOf, indexOf, indexBits}
 use Rattle.rules.specs.Record.{le32, recordLength, sceneOffset, headerBytes, unitBytes, sceneBytes, recordBytes}
 use Rattle.rules.specs.Reading.{scenePlace, unitPlace, allowedHeader, allowedUnit, allowedUnits, allowedScene, allowedScenes, allowedRows, allowed, readingFault, rowFault, unitFault, sceneFault}
 use Rattle.rules.specs.Seal.{reduced, scenesIn, scenes, unrepeated, indexFrom, index, header, sealed, sealedLength, captureUnfinished, noPacket, lumaUnfinished, noPicture, noRoom, sealFault, captureAnswer, lumaAnswer, sealAnswer, over, sealedBuffer}
-use Rattle.rules.specs.Calls.{Call, feedCapture, feedLuma, seal, Outcome, fed, sealedInto, expected}
+use Rattle.rules.specs.Calls.{Call, feedCapture, feedLuma, ask, seal, Outcome, fed, replied, Reply, sealedInto}
+use Rattle.rules.specs.Calls.{expected}
 use Rattle.rules.proofs.Worked.{Case}
 
 -- ---- the parts that samples are made of
@@ -69,9 +70,12 @@ abbrev told : Answer → List ℕ
 told (Done n) = 0 ∷ n ∷ []
 told (Refused k p) = k ∷ p ∷ []
 
+abbrev toldIn : Reply → List ℕ
+toldIn (sealedInto a buffer) = told a ++ buffer
+
 abbrev toldOf : Outcome → List ℕ
 toldOf (fed a) = told a
-toldOf (sealedInto a buffer) = told a ++ buffer
+toldOf (replied r) = toldIn r
 
 abbrev toldFault : Fault → List ℕ
 toldFault none = 0 ∷ 0 ∷ []
@@ -115,7 +119,9 @@ pub samples : List Case
 samples =
     -- `show`'s example, into a buffer of two bytes more
     record {
-      rule = run (opened 30 30 40000 256) (feedCapture oneFrame ∷ feedLuma (replicate 1800 16) ∷ seal (replicate 130 0xA5) ∷ []);
+      rule =
+          run (opened 30 30 40000 256)
+          (feedCapture oneFrame ∷ feedLuma (replicate 1800 16) ∷ ask (seal (replicate 130 0xA5)) ∷ []);
       paper = 0 ∷ 0 ∷ 0 ∷ 270 ∷ 0 ∷ 1800 ∷ 0 ∷ 128 ∷ showRecord ++ 0xA5 ∷ 0xA5 ∷ [];
     }
     -- a cut from black to white at picture 3 of 6: s is 1,000,000 there, and q is 0, since every pixel rises alike
@@ -142,7 +148,7 @@ samples =
     ∷ record { rule = skippedCount (goodHeader ++ set (frameWith 0 0 1 (packetOf 256 0 0)) 36 0x20) ∷ skippedCount (goodHeader ++ set (frameWith 0 0 1 (packetOf 256 0 0)) 36 0x40) ∷ []; paper = 1 ∷ 0 ∷ [] }
     -- 1: 640 by 29. 2: 9,999. 3: 8192. Feeds and seals repeat the opening's number
     ∷ record {
-      rule = run (opened 640 29 9999 8192) (feedCapture (0 ∷ []) ∷ feedLuma [] ∷ seal (7 ∷ []) ∷ []);
+      rule = run (opened 640 29 9999 8192) (feedCapture (0 ∷ []) ∷ feedLuma [] ∷ ask (seal (7 ∷ [])) ∷ []);
       paper = 1 ∷ 0 ∷ 1 ∷ 0 ∷ 1 ∷ 0 ∷ 1 ∷ 0 ∷ 7 ∷ [];
     }
     ∷ record { rule = run (opened 640 30 9999 8192) [] ++ run (opened 640 480 40000 8192) []; paper = 1 ∷ 0 ∷ 3 ∷ 0 ∷ [] }

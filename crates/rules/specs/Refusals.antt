@@ -4,10 +4,11 @@
 --   luma     10 Pictures.lumaFault
 --   seal     11 Seal.captureUnfinished, 12 Seal.noPacket, 13 Seal.lumaUnfinished, 14 Seal.noPicture, 15 Seal.noRoom
 --   reading  16, 17, 18 Reading.readingFault, 19 Reading.rowFault
-use Prim.Native.Nat.{ℕ}
+use Prim.Native.Nat.{ℕ, _≤_}
 use mathlib.Core.Bool.{Bool, true, false}
 use Rattle.rules.specs.declared.Answer.{Answer}
 use Rattle.rules.specs.declared.Answer.the-variants.{Done, Refused}
+use Rattle.rules.specs.Bytes.{pick, within}
 
 -- a refusal's number and its place (0 where document 01 names none), or none
 pub data Fault : Type 0 where
@@ -29,3 +30,13 @@ fault k p orElse f = fault k p
 abbrev pub answer : Fault → ℕ → Answer
 answer none n = Done n
 answer (fault k p) n = Refused k p
+
+-- ---- the table's numbers: 1 to 19
+
+abbrev pub InTable : ℕ → Type 0
+InTable k = (1 ≤ k) × (k ≤ 19)
+
+-- a refusal's number. Those of the rules are in the table (proofs/Laws/Listed); a state that somebody else wrote on can
+-- hold another, and gets 18
+abbrev pub listed : ℕ → ℕ
+listed k = pick (within 1 19 k) k 18

@@ -7,16 +7,18 @@ use lib.ListN.{length, getD}
 use Rattle.rules.specs.declared.Opening.{Opening}
 use Rattle.rules.specs.Refusals.{none, fault}
 use Rattle.rules.specs.Histograms.{histograms}
-use Rattle.rules.specs.Seal.{reduced, sealAnswer, sealedBuffer}
-use Rattle.rules.specs.Calls.{Call, feedCapture, feedLuma, seal, Outcome, fed, sealedInto, expected, captureFed, lumaFed}
+use Rattle.rules.specs.Seal.{reduced}
+use Rattle.rules.specs.Calls.{Question, answerTo, Call, feedCapture, feedLuma, ask, Outcome, fed, replied, expected}
+use Rattle.rules.specs.Calls.{captureFed, lumaFed}
 use Rattle.luma_laws.proofs.Counted.{whole-counted, every-picture}
 use Rattle.luma_cuts.specs.Counts.{tilesAt}
 use Rattle.luma_rows.specs.State as side-luma
 use Rattle.luma_rows.specs.State.{loaded, slot, Stands, refused, live}
 use Rattle.luma.proofs.Seals.{ring-is}
 use Rattle.sample.specs.State.{State, Means}
-use Rattle.sample.specs.Contract.{OpenPost, SealPost}
-use Rattle.sample.specs.Calls.{Ran, feedsCapture, feedsLuma, seals, Runs, done, next, Kept, EveryList, SealsAlike}
+use Rattle.sample.specs.Contract.{OpenPost}
+use Rattle.sample.specs.Calls.{Ran, feedsCapture, feedsLuma, asks, Runs, done, next, Kept, EveryList}
+use Rattle.sample.specs.Calls.{RepliesAlike}
 
 -- from a state that stands for the strings so far: what the calls come to, and what the state that they leave stands for
 pub record Led (o : Opening) (capture luma : List ℕ) (cs : List Call) (os : List Outcome) (end : State) : Type 0 where
@@ -38,10 +40,9 @@ runs o capture luma {cs = feedLuma piece ∷ cs} h (next (feedsLuma p) r) =
     let e = p .answer o luma (h .drawn) in
     let l = i .outcomes in
     record { outcomes = cc; means = rw (← append-assoc luma piece (lumaFed cs)) (i .means) }
-runs o capture luma h (next (seals {st = st} p) r) =
+runs o capture luma h (next (asks {st = st} p) r) =
     let i = runs o capture luma h r in
-    let e = p .answer st o capture luma refl refl h in
-    let b = p .buffer st o capture luma refl refl h in
+    let e = p .rule st o capture luma refl h in
     let l = i .outcomes in
     record { outcomes = cc; means = i .means }
 
@@ -58,40 +59,43 @@ kept o luma st h small i k = go (h .stands)
     go (live g s l) =
         ring-is o (loaded (st .luma)) (record { good = g; sane = s; live = l }) small i (whole-counted o luma i (k .whole)) (k .late)
 
--- ---- two lists that seal alike
+-- ---- two lists that end in the same question
 
-some-outcome : (o : Opening) (capture luma : List ℕ) (cs : List Call) (buffer : List ℕ) → expected o capture luma (cs ++ seal buffer ∷ []) ≡ [] → ⊥
+some-outcome : (o : Opening) (capture luma : List ℕ) (cs : List Call) (q : Question) → expected o capture luma
+    (cs ++ ask q ∷ []) ≡ [] → ⊥
 unfolding expected
-some-outcome o capture luma [] buffer e = cons-ne-nil _ _ e
-some-outcome o capture luma (feedCapture piece ∷ cs) buffer e = cons-ne-nil _ _ e
-some-outcome o capture luma (feedLuma piece ∷ cs) buffer e = cons-ne-nil _ _ e
-some-outcome o capture luma (seal b ∷ cs) buffer e = cons-ne-nil _ _ e
+some-outcome o capture luma [] q e = cons-ne-nil _ _ e
+some-outcome o capture luma (feedCapture piece ∷ cs) q e = cons-ne-nil _ _ e
+some-outcome o capture luma (feedLuma piece ∷ cs) q e = cons-ne-nil _ _ e
+some-outcome o capture luma (ask p ∷ cs) q e = cons-ne-nil _ _ e
 
-abbrev sealOutcome : Opening → List ℕ → List ℕ → List ℕ → Outcome
-sealOutcome o capture luma buffer = sealedInto (sealAnswer o capture luma (length buffer)) (sealedBuffer o capture luma buffer)
-
--- the outcome of a seal at the end goes by the joined strings
-sealed-last : (o : Opening) (capture luma : List ℕ) (cs : List Call) (os : List Outcome) (s : Outcome) (buffer : List ℕ) →
-    os ++ s ∷ [] ≡ expected o capture luma (cs ++ seal buffer ∷ []) → s ≡ sealOutcome o (capture ++ captureFed cs) (luma ++ lumaFed cs) buffer
+-- the outcome of a question at the end goes by the joined strings
+asked-last : (o : Opening) (capture luma : List ℕ) (cs : List Call) (os : List Outcome) (s : Outcome) (q : Question) →
+    os ++ s ∷ [] ≡ expected o capture luma (cs ++ ask q ∷ []) → s ≡ replied
+    (answerTo o (capture ++ captureFed cs) (luma ++ lumaFed cs) q)
 unfolding expected captureFed lumaFed
-sealed-last o capture luma [] [] s buffer e = rw (append-nil capture, append-nil luma) (head-eq-of-cons-eq e)
-sealed-last o capture luma [] (p ∷ []) s buffer e = absurd (cons-ne-nil s [] (tail-eq-of-cons-eq e))
-sealed-last o capture luma [] (p ∷ q ∷ os) s buffer e = absurd (cons-ne-nil q (os ++ s ∷ []) (tail-eq-of-cons-eq e))
-sealed-last o capture luma (feedCapture piece ∷ cs) [] s buffer e = absurd (some-outcome o (capture ++ piece) luma cs buffer (sym (tail-eq-of-cons-eq e)))
-sealed-last o capture luma (feedCapture piece ∷ cs) (p ∷ os) s buffer e =
-    rw (← append-assoc capture piece (captureFed cs)) (sealed-last o (capture ++ piece) luma cs os s buffer (tail-eq-of-cons-eq e))
-sealed-last o capture luma (feedLuma piece ∷ cs) [] s buffer e = absurd (some-outcome o capture (luma ++ piece) cs buffer (sym (tail-eq-of-cons-eq e)))
-sealed-last o capture luma (feedLuma piece ∷ cs) (p ∷ os) s buffer e =
-    rw (← append-assoc luma piece (lumaFed cs)) (sealed-last o capture (luma ++ piece) cs os s buffer (tail-eq-of-cons-eq e))
-sealed-last o capture luma (seal b ∷ cs) [] s buffer e = absurd (some-outcome o capture luma cs buffer (sym (tail-eq-of-cons-eq e)))
-sealed-last o capture luma (seal b ∷ cs) (p ∷ os) s buffer e = sealed-last o capture luma cs os s buffer (tail-eq-of-cons-eq e)
+asked-last o capture luma [] [] s q e = rw (append-nil capture, append-nil luma) (head-eq-of-cons-eq e)
+asked-last o capture luma [] (p ∷ []) s q e = absurd (cons-ne-nil s [] (tail-eq-of-cons-eq e))
+asked-last o capture luma [] (p ∷ r ∷ os) s q e = absurd (cons-ne-nil r (os ++ s ∷ []) (tail-eq-of-cons-eq e))
+asked-last o capture luma (feedCapture piece ∷ cs) [] s q e =
+    absurd (some-outcome o (capture ++ piece) luma cs q (sym (tail-eq-of-cons-eq e)))
+asked-last o capture luma (feedCapture piece ∷ cs) (p ∷ os) s q e =
+    rw (← append-assoc capture piece (captureFed cs))
+    (asked-last o (capture ++ piece) luma cs os s q (tail-eq-of-cons-eq e))
+asked-last o capture luma (feedLuma piece ∷ cs) [] s q e =
+    absurd (some-outcome o capture (luma ++ piece) cs q (sym (tail-eq-of-cons-eq e)))
+asked-last o capture luma (feedLuma piece ∷ cs) (p ∷ os) s q e =
+    rw (← append-assoc luma piece (lumaFed cs)) (asked-last o capture (luma ++ piece) cs os s q (tail-eq-of-cons-eq e))
+asked-last o capture luma (ask p ∷ cs) [] s q e =
+    absurd (some-outcome o capture luma cs q (sym (tail-eq-of-cons-eq e)))
+asked-last o capture luma (ask p ∷ cs) (x ∷ os) s q e = asked-last o capture luma cs os s q (tail-eq-of-cons-eq e)
 
-pub seals-alike : SealsAlike
-seals-alike o a a′ st st′ end end′ cs cs′ os os′ s s′ buffer p p′ e l r r′ =
-    sealed-last o [] [] cs os s buffer (runs o [] [] (p .means) r .outcomes)
-    ∙ ap (λ (c : List ℕ). sealOutcome o c (lumaFed cs) buffer) e
-    ∙ ap (λ (y : List ℕ). sealOutcome o (captureFed cs′) y buffer) l
-    ∙ sym (sealed-last o [] [] cs′ os′ s′ buffer (runs o [] [] (p′ .means) r′ .outcomes))
+pub replies-alike : RepliesAlike
+replies-alike o a a′ st st′ end end′ cs cs′ os os′ s s′ q p p′ e l r r′ =
+    asked-last o [] [] cs os s q (runs o [] [] (p .means) r .outcomes)
+    ∙ ap (λ (c : List ℕ). replied (answerTo o c (lumaFed cs) q)) e
+    ∙ ap (λ (y : List ℕ). replied (answerTo o (captureFed cs′) y q)) l
+    ∙ sym (asked-last o [] [] cs′ os′ s′ q (runs o [] [] (p′ .means) r′ .outcomes))
 
 pub every-list : EveryList
 every-list o a st cs os end p r =
@@ -99,6 +103,8 @@ every-list o a st cs os end p r =
     record {
       opening = p .answer;
       outcomes = l .outcomes;
-      pictures = λ b i w. every-picture o (lumaFed cs) i b w;
-      ring = kept o (lumaFed cs) end (l .means .drawn);
+      counted = record {
+        pictures = λ b i w. every-picture o (lumaFed cs) i b w;
+        ring = kept o (lumaFed cs) end (l .means .drawn);
+      };
     }

@@ -12,18 +12,20 @@ use Rattle.rules.specs.declared.Answer.the-variants.{Done, Refused}
 use Rattle.rules.specs.declared.Header.{Header}
 use Rattle.rules.specs.declared.UnitRow.{UnitRow}
 use Rattle.rules.specs.Bytes.{pick, total}
-use Rattle.rules.specs.Refusals.{Fault, none, fault, _orElse_, answer}
+use Rattle.rules.specs.Refusals.{Fault, none, fault, _orElse_, answer, listed}
 use Rattle.rules.specs.Opening.{openingFault}
 use Rattle.rules.specs.Capture.{units, wholeWanted, captureFault, captureInside}
 use Rattle.rules.specs.Pictures.{pictureCount, lumaFault}
 use Rattle.rules.specs.Seal.{captureUnfinished, noPacket, lumaUnfinished, noPicture, noRoom, sealFault, sealAnswer, ifDone, over, sealed, sealedLength, sealedBuffer}
+use Rattle.rules.specs.Calls.{seal, sealedInto, answerTo}
+use Rattle.rules.proofs.Laws.Listed.{listed-in, seal as in-the-table}
 use Rattle.counts.specs.declared.Summary.{Summary}
 use Rattle.counts.specs.Summary.{SumsUp, SumOf, Figures, standing}
 use Rattle.luma.specs.declared.Summary as of-luma
 use Rattle.luma.specs.Contract.{SummaryPost, Summarised, Known}
 use Rattle.luma_rows.specs.State.{openingIn}
-use Rattle.sample.specs.State.{State, Means}
-use Rattle.sample.specs.Contract.{SealPost, Ready, WritePost}
+use Rattle.sample.specs.State.{State, Words, wordsOf, Means}
+use Rattle.sample.specs.Contract.{Leaves, SealPost, Ready, WritePost}
 
 -- ---- refusals one after the other
 
@@ -117,65 +119,100 @@ module _ (st : State) (o : Opening) (fedCapture fedLuma : List ℕ) (m : Means s
 
 -- ---- what a seal promises
 
-refuse-post : (capture luma before : List ℕ) (a : Answer) (k p : ℕ) → a ≡ Refused k p →
-    ((st : State) (o : Opening) (fedCapture fedLuma : List ℕ) → st .capture ≡ capture → st .luma ≡ luma → Means st o fedCapture fedLuma →
-    sealFault o fedCapture fedLuma (length before) ≡ fault k p) →
-    SealPost capture luma before a before
-unfolding sealAnswer sealedBuffer
-refuse-post capture luma before a k p e f =
+-- a refusal that writes nothing, and a seal that is done
+pub refused-leaves : (before : List ℕ) (a : Answer) (k p : ℕ) → a ≡ Refused (listed k) p → Leaves (seal before)
+    (sealedInto a before)
+refused-leaves before a k p e =
     record {
-      answer = λ st o fc fl x y m. rw (f st o fc fl x y m) e;
-      buffer = λ st o fc fl x y m. rw (f st o fc fl x y m);
+      kept = λ l q f. refl;
+      listed = λ l q f. let i : listed k ≡ l = number (listed k) p l q (rw e at f) in rw i at (listed-in k);
     }
+  where
+    number : (k p l q : ℕ) → fault k p ≡ fault l q → k ≡ l
+    number k p l q e = cc
 
-module _ (capture luma before : List ℕ) (c : Summary) (l : of-luma.Summary) (cp : SumsUp capture c) (lp : SummaryPost luma l) (a : Answer) where
-  cp-of : (w : List ℕ) → w ≡ capture → SumsUp w c
-  cp-of w x = subst⁻¹ (λ (w : List ℕ). SumsUp w c) x cp
+pub done-leaves : (before after : List ℕ) (a : Answer) (n : ℕ) → a ≡ Done n → Leaves (seal before) (sealedInto a after)
+done-leaves before after a n e =
+    record { kept = λ l q f. absurd (never l q (rw e at f)); listed = λ l q f. absurd (never l q (rw e at f)) }
+  where
+    never : (l q : ℕ) → none ≡ fault l q → ⊥
+    never l q f = let z : _≡_ {A = ℕ} 0 1 = cc in omega arith
 
-  lp-of : (w : List ℕ) → w ≡ luma → SummaryPost w l
-  lp-of w y = subst⁻¹ (λ (w : List ℕ). SummaryPost w l) y lp
+refuse-post : (w : Words) (before : List ℕ) (a : Answer) (k p : ℕ) → a ≡ Refused (listed k) p →
+    ((st : State) (o : Opening) (fedCapture fedLuma : List ℕ) → wordsOf st ≡ w → Means st o fedCapture fedLuma →
+    sealFault o fedCapture fedLuma (length before) ≡ fault k p) →
+    SealPost w before a before
+unfolding sealAnswer sealedBuffer
+refuse-post w before a k p e f =
+    record {
+      rule =
+          λ st o fc fl x m. let i : listed k ≡ k = rw (f st o fc fl x m) at (in-the-table o fc fl (length before)) in
+          rw (f st o fc fl x m) (same (e ∙ ap (λ (n : ℕ). Refused n p) i));
+      refusals = refused-leaves before a k p e;
+    }
+  where
+    same : {b : Answer} → a ≡ b → sealedInto a before ≡ sealedInto b before
+    same x = cc
 
-  pub post-capture : a ≡ Refused (c .number) (c .place) → (c .number ≡ 0 → ⊥) → SealPost capture luma before a before
-  post-capture e h = refuse-post capture luma before a _ _ e (λ st o fc fl x y m. of-capture st o fc fl m c l (cp-of (st .capture) x) (lp-of (st .luma) y) (length before) h)
+module _ (w : Words) (before : List ℕ) (c : Summary) (l : of-luma.Summary) (cp : SumsUp (w .capture) c)
+    (lp : SummaryPost (w .luma) l) (a : Answer) where
+  cp-of : (v : Words) → v ≡ w → SumsUp (v .capture) c
+  cp-of v x = subst⁻¹ (λ (v : Words). SumsUp (v .capture) c) x cp
+
+  lp-of : (v : Words) → v ≡ w → SummaryPost (v .luma) l
+  lp-of v x = subst⁻¹ (λ (v : Words). SummaryPost (v .luma) l) x lp
+
+  pub post-capture : a ≡ Refused (listed (c .number)) (c .place) → (c .number ≡ 0 → ⊥) → SealPost w before a before
+  post-capture e h =
+      refuse-post w before a _ _ e
+      (λ st o fc fl x m. of-capture st o fc fl m c l (cp-of (wordsOf st) x) (lp-of (wordsOf st) x) (length before) h)
 
   module _ (h₁ : c .number ≡ 0) where
-    pub post-luma : a ≡ Refused (l .status) (l .place) → (l .status ≡ 0 → ⊥) → SealPost capture luma before a before
-    post-luma e h = refuse-post capture luma before a _ _ e (λ st o fc fl x y m. of-luma-side st o fc fl m c l (cp-of (st .capture) x) (lp-of (st .luma) y) h₁ (length before) h)
+    pub post-luma : a ≡ Refused (listed (l .status)) (l .place) → (l .status ≡ 0 → ⊥) → SealPost w before a before
+    post-luma e h =
+        refuse-post w before a _ _ e
+        (λ st o fc fl x m. of-luma-side st o fc fl m c l (cp-of (wordsOf st) x) (lp-of (wordsOf st) x) h₁
+        (length before) h)
 
     module _ (h₂ : l .status ≡ 0) where
-      pub post-inside-capture : a ≡ Refused 11 (c .fed) → c .inside ≡ true → SealPost capture luma before a before
+      pub post-inside-capture : a ≡ Refused 11 (c .fed) → c .inside ≡ true → SealPost w before a before
       post-inside-capture e h =
-          refuse-post capture luma before a _ _ e (λ st o fc fl x y m. inside-capture st o fc fl m c l (cp-of (st .capture) x) (lp-of (st .luma) y) h₁ h₂ (length before) h)
+          refuse-post w before a _ _ e
+          (λ st o fc fl x m. inside-capture st o fc fl m c l (cp-of (wordsOf st) x) (lp-of (wordsOf st) x) h₁ h₂
+          (length before) h)
 
       module _ (h₃ : c .inside ≡ false) where
-        pub post-no-packet : a ≡ Refused 12 0 → c .units ≡ 0 → SealPost capture luma before a before
-        post-no-packet e h = refuse-post capture luma before a _ _ e (λ st o fc fl x y m. no-packet st o fc fl m c l (cp-of (st .capture) x) (lp-of (st .luma) y) h₁ h₂ h₃ (length before) h)
+        pub post-no-packet : a ≡ Refused 12 0 → c .units ≡ 0 → SealPost w before a before
+        post-no-packet e h =
+            refuse-post w before a _ _ e
+            (λ st o fc fl x m. no-packet st o fc fl m c l (cp-of (wordsOf st) x) (lp-of (wordsOf st) x) h₁ h₂ h₃
+            (length before) h)
 
         module _ (h₄ : c .units ≡ 0 → ⊥) where
-          pub post-inside-luma : a ≡ Refused 13 (l .fed) → l .inside ≡ true → SealPost capture luma before a before
+          pub post-inside-luma : a ≡ Refused 13 (l .fed) → l .inside ≡ true → SealPost w before a before
           post-inside-luma e h =
-              refuse-post capture luma before a _ _ e (λ st o fc fl x y m. inside-luma st o fc fl m c l (cp-of (st .capture) x) (lp-of (st .luma) y) h₁ h₂ h₃ h₄ (length before) h)
+              refuse-post w before a _ _ e
+              (λ st o fc fl x m. inside-luma st o fc fl m c l (cp-of (wordsOf st) x) (lp-of (wordsOf st) x) h₁ h₂ h₃ h₄
+              (length before) h)
 
           module _ (h₅ : l .inside ≡ false) where
-            pub post-no-picture : a ≡ Refused 14 0 → l .pictures ≡ 0 → SealPost capture luma before a before
+            pub post-no-picture : a ≡ Refused 14 0 → l .pictures ≡ 0 → SealPost w before a before
             post-no-picture e h =
-                refuse-post capture luma before a _ _ e (λ st o fc fl x y m. no-picture st o fc fl m c l (cp-of (st .capture) x) (lp-of (st .luma) y) h₁ h₂ h₃ h₄ h₅ (length before) h)
+                refuse-post w before a _ _ e
+                (λ st o fc fl x m. no-picture st o fc fl m c l (cp-of (wordsOf st) x) (lp-of (wordsOf st) x) h₁ h₂ h₃
+                h₄ h₅ (length before) h)
 
-            pub post-written : (after : List ℕ) (o : Opening) → o ≡ openingIn luma → (l .pictures ≡ 0 → ⊥) → WritePost capture luma o c l before a after →
-                SealPost capture luma before a after
-            post-written after o e h w =
-                record {
-                  answer = λ st p fc fl x y m. wrote st p fc fl x y m .0;
-                  buffer = λ st p fc fl x y m. wrote st p fc fl x y m .1;
-                }
+            pub post-written : (after : List ℕ) (o : Opening) → o ≡ openingIn (w .luma) → (l .pictures ≡ 0 → ⊥) →
+                WritePost w o c l before a after →
+                SealPost w before a after
+            post-written after o e h x = record { rule = wrote; refusals = x .refusals }
               where
-                same : (st : State) (p : Opening) (fc fl : List ℕ) → st .luma ≡ luma → Means st p fc fl → o ≡ p
-                same st p fc fl y m = e ∙ ap openingIn (sym y) ∙ m .drawn .opening
+                same : (st : State) (p : Opening) (fc fl : List ℕ) → wordsOf st ≡ w → Means st p fc fl → o ≡ p
+                same st p fc fl y m = e ∙ ap (λ (v : Words). openingIn (v .luma)) (sym y) ∙ m .drawn .opening
 
-                wrote : (st : State) (p : Opening) (fc fl : List ℕ) → st .capture ≡ capture → st .luma ≡ luma → Means st p fc fl →
-                    (a ≡ sealAnswer p fc fl (length before)) × (after ≡ sealedBuffer p fc fl before)
-                wrote st p fc fl x y m =
-                    let r = ready st p fc fl m c l (cp-of (st .capture) x) (lp-of (st .luma) y) h₁ h₂ h₃ h₄ h₅ h in
-                    let r₁ = subst (λ (k : List ℕ). Ready k (st .luma) p fc fl c l) x r in
-                    let r₂ = subst (λ (k : List ℕ). Ready capture k p fc fl c l) y r₁ in
-                    subst (λ (q : Opening). WritePost capture luma q c l before a after) (same st p fc fl y m) w fc fl r₂
+                wrote : (st : State) (p : Opening) (fc fl : List ℕ) → wordsOf st ≡ w → Means st p fc fl →
+                    sealedInto a after ≡ answerTo p fc fl (seal before)
+                wrote st p fc fl y m =
+                    let r = ready st p fc fl m c l (cp-of (wordsOf st) y) (lp-of (wordsOf st) y) h₁ h₂ h₃ h₄ h₅ h in
+                    let r′ = subst (λ (v : Words). Ready (v .capture) (v .luma) p fc fl c l) y r in
+                    subst (λ (q : Opening). WritePost w q c l before a after) (same st p fc fl y m) x .rule fc fl r′

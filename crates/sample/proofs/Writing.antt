@@ -26,6 +26,7 @@ use Rattle.rules.specs.Scenes.{scenesOf}
 use Rattle.rules.specs.Index.{indexOf, indexBits}
 use Rattle.rules.specs.Record.{recordLength, recordBytes}
 use Rattle.rules.specs.Seal.{reduced, scenesIn, scenes, unrepeated, indexFrom, index, header, sealed, sealedLength, over, noRoom, sealFault, sealAnswer, sealedBuffer}
+use Rattle.rules.specs.Calls.{Reply, seal, sealedInto, answerTo}
 use Rattle.rules.proofs.Laws.Lists.{count-few}
 use Rattle.luma_laws.proofs.Counted.{reduced-length}
 use Rattle.luma_laws.proofs.Sizes.{good}
@@ -40,6 +41,9 @@ use Rattle.luma_laws.proofs.Past.{length-repeats}
 use Rattle.counts.specs.declared.Summary.{Summary}
 use Rattle.luma.specs.declared.Summary as of-luma
 use Rattle.sample.specs.Contract.{BitsOf, HeaderOf, Ready}
+
+both : {a b : Answer} {x y : List ℕ} → a ≡ b → x ≡ y → sealedInto a x ≡ sealedInto b y
+both e f = cc
 
 some-packet : (ps : List Packet) → 1 ≤ length (unitsOf ps) → 1 ≤ length ps
 some-packet [] h = absurd (omega (arith, rw units-none at h))
@@ -95,11 +99,11 @@ module _ (capture luma : List ℕ) (o : Opening) (fedCapture fedLuma : List ℕ)
     size-is = rw (r .figures .units, count-is)
 
     pub too-short : (before : List ℕ) (a : Answer) → length before < 64 + 32 * (c .units + n) → a ≡ Refused 15 (64 + 32 * (c .units + n)) →
-        (a ≡ sealAnswer o fedCapture fedLuma (length before)) × (before ≡ sealedBuffer o fedCapture fedLuma before)
+        sealedInto a before ≡ answerTo o fedCapture fedLuma (seal before)
     unfolding sealAnswer sealedBuffer noRoom
     too-short before a h e =
         let f : sealFault o fedCapture fedLuma (length before) ≡ fault 15 (64 + 32 * (c .units + n)) = r .free (length before) ∙ rw (sym size-is, lt-ltb (length before) (64 + 32 * (c .units + n)) h) in
-        (rw f (e), rw f)
+        rw f (ap (λ (x : Answer). sealedInto x before) e)
 
     -- ---- the header
 
@@ -147,14 +151,14 @@ module _ (capture luma : List ℕ) (o : Opening) (fedCapture fedLuma : List ℕ)
 
     pub written-post : (before after : List ℕ) (h : Header) (a : Answer) → HeaderOf o c pictures (l .fresh) n h → RecordWritten capture luma h before after →
         64 + 32 * (c .units + n) ≤ length before → a ≡ Done (64 + 32 * (c .units + n)) →
-        (a ≡ sealAnswer o fedCapture fedLuma (length before)) × (after ≡ sealedBuffer o fedCapture fedLuma before)
+        sealedInto a after ≡ answerTo o fedCapture fedLuma (seal before)
     unfolding sealAnswer sealedBuffer noRoom sealed
     written-post before after h a e w room d =
         let f : sealFault o fedCapture fedLuma (length before) ≡ none = r .free (length before) ∙ rw (sym size-is, le-ltb (length before) (64 + 32 * (c .units + n)) room) in
         let i = header-is h e in
         let w′ : RecordWritten capture luma (header o fedCapture fedLuma) before after = rw i at w in
         let b = record-is before after w′ in
-        (rw f (d ∙ ap Done size-is), rw f b)
+        rw f (both (d ∙ ap Done size-is) b)
 
 -- the index's bits, of counts that were taken below 2^32
 pub bits-from : {a a′ pictures b b′ d d′ r : ℕ} → a ≡ a′ → b ≡ b′ → d ≡ d′ → BitsOf a pictures b d r → BitsOf a′ pictures b′ d′ r

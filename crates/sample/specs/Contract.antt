@@ -1,32 +1,45 @@
--- What `open` and `seal` promise, in terms of the rules and of what the lent arrays stand for. What the feeds promise is each side's own `FeedPost`.
+-- What `open` and the questions promise, in terms of the rules and of what the lent arrays stand for. What the feeds
+-- promise is each side's own `FeedPost`.
 use Prim.Native.Nat.{ℕ, _%_, _^_, _≤_}
 use mathlib.Core.Path.{_≡_}
 use mathlib.Core.List.{List, []}
-use lib.ListN.{length}
 use Rattle.rules.specs.declared.Opening.{Opening}
 use Rattle.rules.specs.declared.Answer.{Answer}
 use Rattle.rules.specs.declared.Header.{Header}
 use Rattle.rules.specs.Opening.{openAnswer}
 use Rattle.rules.specs.Index.{indexOf, indexBits}
-use Rattle.rules.specs.Seal.{sealedLength, noRoom, sealFault, sealAnswer, sealedBuffer}
+use Rattle.rules.specs.Refusals.{fault, InTable}
+use Rattle.rules.specs.Seal.{sealedLength, noRoom, sealFault}
+use Rattle.rules.specs.Calls.{Question, seal, Reply, sealedInto, answerTo, lentTo, lentAfter, refusalIn}
 use Rattle.index.specs.Counts.{Counts}
 use Rattle.counts.specs.declared.Summary.{Summary}
 use Rattle.counts.specs.Summary.{Figures}
 use Rattle.luma.specs.declared.Summary as of-luma
 use Rattle.luma.specs.Contract.{Known}
-use Rattle.sample.specs.State.{State, Means}
+use Rattle.sample.specs.State.{State, Words, wordsOf, Means}
 
 -- the opening, the answer, the state after
 pub record OpenPost (o : Opening) (a : Answer) (after : State) : Type 0 where
   pub answer : a ≡ openAnswer o
   pub means : Means after o [] []
 
--- the words of both sides, the buffer before, the answer, the buffer after; for whatever opening and joined strings the words stand
-pub record SealPost (capture luma : List ℕ) (before : List ℕ) (a : Answer) (after : List ℕ) : Type 0 where
-  pub answer : (st : State) (o : Opening) (fedCapture fedLuma : List ℕ) → st .capture ≡ capture → st .luma ≡ luma →
-      Means st o fedCapture fedLuma → a ≡ sealAnswer o fedCapture fedLuma (length before)
-  pub buffer : (st : State) (o : Opening) (fedCapture fedLuma : List ℕ) → st .capture ≡ capture → st .luma ≡ luma →
-      Means st o fedCapture fedLuma → after ≡ sealedBuffer o fedCapture fedLuma before
+-- a question that is refused left every lent byte as it was, and the refusal's number is one of the table's
+pub record Leaves (q : Question) (r : Reply) : Type 0 where
+  pub kept : (k p : ℕ) → refusalIn r ≡ fault k p → lentAfter r ≡ lentTo q
+  pub listed : (k p : ℕ) → refusalIn r ≡ fault k p → InTable k
+
+-- what every question promises: the words that it looks at, the question, the reply. Words that stand for an opening
+-- and for joined strings get the rule's
+-- reply; `refusals` is promised of any words, somebody else's too
+pub record Asked (w : Words) (q : Question) (r : Reply) : Type 0 where
+  pub rule : (st : State) (o : Opening) (fedCapture fedLuma : List ℕ) → wordsOf st ≡ w → Means st o fedCapture
+      fedLuma →
+      r ≡ answerTo o fedCapture fedLuma q
+  pub refusals : Leaves q r
+
+-- `seal`: the words, the buffer before, the answer, the buffer after
+abbrev pub SealPost : Words → List ℕ → Answer → List ℕ → Type 0
+SealPost w before a after = Asked w (seal before) (sealedInto a after)
 
 -- ---- of the functions within
 
@@ -62,7 +75,8 @@ pub record Ready (capture luma : List ℕ) (o : Opening) (fedCapture fedLuma : L
   pub some : 1 ≤ l .pictures
   pub free : (n : ℕ) → sealFault o fedCapture fedLuma n ≡ noRoom n (sealedLength o fedCapture fedLuma)
 
-abbrev pub WritePost : List ℕ → List ℕ → Opening → Summary → of-luma.Summary → List ℕ → Answer → List ℕ → Type 0
-WritePost capture luma o c l before a after =
-    (fedCapture fedLuma : List ℕ) → Ready capture luma o fedCapture fedLuma c l →
-    (a ≡ sealAnswer o fedCapture fedLuma (length before)) × (after ≡ sealedBuffer o fedCapture fedLuma before)
+pub record WritePost (w : Words) (o : Opening) (c : Summary) (l : of-luma.Summary) (before : List ℕ) (a : Answer)
+    (after : List ℕ) : Type 0 where
+  pub rule : (fedCapture fedLuma : List ℕ) → Ready (w .capture) (w .luma) o fedCapture fedLuma c l →
+      sealedInto a after ≡ answerTo o fedCapture fedLuma (seal before)
+  pub refusals : Leaves (seal before) (sealedInto a after)

@@ -12,6 +12,14 @@ pub record State : Type 0 where
   pub bins : List ℕ
   pub picture : List ℕ
 
+-- what a question looks at: the words of both sides
+pub record Words : Type 0 where
+  pub capture : List ℕ
+  pub luma : List ℕ
+
+abbrev pub wordsOf : State → Words
+wordsOf st = record { capture = st .capture; luma = st .luma }
+
 -- The state stands for the opening o, refused or not, and for the two joined strings. Neither side looks at the other's
 pub record Means (st : State) (o : Opening) (capture luma : List ℕ) : Type 0 where
   pub captured : side-capture.Means (st .capture) o capture

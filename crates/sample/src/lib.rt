@@ -1,6 +1,7 @@
 // A stream sample: opened, fed on two sides, sealed. Its state is memory that the caller lends, in arrays of fixed sizes: the capture side's words, and the luma
 // side's words, block sums, bins and picture. Every call is safe and ends on any contents of them, and expects no checking by its caller.
 ghost use mathlib.Core.Path.{_≡_};
+ghost use Rattle.rules.specs.Refusals.{listed};
 ghost use Rattle.capture.specs.Contract as side-capture;
 ghost use Rattle.luma.specs.Contract as side-luma;
 ghost use Rattle.sample.specs.Contract.{OpenPost, SealPost, BitsOf, HeaderOf, WritePost};
@@ -47,11 +48,24 @@ pub fn feed_luma(
 
 // ---- sealing
 
+// A refusal's number, one of document 01's table. Only a state that somebody else wrote on can hold another.
+pub fn listed_number(number: u64) -> u64
+    ensures { λ r. ⌜ r ≡ listed number ⌝ }
+{
+    if number < 1 {
+        return 18;
+    }
+    if 19 < number {
+        return 18;
+    }
+    number
+}
+
 fn refused(number: u64, place: u64) -> Answer
-    ensures { λ r. ⌜ r ≡ Answer.Refused number place ⌝ }
+    ensures { λ r. ⌜ r ≡ Answer.Refused (listed number) place ⌝ }
 {
     Answer::Refused {
-        number: number,
+        number: listed_number(number),
         place: place,
     }
 }
@@ -105,7 +119,8 @@ fn write(
     c: Summary,
     l: luma::Summary,
 ) -> Answer
-    ensures { λ r. ⌜ WritePost (now (capture .entry)) (now (luma .entry)) o c l (now (buffer .entry)) r (now (buffer .exit)) ⌝ }
+    ensures { λ r. ⌜ WritePost (record { capture = now (capture .entry); luma = now (luma .entry) }) o c l
+        (now (buffer .entry)) r (now (buffer .exit)) ⌝ }
 {
     if 750 < c.units {
         return refused(12, 0);
@@ -126,7 +141,8 @@ fn write(
 
 // Seals what was fed: the record goes into the buffer, and the answer is its length; or the buffer stands as it was, and the answer is the refusal.
 pub fn seal(capture: &[u64; 3840], luma: &[u64; 1600], buffer: &mut [u8]) -> Answer
-    ensures { λ r. ⌜ SealPost (now (capture .entry)) (now (luma .entry)) (now (buffer .entry)) r (now (buffer .exit)) ⌝ }
+    ensures { λ r. ⌜ SealPost (record { capture = now (capture .entry); luma = now (luma .entry) })
+        (now (buffer .entry)) r (now (buffer .exit)) ⌝ }
 {
     let c = counts::sum_up(capture);
     let l = luma::summarise(luma);

@@ -1,26 +1,26 @@
 // A view of one record: its bytes with its counts, made by opening it. Its functions are thin: each hands the slice and the numbers to a function over those.
 ghost use mathlib.Core.Path.{_≡_};
-ghost use mathlib.Core.Bool.{true};
 ghost use Rattle.rules.specs.Reading.{headerAnswer, unitAnswer, sceneAnswer};
-ghost use Rattle.view.specs.Seen.{unitsOf, scenesOf, Fit, HeaderSeen, UnitSeen, SceneSeen, ViewOf};
+ghost use Rattle.view.specs.Seen.{unitsOf, scenesOf, fits, HeaderSeen, UnitSeen, SceneSeen, ViewOf};
 use record::Opened;
 use rules::HeaderAnswer;
 use rules::SceneAnswer;
 use rules::UnitAnswer;
 
+// Its fields are its own: nobody else makes one.
 pub struct View<'a> {
-    pub bytes: &'a [u8],
-    pub units: usize,
-    pub scenes: usize,
+    bytes: &'a [u8],
+    units: usize,
+    scenes: usize,
 }
 
 // A record's counts of units and scenes: 0 and 0 where it is refused.
-pub struct Counts {
-    pub units: usize,
-    pub scenes: usize,
+struct Counts {
+    units: usize,
+    scenes: usize,
 }
 
-pub fn counts_in(bytes: &[u8]) -> Counts
+fn counts_in(bytes: &[u8]) -> Counts
     ensures { λ r. ⌜ (r .units ≡ unitsOf (now (bytes .entry))) × (r .scenes ≡ scenesOf (now (bytes .entry))) ⌝ }
 {
     match record::open(bytes) {
@@ -38,9 +38,11 @@ pub fn counts_in(bytes: &[u8]) -> Counts
     }
 }
 
-// Whether the bytes say so many units and hold the rows of so many units and scenes. An accepted record passes with its own counts; 0 and 0 never pass.
+// Whether the bytes say so many units and have room for the rows of so many units and scenes. An accepted record
+// passes with its own counts; 0 and 0 never pass
+// (proofs/Counted).
 fn fit(bytes: &[u8], units: usize, scenes: usize) -> bool
-    ensures { λ r. ⌜ (r ≡ true → Fit (now (bytes .entry)) units scenes) ⌝ }
+    ensures { λ r. ⌜ r ≡ fits (now (bytes .entry)) units scenes ⌝ }
 {
     if units < 1 {
         return false;
@@ -58,7 +60,7 @@ fn fit(bytes: &[u8], units: usize, scenes: usize) -> bool
 }
 
 // The header's figures, or the refusal. Where the counts do not fit, as a refused record's do not, the whole record is read.
-pub fn header_at(bytes: &[u8], units: usize, scenes: usize) -> HeaderAnswer
+fn header_at(bytes: &[u8], units: usize, scenes: usize) -> HeaderAnswer
     ensures { λ r. ⌜ HeaderSeen (now (bytes .entry)) units scenes r ⌝ }
 {
     if !fit(bytes, units, scenes) {
@@ -68,7 +70,7 @@ pub fn header_at(bytes: &[u8], units: usize, scenes: usize) -> HeaderAnswer
 }
 
 // Unit row j, or the refusal.
-pub fn unit_at(bytes: &[u8], units: usize, scenes: usize, j: usize) -> UnitAnswer
+fn unit_at(bytes: &[u8], units: usize, scenes: usize, j: usize) -> UnitAnswer
     ensures { λ r. ⌜ UnitSeen (now (bytes .entry)) units scenes j r ⌝ }
 {
     if !fit(bytes, units, scenes) {
@@ -84,7 +86,7 @@ pub fn unit_at(bytes: &[u8], units: usize, scenes: usize, j: usize) -> UnitAnswe
 }
 
 // Scene row j, or the refusal.
-pub fn scene_at(bytes: &[u8], units: usize, scenes: usize, j: usize) -> SceneAnswer
+fn scene_at(bytes: &[u8], units: usize, scenes: usize, j: usize) -> SceneAnswer
     ensures { λ r. ⌜ SceneSeen (now (bytes .entry)) units scenes j r ⌝ }
 {
     if !fit(bytes, units, scenes) {

@@ -4,14 +4,8 @@ use borrow.Author.Needs.{needs}
 use Rattle.carolsedge.proofs.carolsedge_read_scene.Statement.{statement}
 use Rattle.carolsedge.proofs.carolsedge_read_scene.Tie as tie
 
-element-copy-out-units : tie.Need-element-copy-out-units
-element-copy-out-units c = search needs
-
-element-copy-out-scenes : tie.Need-element-copy-out-scenes
-element-copy-out-scenes c = search needs
-
-scene-at-requires : tie.Need-scene-at-requires
-scene-at-requires c κs = search needs
+read-scene-requires : tie.Need-read-scene-requires
+read-scene-requires c κs = search needs
 
 enum-known-s : tie.Need-enum-known-s
 enum-known-s c = search needs
@@ -28,24 +22,19 @@ listed-number-requires c κs = search needs
 returns : tie.Need-returns
 returns c =
     let known = c .before .before .before in
-    let asked = known .before .before in
-    let start = asked .before .before .before .before in
-    scene-done _ (start .args .figures .now) (start .args .j) _ _ (asked .scene-at .ensures) _ _ (known .s .given .1) (c .put-scene .ensures)
+    scene-done _ _ _ _ (known .before .before .read-scene .ensures) _ _ (known .s .given .1) (c .put-scene .ensures)
 
 returns-2 : tie.Need-returns-2
 returns-2 c =
     let known = c .before .before in
-    let asked = known .before .before in
-    let start = asked .before .before .before .before in
-    scene-refused _ (start .args .figures .now) (start .args .j) _ _ (asked .scene-at .ensures) _ _ _ (known .number .given .1) (c .listed-number .ensures)
+    scene-refused _ _ _ _ (known .before .before .read-scene .ensures) _ _ _ (known .number .given .1)
+    (c .listed-number .ensures)
 
 pub carolsedge-read-scene-spec : {M : Type 1} → statement M
 carolsedge-read-scene-spec =
     tie.close
     (tie.spec
-    element-copy-out-units
-    element-copy-out-scenes
-    scene-at-requires
+    read-scene-requires
     enum-known-s
     put-scene-requires
     enum-known-number

@@ -1,20 +1,18 @@
--- `listed_number` meets its contract, by its two tests. Assumes nothing.
-use Rattle.carolsedge.proofs.Answers.{in-table, below-table, above-table}
+-- `listed_number` meets its contract: a number of the table fits 32 bits. Assumes nothing.
+use native.Mathlib.Omega.{arith}
+use Rattle.rules.proofs.Laws.Listed.{listed-in}
 use borrow.Author.Needs.{needs}
 use Rattle.carolsedge.proofs.listed_number.Statement.{statement}
 use Rattle.carolsedge.proofs.listed_number.Tie as tie
 
-returns : tie.Need-returns
-returns c = below-table (c .before .args .number) (c .if1 .taken)
-
-returns-2 : tie.Need-returns-2
-returns-2 c = above-table (c .before .before .args .number) (c .if2 .taken)
+listed-number-requires : tie.Need-listed-number-requires
+listed-number-requires c κs = search needs
 
 cast-result : tie.Need-cast-result
-cast-result c = search needs
+cast-result c = omega (arith, c .listed-number .ensures, listed-in (c .before .args .number))
 
-returns-3 : tie.Need-returns-3
-returns-3 c = in-table (c .before .before .args .number) (c .before .if1 .left) (c .if2 .left)
+returns : tie.Need-returns
+returns c = search needs
 
 pub listed-number-spec : {M : Type 1} → statement M
-listed-number-spec = tie.close (tie.spec returns returns-2 cast-result returns-3)
+listed-number-spec = tie.close (tie.spec listed-number-requires cast-result returns)

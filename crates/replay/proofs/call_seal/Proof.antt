@@ -47,7 +47,6 @@ returns c =
     let kept : length (putMid 17 (length out - 17) out filled) ≡ length out = same-len-mid 17 (length out - 17) out filled (c .before .before .before .before .before .before .before .before .before .before .fill .kept .0) in
     sealed-law
     _
-    _
     out
     filled
     _

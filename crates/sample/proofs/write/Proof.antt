@@ -4,6 +4,7 @@ use mathlib.Core.Path.{refl, ap}
 use Rattle.rules.specs.declared.Header.{Header}
 use Rattle.rules.specs.Record.{recordLength}
 use Rattle.sample.proofs.Writing.{few-units, few-pictures, too-short, written-post}
+use Rattle.sample.proofs.Sealing.{refused-leaves, done-leaves}
 use borrow.Author.Needs.{needs}
 use Rattle.sample.proofs.write.Statement.{statement}
 use Rattle.sample.proofs.write.Tie as tie
@@ -12,13 +13,21 @@ refused-requires : tie.Need-refused-requires
 refused-requires c κs = search needs
 
 returns : tie.Need-returns
-returns c = λ fc fl r. absurd (omega (arith, few-units _ _ _ _ _ _ _ r, c .before .if1 .taken))
+returns c =
+    record {
+      rule = λ fc fl r. absurd (omega (arith, few-units _ _ _ _ _ _ _ r, c .before .if1 .taken));
+      refusals = refused-leaves _ _ 12 _ (c .refused .ensures);
+    }
 
 refused-requires-2 : tie.Need-refused-requires-2
 refused-requires-2 c κs = search needs
 
 returns-2 : tie.Need-returns-2
-returns-2 c = λ fc fl r. absurd (omega (arith, few-pictures _ _ _ _ _ _ _ r, c .before .if2 .taken))
+returns-2 c =
+    record {
+      rule = λ fc fl r. absurd (omega (arith, few-pictures _ _ _ _ _ _ _ r, c .before .if2 .taken));
+      refusals = refused-leaves _ _ 14 _ (c .refused2 .ensures);
+    }
 
 cast-count : tie.Need-cast-count
 cast-count c = search needs
@@ -42,7 +51,13 @@ refused-requires-3 : tie.Need-refused-requires-3
 refused-requires-3 c κs = search needs
 
 returns-3 : tie.Need-returns-3
-returns-3 c = λ fc fl r. too-short _ _ _ fc fl _ _ r (c .before .before .before .count .result) (c .before .before .before .count .ensures) _ _ (c .before .if3 .taken) (c .refused3 .ensures)
+returns-3 c =
+    record {
+      rule =
+          λ fc fl r. too-short _ _ _ fc fl _ _ r (c .before .before .before .count .result)
+          (c .before .before .before .count .ensures) _ _ (c .before .if3 .taken) (c .refused3 .ensures);
+      refusals = refused-leaves _ _ 15 _ (c .refused3 .ensures);
+    }
 
 cast-header-of : tie.Need-cast-header-of
 cast-header-of c = search needs
@@ -65,8 +80,16 @@ same-length : tie.Need-same-length
 same-length c = search needs
 
 returns-4 : tie.Need-returns-4
-returns-4 c = λ fc fl r.
-    written-post _ _ _ fc fl _ _ r (c .before .before .before .before .before .before .before .count .result) (c .before .before .before .before .before .before .before .count .ensures) _ _ (c .before .before .before .before .header-of .result) _ (c .before .before .before .before .header-of .ensures) (c .before .before .write-record .ensures) (c .before .before .before .before .before .if3 .left) refl
+returns-4 c =
+    record {
+      rule = λ fc fl r.
+          written-post _ _ _ fc fl _ _ r (c .before .before .before .before .before .before .before .count .result)
+          (c .before .before .before .before .before .before .before .count .ensures) _ _
+          (c .before .before .before .before .header-of .result) _
+          (c .before .before .before .before .header-of .ensures) (c .before .before .write-record .ensures)
+          (c .before .before .before .before .before .if3 .left) refl;
+      refusals = done-leaves _ _ _ _ refl;
+    }
 
 pub write-spec : {M : Type 1} → statement M
 write-spec =

@@ -1,18 +1,17 @@
+-- `fit` meets its contract, test by test. Assumes nothing.
 use borrow.Author.Needs.{needs}
-use mathlib.Core.Path.{sym, _∙_}
-use borrow.Author.Tests.{eqb-true}
-use Rattle.view.proofs.Counted.{never}
+use Rattle.view.proofs.Counted.{no-unit, many-units, many-scenes, too-short, so-long}
 use Rattle.view.proofs.fit.Statement.{statement}
 use Rattle.view.proofs.fit.Tie as tie
 
 returns : tie.Need-returns
-returns c = λ e. never e
+returns c = no-unit _ _ _ (c .if1 .taken)
 
 returns-2 : tie.Need-returns-2
-returns-2 c = λ e. never e
+returns-2 c = many-units _ _ _ (c .before .if1 .left) (c .if2 .taken)
 
 returns-3 : tie.Need-returns-3
-returns-3 c = λ e. never e
+returns-3 c = many-scenes _ _ _ (c .before .before .if1 .left) (c .before .if2 .left) (c .if3 .taken)
 
 add-if4 : tie.Need-add-if4
 add-if4 c = search needs
@@ -24,7 +23,9 @@ add-if4-2 : tie.Need-add-if4-2
 add-if4-2 c = search needs
 
 returns-4 : tie.Need-returns-4
-returns-4 c = λ e. never e
+returns-4 c =
+    too-short _ _ _ (c .before .before .before .if1 .left) (c .before .before .if2 .left) (c .before .if3 .left)
+    (c .if4 .taken)
 
 word32-requires : tie.Need-word32-requires
 word32-requires c κs = search needs
@@ -34,12 +35,8 @@ cast-result c = search needs
 
 returns-5 : tie.Need-returns-5
 returns-5 c =
-    let c₄ = c .before .before .before .before in
-    λ e. record {
-      some = c₄ .if1 .left;
-      said = sym (eqb-true _ _ e) ∙ c .word32 .ensures;
-      long = c .before .if4 .left;
-    }
+    so-long _ _ _ (c .before .before .before .before .if1 .left) (c .before .before .before .if2 .left)
+    (c .before .before .if3 .left) (c .before .if4 .left) _ (c .word32 .ensures)
 
 pub fit-spec : {M : Type 1} → statement M
 fit-spec =

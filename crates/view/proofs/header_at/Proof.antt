@@ -1,8 +1,9 @@
+-- `header_at` meets its contract: counts that fit are taken, and with others the record is read. Assumes nothing.
 use borrow.Author.Needs.{needs}
-use borrow.Author.Tests.{not-false}
+use borrow.Author.Tests.{not-true, not-false}
+use mathlib.Core.Path.{sym, ap, _∙_}
 use native.Mathlib.Omega.{arith}
-use Rattle.record.proofs.Answers.{header-given}
-use Rattle.view.proofs.Counted.{counts-accepted}
+use Rattle.view.proofs.Counted.{fit-shows, header-read, header-there}
 use Rattle.view.proofs.header_at.Statement.{statement}
 use Rattle.view.proofs.header_at.Tie as tie
 
@@ -13,17 +14,17 @@ header-requires : tie.Need-header-requires
 header-requires c κs = search needs
 
 returns : tie.Need-returns
-returns c = search needs
+returns c =
+    header-read _ _ _ _ (sym (c .before .before .fit .ensures) ∙ not-true _ (c .before .if1 .taken))
+    (c .header .ensures)
 
 header-figures-requires : tie.Need-header-figures-requires
-header-figures-requires c κs = omega (arith, c .before .fit .ensures (not-false _ (c .if1 .left)) .long)
+header-figures-requires c κs =
+    omega (arith, fit-shows _ _ _ (sym (c .before .fit .ensures) ∙ not-false _ (c .if1 .left)) .long)
 
 returns-2 : tie.Need-returns-2
 returns-2 c =
-    let c₂ = c .before .before in
-    let c₄ = c₂ .before .before in
-    λ d e. header-given (c₄ .args .bytes .now) _
-    (counts-accepted (c₄ .args .bytes .now) (c₄ .args .units) (c₄ .args .scenes) d e (c₂ .fit .ensures (not-false _ (c .before .if1 .left)) .some) .fault)
+    header-there _ _ _ _ (sym (c .before .before .fit .ensures) ∙ not-false _ (c .before .if1 .left))
     (c .header-figures .ensures)
 
 pub header-at-spec : {M : Type 1} → statement M
