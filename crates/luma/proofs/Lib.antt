@@ -1,4 +1,3 @@
 pub mod Pieces
 pub mod Posts
-pub mod Opens
 pub mod Seals

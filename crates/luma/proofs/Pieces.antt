@@ -10,14 +10,14 @@ use Rattle.rules.specs.declared.Opening.{Opening}
 use Rattle.rules.specs.Pictures.{pictureSize, lumaFault}
 use Rattle.rules.specs.Bytes.{Bytes}
 use Rattle.luma_laws.proofs.Pictures.{bytes-append, bytes-take}
-use Rattle.luma_rows.specs.declared.Grid.{Grid}
-use Rattle.luma_rows.specs.declared.Progress.{Progress}
+use Rattle.luma_state.specs.declared.Grid.{Grid}
+use Rattle.luma_state.specs.declared.Progress.{Progress}
 use Rattle.luma_rows.specs.declared.Taken.{Taken}
-use Rattle.luma_rows.specs.State.{passing, Live, Sane, refused, live}
-use Rattle.luma_rows.specs.Contract.{Fits, passedOn, Goes, Took, Taking}
+use Rattle.luma_state.specs.State.{passing, Live, Sane, refused, live, Fits, Goes}
+use Rattle.luma_rows.specs.Contract.{Took, Taking}
 use Rattle.luma_rows.proofs.Rows.{at-passing, bytes-of}
 use Rattle.luma_picture.specs.Contract.{PictureEnded}
-use Rattle.luma.specs.Contract.{Finishing, Finished, Passed, Stepped, Ran, stoppedAt}
+use Rattle.luma.specs.Contract.{Finishing, Finished, Passed, Stepped, Ran, passedOn, stoppedAt}
 
 -- ---- bytes of the surplus rows
 

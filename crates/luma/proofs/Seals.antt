@@ -21,15 +21,15 @@ use Rattle.luma_laws.proofs.Sizes.{good, sizes}
 use Rattle.rules.proofs.Laws.Lists.{count-few}
 use Rattle.luma_laws.proofs.Past.{count-whole, reduced-whole, length-repeats}
 use Rattle.luma_cuts.specs.Counts.{tilesAt}
-use Rattle.luma_rows.specs.declared.Grid.{Grid}
-use Rattle.luma_rows.specs.declared.Progress.{Progress}
-use Rattle.luma_rows.specs.State.{loaded, slot, Place, drawing, passing, Stands, refused, live}
-use Rattle.luma_rows.specs.Contract.{Fits}
+use Rattle.luma_state.specs.declared.Grid.{Grid}
+use Rattle.luma_state.specs.declared.Progress.{Progress}
+use Rattle.luma_state.specs.State.{loaded, slot, Place, drawing, passing, Stands, refused, live, Fits}
 use Rattle.luma.specs.declared.Summary.{Summary}
 use Rattle.luma.specs.Contract.{insideOf, Known, SummaryPost}
 use Rattle.luma_picture.proofs.Notes.{each-px, tiles-are}
 use Rattle.luma_picture.proofs.Ends.{bytes-left}
-use Rattle.luma.proofs.Posts.{fits-of, short, not-past, no-fault, Alive, alive}
+use Rattle.luma_state.proofs.Kept.{fits-of}
+use Rattle.luma.proofs.Posts.{short, not-past, no-fault, Alive, alive}
 
 -- ---- inside a picture or not
 

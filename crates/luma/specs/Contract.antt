@@ -1,9 +1,9 @@
--- What each function of the luma side promises. What the arrays stand for is `Means`, in the crate `luma_rows`.
-use Prim.Native.Nat.{ℕ, _+_, _*_, _≤_, _<_}
+-- What each function of the luma side promises. What the arrays stand for is `Means`, in the crate `luma_state`.
+use Prim.Native.Nat.{ℕ, _+_, _-_, _*_, _%_, _^_, _≤_, _<_}
 use mathlib.Core.Path.{_≡_}
 use mathlib.Core.List.{List, [], _++_}
 use mathlib.Core.Bool.{Bool, true, false}
-use lib.ListN.{length, getD, take}
+use lib.ListN.{length, take}
 use lib.Dec.{eqb}
 use Rattle.rules.specs.declared.Opening.{Opening}
 use Rattle.rules.specs.declared.Answer.{Answer}
@@ -12,12 +12,13 @@ use Rattle.rules.specs.Opening.{openingFault, openAnswer}
 use Rattle.rules.specs.Refusals.{none, fault, _orElse_}
 use Rattle.rules.specs.Pictures.{pictureCount, lumaFault}
 use Rattle.rules.specs.Seal.{reduced, unrepeated, lumaUnfinished, lumaAnswer}
-use Rattle.luma_rows.specs.declared.Grid.{Grid}
-use Rattle.luma_rows.specs.declared.Progress.{Progress}
+use Rattle.luma_state.specs.declared.Grid.{Grid}
+use Rattle.luma_state.specs.declared.Progress.{Progress}
 use Rattle.luma_rows.specs.declared.Taken.{Taken}
 use Rattle.luma.specs.declared.Summary.{Summary}
-use Rattle.luma_rows.specs.State.{loaded, openingIn, gridOf, Words, Live, Sane, Stands, Means}
-use Rattle.luma_rows.specs.Contract.{Fits, Goes, Loose, Took}
+use Rattle.luma_state.specs.State.{gridOf, Words, Live, Sane, Stands, Means, movesIn, Holding, Fits, Goes}
+use Rattle.luma_rows.specs.Contract.{Loose, Took}
+use Rattle.luma_state.specs.Steps.{placedAt, countedAs}
 
 -- ---- the calls
 
@@ -76,12 +77,6 @@ pub record Stepped (g : Grid) (s : Progress) (luma sums bins picture rest : List
   pub sane : Sane g (r .state)
   pub goes : Goes g s luma sums bins picture (take (r .used) rest) (r .state) luma′ sums′ bins′ picture′
 
--- the arrays, but for the scalars in the words, which are s
-pub record Holding (o : Opening) (s : Progress) (luma sums bins picture joined : List ℕ) : Type 0 where
-  pub size : length luma ≡ 1600
-  pub opening : openingIn luma ≡ o
-  pub stands : Stands o s luma sums bins picture joined
-
 -- a whole piece
 abbrev pub Ran : Grid → Progress → List ℕ → List ℕ → List ℕ → List ℕ → List ℕ → Progress → List ℕ → List ℕ → List ℕ → List ℕ → Type 0
 Ran g s luma sums bins picture piece r luma′ sums′ bins′ picture′ =
@@ -92,31 +87,10 @@ Ran g s luma sums bins picture piece r luma′ sums′ bins′ picture′ =
 abbrev pub Replied : Progress → ℕ → Answer → Type 0
 Replied s n a = (o : Opening) (luma sums bins picture joined : List ℕ) → Stands o s luma sums bins picture joined → a ≡ lumaAnswer o joined n
 
+-- `used` bytes of the surplus rows more
+abbrev pub passedOn : Progress → ℕ → Progress
+passedOn s used = placedAt s ((s .fed + used) % 2 ^ 64) (s .line) (s .row) (s .col) (s .left - used) (movesIn s)
+
 -- a refusal 10
 abbrev pub stoppedAt : Grid → Progress → Progress
-stoppedAt g s =
-    record {
-      status = 10;
-      place = 750 * g .bytes;
-      fed = s .fed;
-      pictures = s .pictures;
-      fresh = s .fresh;
-      line = s .line;
-      row = s .row;
-      col = s .col;
-      left = s .left;
-      ups = s .ups;
-      downs = s .downs;
-      squares = s .squares;
-    }
-
--- ---- the scalars in the words
-
-pub record Stored (before : List ℕ) (s : Progress) (after : List ℕ) : Type 0 where
-  pub size : length after ≡ length before
-  pub loads : length before ≡ 1600 → loaded after ≡ s
-  pub kept : (i : ℕ) → 12 ≤ i → getD after i 0 ≡ getD before i 0
-
-pub record Placed (g : Grid) (s : Progress) (r : Bool) : Type 0 where
-  pub sound : r ≡ true → Sane g s
-  pub whole : Sane g s → r ≡ true
+stoppedAt g s = countedAs s 10 (750 * g .bytes) (s .pictures) (s .fresh)

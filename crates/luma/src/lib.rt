@@ -3,17 +3,20 @@ ghost use mathlib.Core.Path.{_≡_};
 ghost use Rattle.luma.specs.Contract.{Replied, insideOf, OpenPost, FeedPost, SummaryPost};
 
 mod steps;
-mod stored;
 
 use crate::steps::run;
-use crate::stored::grid_of;
-use crate::stored::load;
-use crate::stored::placed;
-use crate::stored::store;
-use luma_rows::Progress;
+use luma_blocks::Picture;
+use luma_blocks::Sums;
+use luma_state::Progress;
+use luma_state::Words;
+use luma_state::grid_of;
+use luma_state::load;
+pub use luma_state::opening_in;
+use luma_state::placed;
+use luma_state::store;
+use luma_tiles::Bins;
 use rules::Answer;
 use rules::Opening;
-pub use stored::opening_in;
 
 // What a seal needs: the refusal that stands, bytes fed, whether they end inside a picture, whole pictures, and those of them that are not repeated.
 pub struct Summary {
@@ -39,24 +42,16 @@ fn reply(s: Progress, n: u64) -> Answer
 
 // Opens the state.
 pub fn open(
-    luma: &mut [u64; 1600],
-    sums: &mut [u32; 240],
-    bins: &mut [u32; 720],
-    picture: &mut [u8; 14104],
+    luma: &mut Words,
+    sums: &mut Sums,
+    bins: &mut Bins,
+    picture: &mut Picture,
     o: Opening,
 ) -> Answer
     ensures { λ r. ⌜ OpenPost o r (now (luma .exit)) (now (sums .exit)) (now (bins .exit)) (now (picture .exit)) ⌝ }
 {
-    *luma = [0u64; 1600];
-    *sums = [0u32; 240];
-    *bins = [0u32; 720];
-    *picture = [0u8; 14104];
     let f = figures::opening_fault(o);
-    luma[0] = f;
-    luma[12] = o.width as u64;
-    luma[13] = o.height as u64;
-    luma[14] = o.time as u64;
-    luma[15] = o.pid as u64;
+    luma_state::begin(luma, sums, bins, picture, o, f);
     if f != 0 {
         return Answer::Refused {
             number: f,
@@ -68,10 +63,10 @@ pub fn open(
 
 // Feeds a piece.
 pub fn feed(
-    luma: &mut [u64; 1600],
-    sums: &mut [u32; 240],
-    bins: &mut [u32; 720],
-    picture: &mut [u8; 14104],
+    luma: &mut Words,
+    sums: &mut Sums,
+    bins: &mut Bins,
+    picture: &mut Picture,
     piece: &[u8],
 ) -> Answer
     ensures { λ r. ⌜ FeedPost (now (luma .entry)) (now (sums .entry)) (now (bins .entry)) (now (picture .entry)) (now (piece .entry)) r (now (luma .exit)) (now (sums .exit)) (now (bins .exit)) (now (picture .exit)) ⌝ }
@@ -114,7 +109,7 @@ fn inside_of(s: Progress) -> bool
     true
 }
 
-pub fn summarise(luma: &[u64; 1600]) -> Summary
+pub fn summarise(luma: &Words) -> Summary
     ensures { λ r. ⌜ SummaryPost (now (luma .entry)) r ⌝ }
 {
     let s = load(luma);

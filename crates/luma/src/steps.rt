@@ -1,33 +1,26 @@
 // Steps through a piece: the bytes of a row, of the surplus rows, a picture's end.
 ghost use mathlib.Core.Path.{_≡_};
 ghost use Prim.Native.Nat.{_≤_};
-ghost use Rattle.luma_rows.specs.State.{Sane};
-ghost use Rattle.luma_rows.specs.Contract.{Fits, passedOn, Taking};
-ghost use Rattle.luma.specs.Contract.{Finishing, Finished, Passed, Stepped, Ran, stoppedAt};
-use luma_rows::Grid;
-use luma_rows::Progress;
+ghost use Rattle.luma_state.specs.State.{Fits, Sane};
+ghost use Rattle.luma_rows.specs.Contract.{Taking};
+ghost use Rattle.luma.specs.Contract.{passedOn, Finishing, Finished, Passed, Stepped, Ran, stoppedAt};
+use luma_blocks::Picture;
+use luma_blocks::Sums;
 use luma_rows::Taken;
+use luma_state::Grid;
+use luma_state::Progress;
+use luma_state::Words;
+use luma_state::layout;
+use luma_tiles::Bins;
 
 // t bytes of the surplus rows.
 fn skip(s: Progress, t: usize) -> Taken
     requires { ⌜ t ≤ s .left ⌝ }
     ensures { λ r. ⌜ (r .used ≡ t) × (r .state ≡ passedOn s t) ⌝ }
 {
-    let fed = std::num::wrapping_add_u64(s.fed, t as u64);
-    let p = Progress {
-        status: s.status,
-        place: s.place,
-        fed: fed,
-        pictures: s.pictures,
-        fresh: s.fresh,
-        line: s.line,
-        row: s.row,
-        col: s.col,
-        left: s.left - t,
-        ups: s.ups,
-        downs: s.downs,
-        squares: s.squares,
-    };
+    let mut p = s;
+    p.fed = std::num::wrapping_add_u64(s.fed, t as u64);
+    p.left = s.left - t;
     Taken { used: t, state: p }
 }
 
@@ -44,7 +37,7 @@ fn pass(g: Grid, s: Progress, rest: &[u8]) -> Taken
 }
 
 // The picture's end, where it is reached.
-fn finish(luma: &mut [u64; 1600], bins: &mut [u32; 720], g: Grid, t: Taken) -> Taken
+fn finish(luma: &mut Words, bins: &mut Bins, g: Grid, t: Taken) -> Taken
     requires { ⌜ Finishing g t ⌝ }
     ensures { λ r. ⌜ Finished g t (now (luma .entry)) (now (bins .entry)) r (now (luma .exit)) (now (bins .exit)) ⌝ }
 {
@@ -65,10 +58,10 @@ fn finish(luma: &mut [u64; 1600], bins: &mut [u32; 720], g: Grid, t: Taken) -> T
 
 // Some bytes of a piece, at least one.
 fn step(
-    luma: &mut [u64; 1600],
-    sums: &mut [u32; 240],
-    bins: &mut [u32; 720],
-    picture: &mut [u8; 14104],
+    luma: &mut Words,
+    sums: &mut Sums,
+    bins: &mut Bins,
+    picture: &mut Picture,
     g: Grid,
     s: Progress,
     rest: &[u8],
@@ -89,29 +82,18 @@ fn stopped(g: Grid, s: Progress) -> Progress
     requires { ⌜ Fits g ⌝ }
     ensures { λ r. ⌜ r ≡ stoppedAt g s ⌝ }
 {
-    let place = 750 * (g.bytes as u64);
-    Progress {
-        status: 10,
-        place: place,
-        fed: s.fed,
-        pictures: s.pictures,
-        fresh: s.fresh,
-        line: s.line,
-        row: s.row,
-        col: s.col,
-        left: s.left,
-        ups: s.ups,
-        downs: s.downs,
-        squares: s.squares,
-    }
+    let mut r = s;
+    r.status = 10;
+    r.place = (layout::PICTURES as u64) * (g.bytes as u64);
+    r
 }
 
 // A whole piece.
 pub fn run(
-    luma: &mut [u64; 1600],
-    sums: &mut [u32; 240],
-    bins: &mut [u32; 720],
-    picture: &mut [u8; 14104],
+    luma: &mut Words,
+    sums: &mut Sums,
+    bins: &mut Bins,
+    picture: &mut Picture,
     g: Grid,
     start: Progress,
     piece: &[u8],
@@ -122,7 +104,7 @@ pub fn run(
     let mut s = start;
     let mut at: usize = 0;
     while at < piece.len() {
-        if s.pictures == 750 {
+        if s.pictures == layout::PICTURES {
             return stopped(g, s);
         }
         let t = step(luma, sums, bins, picture, g, s, &piece[at..]);

@@ -7,6 +7,16 @@ ghost use Rattle.luma_blocks.specs.Sums.{run, Added, Laid, Edged, Least,
 ghost use Rattle.luma_blocks.specs.Rows.{Ready, Advanced, FedRows};
 ghost use Rattle.luma_blocks.specs.Pixels.{Finishing, RowDone};
 
+// Block columns that the sums have room for, and pixels that a picture has room for: 239 and 14,101 at most.
+pub const COLUMNS: usize = 240;
+
+pub const PIXELS: usize = 14104;
+
+// The sums of a block row, and a picture's pixels.
+pub type Sums = [u32; COLUMNS];
+
+pub type Picture = [u8; PIXELS];
+
 // A place in a block row, from its first row on, and how many bytes of a piece were taken to get there.
 pub struct Spot {
     pub row: usize,
@@ -43,7 +53,7 @@ fn least(a: usize, b: usize) -> usize
 }
 
 // Adds t bytes of s from `at` on to the sum of block column c, where that is one of the first w.
-fn part(sums: &mut [u32; 240], w: usize, c: usize, s: &[u8], at: usize, t: usize)
+fn part(sums: &mut Sums, w: usize, c: usize, s: &[u8], at: usize, t: usize)
     requires { ⌜ (w ≤ 240) × (at + t ≤ length (now s)) × (c < w → t ≤ 65536) ⌝ }
     ensures { λ _. ⌜ Part w c (now (s .entry)) at t (now (sums .entry)) (now (sums .exit)) ⌝ }
 {
@@ -54,7 +64,7 @@ fn part(sums: &mut [u32; 240], w: usize, c: usize, s: &[u8], at: usize, t: usize
 }
 
 // Adds k whole blocks of n bytes, of s from `at` on, to the sums from block column c on.
-fn whole(sums: &mut [u32; 240], c: usize, k: usize, s: &[u8], at: usize, n: usize)
+fn whole(sums: &mut Sums, c: usize, k: usize, s: &[u8], at: usize, n: usize)
     requires { ⌜ Lined n c k (now s) at ⌝ }
     ensures { λ _. ⌜ Blocks n c k (now (s .entry)) at (now (sums .entry)) (now (sums .exit)) ⌝ }
 {
@@ -69,7 +79,7 @@ fn whole(sums: &mut [u32; 240], c: usize, k: usize, s: &[u8], at: usize, n: usiz
 }
 
 // The same. Each call has a constant width, so that the compiler makes a loop of its own for it, with wide sums of bytes.
-fn blocks(sums: &mut [u32; 240], c: usize, k: usize, s: &[u8], at: usize, n: usize)
+fn blocks(sums: &mut Sums, c: usize, k: usize, s: &[u8], at: usize, n: usize)
     requires { ⌜ Lined n c k (now s) at ⌝ }
     ensures { λ _. ⌜ Blocks n c k (now (s .entry)) at (now (sums .entry)) (now (sums .exit)) ⌝ }
 {
@@ -99,7 +109,7 @@ fn fitting(n: usize, room: usize, m: usize) -> usize
 }
 
 // Adds m bytes of a row, which stand in s from `at` on and in the row from block column c on: whole blocks, then what is left.
-fn add_blocks(sums: &mut [u32; 240], n: usize, w: usize, c: usize, s: &[u8], at: usize, m: usize)
+fn add_blocks(sums: &mut Sums, n: usize, w: usize, c: usize, s: &[u8], at: usize, m: usize)
     requires { ⌜ Edged n w (now s) at m ⌝ }
     ensures { λ _. ⌜ Added n w (c * n) (run (now (s .entry)) at m) (now (sums .entry)) (now (sums .exit)) ⌝ }
 {
@@ -114,7 +124,7 @@ fn add_blocks(sums: &mut [u32; 240], n: usize, w: usize, c: usize, s: &[u8], at:
 
 // Adds m bytes of a row, which stand in s from `at` on and in the row from column x on, to the sums of their block columns, of n columns each.
 // Columns past the first w blocks are dropped. A run that begins inside a block is taken up to the block's edge first.
-fn add_run(sums: &mut [u32; 240], n: usize, w: usize, x: usize, s: &[u8], at: usize, m: usize)
+fn add_run(sums: &mut Sums, n: usize, w: usize, x: usize, s: &[u8], at: usize, m: usize)
     requires { ⌜ Laid n w x (now s) at m ⌝ }
     ensures { λ _. ⌜ Added n w x (run (now (s .entry)) at m) (now (sums .entry)) (now (sums .exit)) ⌝ }
 {
@@ -155,7 +165,7 @@ fn advance(width: usize, p: Spot, t: usize) -> Spot
 
 // Takes in a piece from a place of a block row on, up to the end of the piece or of the block row.
 pub fn feed_rows(
-    sums: &mut [u32; 240],
+    sums: &mut Sums,
     n: usize,
     w: usize,
     width: usize,
@@ -191,7 +201,7 @@ fn pixel_of(sum: u32, area: u32) -> u8
 }
 
 // At the end of block row b: its pixels, of the sums, which are cleared for the next.
-pub fn finish_row(pixels: &mut [u8; 14104], sums: &mut [u32; 240], n: usize, w: usize, b: usize)
+pub fn finish_row(pixels: &mut Picture, sums: &mut Sums, n: usize, w: usize, b: usize)
     requires { ⌜ Finishing n w b ⌝ }
     ensures { λ _. ⌜ RowDone n w b (now (pixels .entry)) (now (sums .entry)) (now (pixels .exit)) (now (sums .exit)) ⌝ }
 {

@@ -16,12 +16,11 @@ use Rattle.rules.specs.Opening.{openingFault, columns, lines, pixelCount}
 use Rattle.rules.specs.Pictures.{pictureSize, ifOpened, pictureCount, pictures, pixels}
 use Rattle.rules.specs.Histograms.{histograms}
 use Rattle.rules.specs.Seal.{reduced}
-use Rattle.rules.specs.Counted.{Whole, otherBin, Counted}
+use Rattle.rules.specs.Counted.{Whole, otherBin, Counted, hits}
 use Rattle.luma_laws.proofs.Tables.{getD-mapped, parts-length, part-at}
 use Rattle.luma_laws.proofs.Tally.{tally-append}
 use Rattle.luma_laws.proofs.Histograms.{histograms-total}
 use Rattle.luma_laws.proofs.Moves.{byte-at}
-use Rattle.rules.specs.Counted.{hits}
 use Rattle.luma_laws.proofs.Tiles.{once, histograms-at}
 use Rattle.luma_laws.proofs.Sizes.{Good, good, sizes}
 use Rattle.luma_laws.proofs.Differences.{reduced-at}

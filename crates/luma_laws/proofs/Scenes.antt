@@ -21,8 +21,7 @@ use Rattle.rules.specs.Scenes.{startsScene, isStart, startsFrom, starts, sceneO
 use Rattle.rules.specs.Changes.{repeats, changes}
 use Rattle.rules.specs.Seal.{reduced, scenesIn, scenes}
 use Rattle.rules.proofs.Laws.Lists.{both, length-table}
-use Rattle.luma_laws.proofs.Tables.{getD-table}
-use Rattle.luma_laws.proofs.Tables.{parts-length}
+use Rattle.luma_laws.proofs.Tables.{getD-table, parts-length}
 use Rattle.luma_laws.proofs.Sizes.{good}
 
 -- ---- starts

@@ -11,7 +11,7 @@ use lib.ListN.{length, getD, take, length-append}
 use lib.Seq.{getD-take}
 use lib.Dec.{eqb}
 use Rattle.rules.specs.declared.Opening.{Opening}
-use Rattle.rules.specs.Bytes.{pick, tally, parts, count, empty, and, Bytes}
+use Rattle.rules.specs.Bytes.{pick, parts, count, empty, and, Bytes}
 use Rattle.rules.specs.Opening.{side, columns, lines}
 use Rattle.rules.specs.Pictures.{pictureSize, pixels}
 use Rattle.rules.specs.Changes.{repeats}
@@ -22,20 +22,17 @@ use Rattle.luma_blocks.specs.Pixels.{RowsOf}
 use Rattle.luma_blocks.proofs.Drawn.{picture-whole}
 use Rattle.luma_tiles.specs.Bins.{Counts, Cleared}
 use Rattle.luma_changes.specs.Figures.{Figures}
-use Rattle.luma_rows.specs.declared.Grid.{Grid}
-use Rattle.luma_rows.specs.declared.Progress.{Progress}
-use Rattle.luma_rows.specs.State.{slot, movesIn, Words, Ring, Drawn, drawing, Live}
+use Rattle.luma_state.specs.declared.Grid.{Grid}
+use Rattle.luma_state.specs.declared.Progress.{Progress}
+use Rattle.luma_state.specs.State.{slot, movesIn, Words, Ring, Drawn, drawing, Live}
 use Rattle.luma_rows.proofs.Rows.{bytes-right, at-passing, elsewhere, apart}
 use Rattle.luma_picture.specs.Contract.{againOf, ChangeOf, ScoreOf, noted, nextPicture, AtPictureEnd, PictureEnded}
 use Rattle.luma_picture.proofs.Notes.{Whole, each-px, score-is, change-is, again-is, words-more}
+use Rattle.luma_state.proofs.Opens.{still}
 
 pub bytes-left : (s t : List ℕ) → Bytes (s ++ t) → Bytes s
 bytes-left [] t h = empty
 bytes-left (b ∷ s) t (and k h) = and k (bytes-left s t h)
-
-pub still : (old : List ℕ) (s : Progress) → s .ups ≡ 0 → s .downs ≡ 0 → s .squares ≡ 0 → Figures old [] (movesIn s)
-unfolding tally
-still old s a b c = record { up = rw a; down = rw b; both = rw c }
 
 -- ---- of a live state at a picture's end
 

@@ -16,10 +16,9 @@ use Rattle.rules.specs.Histograms.{histograms}
 use Rattle.rules.specs.Cuts.{at, cutScore}
 use Rattle.rules.specs.Changes.{change, repeats, changes}
 use Rattle.luma_laws.proofs.Pictures.{bytes-take, bytes-drop, pixels-small, pixels-length}
-use Rattle.luma_laws.proofs.Tables.{getD-mapped}
+use Rattle.luma_laws.proofs.Tables.{getD-mapped, parts-length, part-at}
 use Rattle.luma_laws.proofs.Moves.{squared-most}
 use Rattle.luma_laws.specs.Past.{previous, nextChange, nextRepeat, nextScore, mapWord}
-use Rattle.luma_laws.proofs.Tables.{parts-length, part-at}
 use Rattle.luma_laws.proofs.Past.{getD-last, getD-other, map-append, score-other, score-next, next-some, next-none, repeats-more, changes-more, length-repeats, length-changes, word-more, word-other, word-small}
 use Rattle.luma_changes.specs.Changes.{spreadOf}
 use Rattle.luma_cuts.specs.Counts.{binsAt, tilesAt}
@@ -27,9 +26,9 @@ use Rattle.luma_tiles.specs.Bins.{Counts}
 use Rattle.luma_tiles.proofs.Whole.{counts-are}
 use Rattle.luma_changes.specs.Figures.{Figures}
 use Rattle.luma_changes.proofs.Whole.{Exact, exact, spread-of, same-of}
-use Rattle.luma_rows.specs.declared.Grid.{Grid}
-use Rattle.luma_rows.specs.declared.Progress.{Progress}
-use Rattle.luma_rows.specs.State.{slot, movesIn, Words}
+use Rattle.luma_state.specs.declared.Grid.{Grid}
+use Rattle.luma_state.specs.declared.Progress.{Progress}
+use Rattle.luma_state.specs.State.{slot, movesIn, Words}
 use Rattle.luma_picture.specs.Contract.{againOf, ChangeOf, ScoreOf, bitOf, withBit, noted}
 
 -- ---- the whole pictures

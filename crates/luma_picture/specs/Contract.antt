@@ -1,4 +1,4 @@
--- What the end of a picture promises. What the arrays stand for is `Live`, in the crate `luma_rows`.
+-- What the end of a picture promises. What the arrays stand for is `Live`, in the crate `luma_state`.
 use Prim.Native.Nat.{ℕ, _+_, _-_, _*_, _/_, _%_, _^_, _≤_, _<_}
 use mathlib.Core.Path.{_≡_}
 use mathlib.Core.List.{List, []}
@@ -7,10 +7,11 @@ use lib.Dec.{eqb}
 use Rattle.rules.specs.Bytes.{pick}
 use Rattle.luma_changes.specs.Changes.{Changed}
 use Rattle.luma_cuts.specs.Counts.{leastAt}
-use Rattle.luma_rows.specs.declared.Grid.{Grid}
-use Rattle.luma_rows.specs.declared.Progress.{Progress}
-use Rattle.luma_rows.specs.State.{slot}
-use Rattle.luma_rows.specs.Contract.{Fits, Goes}
+use Rattle.luma_state.specs.declared.Grid.{Grid}
+use Rattle.luma_state.specs.declared.Progress.{Progress}
+use Rattle.luma_state.specs.State.{slot, Fits, Goes}
+use Rattle.luma_state.specs.Layout.{repeatsAt, changesAt}
+use Rattle.luma_state.specs.Steps.{placedAt, countedAs}
 
 -- 1 if no pixel moved since the previous picture
 abbrev pub againOf : Progress → ℕ
@@ -32,28 +33,16 @@ abbrev pub bitOf : ℕ → ℕ → ℕ
 bitOf i again = again * 2 ^ (i % 64) % 2 ^ 64
 
 abbrev pub withBit : List ℕ → ℕ → ℕ → List ℕ
-withBit w i again = set w (64 + i / 64) ((getD w (64 + i / 64) 0 + bitOf i again) % 2 ^ 64)
+withBit w i again = set w (repeatsAt + i / 64) ((getD w (repeatsAt + i / 64) 0 + bitOf i again) % 2 ^ 64)
 
 abbrev pub noted : List ℕ → ℕ → ℕ → ℕ → ℕ → List ℕ
-noted w i q again score = set (withBit (set w (850 + i) q) i again) (98 + i) score
+noted w i q again score = set (withBit (set w (changesAt + i) q) i again) (98 + i) score
 
 -- the start of the next picture
 abbrev pub nextPicture : Progress → ℕ → Progress
 nextPicture s again =
-    record {
-      status = s .status;
-      place = s .place;
-      fed = s .fed;
-      pictures = s .pictures + 1;
-      fresh = (s .fresh + (1 - again)) % 2 ^ 64;
-      line = 0;
-      row = 0;
-      col = 0;
-      left = 0;
-      ups = 0;
-      downs = 0;
-      squares = 0;
-    }
+    countedAs (placedAt s (s .fed) 0 0 0 0 (record { up = 0; down = 0; squares = 0 })) (s .status) (s .place) (s .pictures + 1)
+    ((s .fresh + (1 - again)) % 2 ^ 64)
 
 pub record AtPictureEnd (g : Grid) (s : Progress) : Type 0 where
   pub fits : Fits g

@@ -2,10 +2,14 @@
 ghost use mathlib.Core.Path.{_≡_};
 ghost use Prim.Native.Nat.{ℕ, _+_, _*_, _%_, _^_, _≤_, _<_};
 ghost use lib.ListN.{length, getD};
-ghost use Rattle.luma_rows.specs.Contract.{Fits};
+ghost use Rattle.luma_state.specs.State.{Fits};
 ghost use Rattle.luma_picture.specs.Contract.{againOf, ChangeOf, ScoreOf, noted, nextPicture, AtPictureEnd, PictureEnded};
-use luma_rows::Grid;
-use luma_rows::Progress;
+use luma_state::Grid;
+use luma_state::Progress;
+use luma_state::Words;
+use luma_state::layout;
+use luma_state::slot_of;
+use luma_tiles::Bins;
 
 // 1 if no pixel moved since the previous picture.
 fn again_of(s: Progress) -> u64
@@ -29,16 +33,9 @@ fn change_of(g: Grid, s: Progress) -> u64
     if s.pictures == 0 {
         return 0;
     }
-    let m = luma_rows::moves_in(s);
+    let m = luma_state::moves_in(s);
     let n = (g.lines * g.columns) as u32;
     luma_changes::change(n, m.up, m.down, m.squares)
-}
-
-// Where the counts of picture i stand in the ring.
-fn slot_of(i: usize) -> usize
-    ensures { λ r. ⌜ (r ≡ 144 * (i % 5)) × (r + 144 ≤ 720) ⌝ }
-{
-    144 * (i % 5)
 }
 
 // The first count. Reading it as one of a slice shows that every count is a u32.
@@ -50,7 +47,7 @@ fn first(counts: &[u32]) -> u32
 }
 
 // The cut score that picture i settles: that of picture i - 2.
-fn score_of(bins: &[u32; 720], i: usize) -> u64
+fn score_of(bins: &Bins, i: usize) -> u64
     ensures { λ r. ⌜ ScoreOf (now (bins .entry)) i r ⌝ }
 {
     first(bins);
@@ -66,40 +63,36 @@ fn score_of(bins: &[u32; 720], i: usize) -> u64
 }
 
 // Picture i's change, its bit in the map of repeats, and the cut score of picture i - 2.
-fn note(luma: &mut [u64; 1600], i: usize, q: u64, again: u64, score: u64)
+fn note(luma: &mut Words, i: usize, q: u64, again: u64, score: u64)
     requires { ⌜ i < 750 ⌝ }
     ensures { λ _. ⌜ now (luma .exit) ≡ noted (now (luma .entry)) i q again score ⌝ }
 {
-    luma[850 + i] = q;
-    let j = 64 + i / 64;
-    let bit = again << (i % 64);
+    luma[layout::CHANGES + i] = q;
+    let j = layout::REPEATS + i / layout::MAP_BITS;
+    let bit = again << (i % layout::MAP_BITS);
     luma[j] = std::num::wrapping_add_u64(luma[j], bit);
-    luma[98 + i] = score;
+    luma[layout::SETTLED + i] = score;
 }
 
 fn next_picture(s: Progress, again: u64) -> Progress
     requires { ⌜ (s .pictures < 750) × (again ≤ 1) ⌝ }
     ensures { λ r. ⌜ r ≡ nextPicture s again ⌝ }
 {
-    let fresh = std::num::wrapping_add_u64(s.fresh, 1 - again);
-    Progress {
-        status: s.status,
-        place: s.place,
-        fed: s.fed,
-        pictures: s.pictures + 1,
-        fresh: fresh,
-        line: 0,
-        row: 0,
-        col: 0,
-        left: 0,
-        ups: 0,
-        downs: 0,
-        squares: 0,
-    }
+    let mut r = s;
+    r.pictures = s.pictures + 1;
+    r.fresh = std::num::wrapping_add_u64(s.fresh, 1 - again);
+    r.line = 0;
+    r.row = 0;
+    r.col = 0;
+    r.left = 0;
+    r.ups = 0;
+    r.downs = 0;
+    r.squares = 0;
+    r
 }
 
 // At the end of a picture: its change, whether it is repeated, the cut score of the picture two before it, and room in the ring for the next.
-pub fn end_picture(luma: &mut [u64; 1600], bins: &mut [u32; 720], g: Grid, s: Progress) -> Progress
+pub fn end_picture(luma: &mut Words, bins: &mut Bins, g: Grid, s: Progress) -> Progress
     requires { ⌜ AtPictureEnd g s ⌝ }
     ensures { λ r. ⌜ PictureEnded g s (now (luma .entry)) (now (bins .entry)) r (now (luma .exit)) (now (bins .exit)) ⌝ }
 {

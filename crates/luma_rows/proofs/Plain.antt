@@ -24,9 +24,9 @@ use Rattle.luma_blocks.proofs.Pixels.{pixel-small}
 use Rattle.luma_tiles.specs.Bins.{CountedRow}
 use Rattle.luma_changes.specs.declared.sums.Moves.{Moves}
 use Rattle.luma_changes.specs.Figures.{Compared}
-use Rattle.luma_rows.specs.declared.Grid.{Grid}
-use Rattle.luma_rows.specs.declared.Progress.{Progress}
-use Rattle.luma_rows.specs.State.{slot, Live}
+use Rattle.luma_state.specs.declared.Grid.{Grid}
+use Rattle.luma_state.specs.declared.Progress.{Progress}
+use Rattle.luma_state.specs.State.{slot, Live}
 use Rattle.luma_rows.specs.Contract.{Keeps, movedTo, nextRow, Puts, AtPlainRow, PlainRow, Taking, Took}
 use Rattle.luma_rows.proofs.Rows.{at-drawing, bytes-of, row-room, drew-live, row-live}
 

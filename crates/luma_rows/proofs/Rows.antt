@@ -20,10 +20,10 @@ use Rattle.luma_blocks.specs.Pixels.{RowsOf, RowDone}
 use Rattle.luma_tiles.specs.Bins.{Counts, Kept, CountedRow}
 use Rattle.luma_changes.specs.declared.sums.Moves.{Moves}
 use Rattle.luma_changes.specs.Figures.{Figures, Compared}
-use Rattle.luma_rows.specs.declared.Grid.{Grid}
-use Rattle.luma_rows.specs.declared.Progress.{Progress}
-use Rattle.luma_rows.specs.State.{movesIn, slot, Drawn, Place, drawing, passing, Live}
-use Rattle.luma_rows.specs.Contract.{Fits, Keeps, movedTo, nextRow, AtRowEnd, RowEnded, Took, Taking}
+use Rattle.luma_state.specs.declared.Grid.{Grid}
+use Rattle.luma_state.specs.declared.Progress.{Progress}
+use Rattle.luma_state.specs.State.{movesIn, slot, Drawn, Place, drawing, passing, Live, Fits}
+use Rattle.luma_rows.specs.Contract.{Keeps, movedTo, nextRow, AtRowEnd, RowEnded, Took, Taking}
 
 -- ---- the old pixels
 

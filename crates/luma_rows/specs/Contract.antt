@@ -1,28 +1,14 @@
 -- What each function promises.
 use Prim.Native.Nat.{ℕ, _+_, _-_, _*_, _%_, _^_, _≤_, _<_}
 use mathlib.Core.Path.{_≡_}
-use mathlib.Core.List.{List, [], _++_}
+use mathlib.Core.List.{List, []}
 use lib.ListN.{length, getD, take}
-use Rattle.rules.specs.declared.Opening.{Opening}
 use Rattle.luma_changes.specs.declared.sums.Moves.{Moves}
-use Rattle.luma_rows.specs.declared.Grid.{Grid}
-use Rattle.luma_rows.specs.declared.Progress.{Progress}
+use Rattle.luma_state.specs.declared.Grid.{Grid}
+use Rattle.luma_state.specs.declared.Progress.{Progress}
 use Rattle.luma_rows.specs.declared.Taken.{Taken}
-use Rattle.luma_rows.specs.State.{Live, Sane}
-
--- what a grid's numbers may be: those of every opening that is not refused are such
-pub record Fits (g : Grid) : Type 0 where
-  pub some : 0 < g .side
-  pub few : g .side ≤ 32
-  pub wide : 15 ≤ g .columns
-  pub narrow : g .columns ≤ 239
-  pub high : 30 ≤ g .lines
-  pub low : g .lines ≤ 59
-  pub least : 15 ≤ g .width
-  pub most : g .width ≤ 1920
-  pub room : g .lines * g .columns ≤ 14101
-  pub rows : g .lines * g .side * g .width ≤ g .bytes
-  pub small : g .bytes ≤ 2088960
+use Rattle.luma_state.specs.State.{Sane, movesIn, Fits, Goes}
+use Rattle.luma_state.specs.Steps.{placedAt}
 
 -- a block row's old pixels
 pub record Keeps (base w : ℕ) (picture before kept : List ℕ) : Type 0 where
@@ -31,62 +17,11 @@ pub record Keeps (base w : ℕ) (picture before kept : List ℕ) : Type 0 where
 
 -- the place and the count of bytes after `used` more
 abbrev pub movedTo : Progress → ℕ → ℕ → ℕ → Progress
-movedTo s row col used =
-    record {
-      status = s .status;
-      place = s .place;
-      fed = (s .fed + used) % 2 ^ 64;
-      pictures = s .pictures;
-      fresh = s .fresh;
-      line = s .line;
-      row = row;
-      col = col;
-      left = s .left;
-      ups = s .ups;
-      downs = s .downs;
-      squares = s .squares;
-    }
+movedTo s row col used = placedAt s ((s .fed + used) % 2 ^ 64) (s .line) row col (s .left) (movesIn s)
 
 -- the start of the next block row, or of the surplus rows
 abbrev pub nextRow : Grid → Progress → Moves → Progress
-nextRow g s m =
-    record {
-      status = s .status;
-      place = s .place;
-      fed = s .fed;
-      pictures = s .pictures;
-      fresh = s .fresh;
-      line = s .line + 1;
-      row = 0;
-      col = 0;
-      left = g .bytes - g .lines * g .side * g .width;
-      ups = m .up;
-      downs = m .down;
-      squares = m .squares;
-    }
-
--- `used` bytes of the surplus rows more
-abbrev pub passedOn : Progress → ℕ → Progress
-passedOn s used =
-    record {
-      status = s .status;
-      place = s .place;
-      fed = (s .fed + used) % 2 ^ 64;
-      pictures = s .pictures;
-      fresh = s .fresh;
-      line = s .line;
-      row = s .row;
-      col = s .col;
-      left = s .left - used;
-      ups = s .ups;
-      downs = s .downs;
-      squares = s .squares;
-    }
-
--- from one state of the arrays, by the bytes of chunk, to another, whatever the opening and the joined bytes
-abbrev pub Goes : Grid → Progress → List ℕ → List ℕ → List ℕ → List ℕ → List ℕ → Progress → List ℕ → List ℕ → List ℕ → List ℕ → Type 0
-Goes g s luma sums bins picture chunk r luma′ sums′ bins′ picture′ =
-    (o : Opening) (joined : List ℕ) → Live g o s luma sums bins picture joined → Live g o r luma′ sums′ bins′ picture′ (joined ++ chunk)
+nextRow g s m = placedAt s (s .fed) (s .line + 1) 0 0 (g .bytes - g .lines * g .side * g .width) m
 
 -- the end of a block row: asked for and promised
 pub record AtRowEnd (g : Grid) (s : Progress) : Type 0 where

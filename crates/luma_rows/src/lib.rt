@@ -3,34 +3,17 @@ ghost use mathlib.Core.Path.{_≡_};
 ghost use mathlib.Core.Bool.{true};
 ghost use lib.ListN.{length};
 ghost use Prim.Native.Nat.{_+_, _%_, _^_, _≤_, _<_};
-ghost use Rattle.luma_rows.specs.Contract.{Fits, Keeps, movedTo, nextRow, AtRowEnd, RowEnded, Puts, AtPlainRow, PlainRow, Took, Taking};
+ghost use Rattle.luma_state.specs.State.{Fits};
+ghost use Rattle.luma_rows.specs.Contract.{Keeps, movedTo, nextRow, AtRowEnd, RowEnded, Puts, AtPlainRow, PlainRow, Took, Taking};
+use luma_blocks::Picture;
+use luma_blocks::Sums;
 use luma_changes::Moves;
+use luma_state::Grid;
+use luma_state::Progress;
+use luma_tiles::Bins;
 
-// The sizes of a sample's pictures: rows of `width` bytes, blocks of `side` by `side` of them, `columns` by `lines` pixels, `bytes` in all.
-pub struct Grid {
-    pub width: usize,
-    pub side: usize,
-    pub columns: usize,
-    pub lines: usize,
-    pub bytes: usize,
-}
-
-// The scalars of the state: the refusal that stands, bytes fed, whole pictures and those that are not repeated, the place in the current picture, and how its
-// pixels moved so far.
-pub struct Progress {
-    pub status: u64,
-    pub place: u64,
-    pub fed: u64,
-    pub pictures: usize,
-    pub fresh: u64,
-    pub line: usize,
-    pub row: usize,
-    pub col: usize,
-    pub left: usize,
-    pub ups: u64,
-    pub downs: u64,
-    pub squares: u64,
-}
+// The old pixels of a block row.
+type Kept = [u8; luma_blocks::COLUMNS];
 
 // Bytes that were taken in, and the state after them.
 pub struct Taken {
@@ -43,31 +26,11 @@ pub struct Taken {
 fn moved_to(s: Progress, row: usize, col: usize, used: usize) -> Progress
     ensures { λ r. ⌜ r ≡ movedTo s row col used ⌝ }
 {
-    let fed = std::num::wrapping_add_u64(s.fed, used as u64);
-    Progress {
-        status: s.status,
-        place: s.place,
-        fed: fed,
-        pictures: s.pictures,
-        fresh: s.fresh,
-        line: s.line,
-        row: row,
-        col: col,
-        left: s.left,
-        ups: s.ups,
-        downs: s.downs,
-        squares: s.squares,
-    }
-}
-
-pub fn moves_in(s: Progress) -> Moves
-    ensures { λ r. ⌜ (r .up ≡ s .ups % 2 ^ 32) × (r .down ≡ s .downs % 2 ^ 32) × (r .squares ≡ s .squares % 2 ^ 32) ⌝ }
-{
-    Moves {
-        up: (s.ups % 4294967296) as u32,
-        down: (s.downs % 4294967296) as u32,
-        squares: (s.squares % 4294967296) as u32,
-    }
+    let mut r = s;
+    r.fed = std::num::wrapping_add_u64(s.fed, used as u64);
+    r.row = row;
+    r.col = col;
+    r
 }
 
 // The place behind a block row, whose pixels have moved so.
@@ -75,26 +38,19 @@ fn next_row(g: Grid, s: Progress, m: Moves) -> Progress
     requires { ⌜ (Fits g) × (s .line < g .lines) ⌝ }
     ensures { λ r. ⌜ r ≡ nextRow g s m ⌝ }
 {
-    let line = s.line + 1;
-    let left = g.bytes - g.lines * g.side * g.width;
-    Progress {
-        status: s.status,
-        place: s.place,
-        fed: s.fed,
-        pictures: s.pictures,
-        fresh: s.fresh,
-        line: line,
-        row: 0,
-        col: 0,
-        left: left,
-        ups: m.up as u64,
-        downs: m.down as u64,
-        squares: m.squares as u64,
-    }
+    let mut r = s;
+    r.line = s.line + 1;
+    r.row = 0;
+    r.col = 0;
+    r.left = g.bytes - g.lines * g.side * g.width;
+    r.ups = m.up as u64;
+    r.downs = m.down as u64;
+    r.squares = m.squares as u64;
+    r
 }
 
 // The w pixels from `base` on, before they change.
-fn keep(kept: &mut [u8; 240], picture: &[u8; 14104], base: usize, w: usize)
+fn keep(kept: &mut Kept, picture: &Picture, base: usize, w: usize)
     requires { ⌜ (w ≤ 240) × (base + w ≤ 14104) ⌝ }
     ensures { λ _. ⌜ Keeps base w (now (picture .entry)) (now (kept .entry)) (now (kept .exit)) ⌝ }
 {
@@ -107,9 +63,9 @@ fn keep(kept: &mut [u8; 240], picture: &[u8; 14104], base: usize, w: usize)
 
 // At the end of a block row: its pixels are made of the sums, counted, and compared with the previous picture's.
 fn end_row(
-    sums: &mut [u32; 240],
-    bins: &mut [u32; 720],
-    picture: &mut [u8; 14104],
+    sums: &mut Sums,
+    bins: &mut Bins,
+    picture: &mut Picture,
     g: Grid,
     s: Progress,
 ) -> Progress
@@ -118,17 +74,17 @@ fn end_row(
 {
     let w = g.columns;
     let base = s.line * w;
-    let mut kept = [0u8; 240];
+    let mut kept = [0u8; luma_blocks::COLUMNS];
     keep(&mut kept, picture, base, w);
     luma_blocks::finish_row(picture, sums, g.side, w, s.line);
-    let slot = 144 * (s.pictures % 5);
+    let slot = luma_state::slot_of(s.pictures);
     luma_tiles::count_row(bins, slot, picture, w, g.lines, s.line);
-    let m = luma_changes::compare_run(moves_in(s), &kept, 0, picture, base, w);
+    let m = luma_changes::compare_run(luma_state::moves_in(s), &kept, 0, picture, base, w);
     next_row(g, s, m)
 }
 
 // The first w bytes of the string become the pixels from `base` on.
-fn put(picture: &mut [u8; 14104], base: usize, rest: &[u8], w: usize)
+fn put(picture: &mut Picture, base: usize, rest: &[u8], w: usize)
     requires { ⌜ (w ≤ length (now rest)) × (base + w ≤ 14104) ⌝ }
     ensures { λ _. ⌜ Puts base w (now (rest .entry)) (now (picture .entry)) (now (picture .exit)) ⌝ }
 {
@@ -157,21 +113,15 @@ fn is_plain(g: Grid, s: Progress, rest: &[u8]) -> bool
 }
 
 // Such a row: its bytes are the pixels. No sum is made, and the sums stay what they were, none.
-fn plain_row(
-    bins: &mut [u32; 720],
-    picture: &mut [u8; 14104],
-    g: Grid,
-    s: Progress,
-    rest: &[u8],
-) -> Progress
+fn plain_row(bins: &mut Bins, picture: &mut Picture, g: Grid, s: Progress, rest: &[u8]) -> Progress
     requires { ⌜ AtPlainRow g s (now rest) ⌝ }
     ensures { λ r. ⌜ PlainRow g s (now (bins .entry)) (now (picture .entry)) (now (rest .entry)) r (now (bins .exit)) (now (picture .exit)) ⌝ }
 {
     let w = g.columns;
     let base = s.line * w;
-    let m = luma_changes::compare_run(moves_in(s), picture, base, rest, 0, w);
+    let m = luma_changes::compare_run(luma_state::moves_in(s), picture, base, rest, 0, w);
     put(picture, base, rest, w);
-    let own = 144 * (s.pictures % 5);
+    let own = luma_state::slot_of(s.pictures);
     luma_tiles::count_row(bins, own, picture, w, g.lines, s.line);
     let t = moved_to(s, 1, 0, g.width);
     next_row(g, t, m)
@@ -179,9 +129,9 @@ fn plain_row(
 
 // Bytes of a block row, up to its end or that of the piece.
 pub fn draw(
-    sums: &mut [u32; 240],
-    bins: &mut [u32; 720],
-    picture: &mut [u8; 14104],
+    sums: &mut Sums,
+    bins: &mut Bins,
+    picture: &mut Picture,
     g: Grid,
     s: Progress,
     rest: &[u8],

@@ -7,6 +7,7 @@ use lib.ListN.{length}
 use Rattle.rules.specs.declared.SceneRow.{SceneRow}
 use Rattle.rules.specs.Bytes.{total, greatestOf, count}
 use Rattle.rules.specs.Scenes.{span, isTrue, longestFrom, sceneOf, scenesOf}
+use Rattle.luma_state.specs.Layout.{scoresAt}
 use Rattle.luma_scenes.specs.Words.{Column, Bits, Holds}
 use Rattle.luma_scenes.specs.Next.{nextStart}
 
@@ -31,7 +32,7 @@ abbrev pub TotalPost : List ℕ → ℕ → ℕ → ℕ → ℕ → Type 0
 TotalPost w base i j r = (n most : ℕ) (xs : List ℕ) → Column w base n most xs → most < 2 ^ 32 → i ≤ j → j ≤ n → r ≡ total (span i j xs)
 
 abbrev pub PeakPost : List ℕ → ℕ → ℕ → ℕ → Type 0
-PeakPost w i j r = (n most : ℕ) (xs : List ℕ) → Column w 100 n most xs → most < 2 ^ 32 → i ≤ j → j ≤ n → r ≡ greatestOf (span i j xs)
+PeakPost w i j r = (n most : ℕ) (xs : List ℕ) → Column w scoresAt n most xs → most < 2 ^ 32 → i ≤ j → j ≤ n → r ≡ greatestOf (span i j xs)
 
 pub record RepeatedPost (w : List ℕ) (i j r : ℕ) : Type 0 where
   pub most : r ≤ j - i

@@ -1,4 +1,4 @@
-// Scene starts and scene rows from the luma words: cut scores from word 100 on, changes from word 850 on, the map of repeats from word 64 on.
+// Scene starts and scene rows from the luma words: cut scores, changes, the map of repeats.
 // Every call is safe and ends on any contents of the words; a cut score or change is taken below 2^32.
 ghost use mathlib.Core.Path.{_≡_};
 ghost use Prim.Native.Nat.{_*_, _%_, _^_, _<_, _≤_};
@@ -6,10 +6,12 @@ ghost use lib.ListN.{getD};
 ghost use Rattle.rules.specs.Scenes.{startsScene};
 ghost use Rattle.luma_scenes.specs.Words.{bitAt};
 ghost use Rattle.luma_scenes.specs.Contract.{NextPost, RowPost, CountPost, TotalPost, PeakPost, RepeatedPost, LongestPost};
+use luma_state::Words;
+use luma_state::layout;
 use rules::SceneRow;
 
 // A cut score or a change.
-fn figure(luma: &[u64; 1600], at: usize) -> u64
+fn figure(luma: &Words, at: usize) -> u64
     requires { ⌜ at < 1600 ⌝ }
     ensures { λ r. ⌜ r ≡ getD (now (luma .entry)) at 0 % 2 ^ 32 ⌝ }
 {
@@ -17,12 +19,12 @@ fn figure(luma: &[u64; 1600], at: usize) -> u64
 }
 
 // 1 if picture i is repeated, otherwise 0.
-fn repeat_bit(luma: &[u64; 1600], i: usize) -> u64
+fn repeat_bit(luma: &Words, i: usize) -> u64
     requires { ⌜ i < 750 ⌝ }
     ensures { λ r. ⌜ r ≡ bitAt (now (luma .entry)) i ⌝ }
 {
-    let word = luma[64 + i / 64];
-    (word >> (i % 64)) % 2
+    let word = luma[layout::REPEATS + i / layout::MAP_BITS];
+    (word >> (i % layout::MAP_BITS)) % 2
 }
 
 // Whether a picture with the cut score s, n pictures after the last start, is the next start; sum is that of the scores between.
@@ -40,10 +42,10 @@ fn starts_scene(d: u64, n: u64, s: u64, sum: u64) -> bool
 }
 
 // The start that follows the start b, or n.
-pub fn next_start(luma: &[u64; 1600], n: usize, d: u64, b: usize) -> usize
+pub fn next_start(luma: &Words, n: usize, d: u64, b: usize) -> usize
     ensures { λ r. ⌜ NextPost (now (luma .entry)) n d b r ⌝ }
 {
-    if 750 < n {
+    if layout::PICTURES < n {
         return n;
     }
     if n <= b {
@@ -53,7 +55,7 @@ pub fn next_start(luma: &[u64; 1600], n: usize, d: u64, b: usize) -> usize
     let mut sum: u64 = 0;
     let mut i = b + 1;
     while i < n {
-        let s = figure(luma, 100 + i);
+        let s = figure(luma, layout::SCORES + i);
         let between = sum;
         sum += s;
         if starts_scene(time, (i - b) as u64, s, between) {
@@ -65,7 +67,7 @@ pub fn next_start(luma: &[u64; 1600], n: usize, d: u64, b: usize) -> usize
 }
 
 // How many scenes n pictures have.
-pub fn count(luma: &[u64; 1600], n: usize, d: u64) -> usize
+pub fn count(luma: &Words, n: usize, d: u64) -> usize
     ensures { λ r. ⌜ CountPost (now (luma .entry)) n d r ⌝ }
 {
     let mut scenes = 0;
@@ -78,7 +80,7 @@ pub fn count(luma: &[u64; 1600], n: usize, d: u64) -> usize
 }
 
 // The sum of the figures of pictures i to before j.
-fn total(luma: &[u64; 1600], base: usize, i: usize, j: usize) -> u64
+fn total(luma: &Words, base: usize, i: usize, j: usize) -> u64
     requires { ⌜ (j ≤ 750) × (base ≤ 850) ⌝ }
     ensures { λ r. ⌜ TotalPost (now (luma .entry)) base i j r ⌝ }
 {
@@ -92,14 +94,14 @@ fn total(luma: &[u64; 1600], base: usize, i: usize, j: usize) -> u64
 }
 
 // The greatest cut score of pictures i to before j.
-fn peak(luma: &[u64; 1600], i: usize, j: usize) -> u64
+fn peak(luma: &Words, i: usize, j: usize) -> u64
     requires { ⌜ j ≤ 750 ⌝ }
     ensures { λ r. ⌜ PeakPost (now (luma .entry)) i j r ⌝ }
 {
     let mut most: u64 = 0;
     let mut k = i;
     while k < j {
-        let s = figure(luma, 100 + k);
+        let s = figure(luma, layout::SCORES + k);
         if most < s {
             most = s;
         }
@@ -109,7 +111,7 @@ fn peak(luma: &[u64; 1600], i: usize, j: usize) -> u64
 }
 
 // How many of pictures i to before j are repeated.
-fn repeated(luma: &[u64; 1600], i: usize, j: usize) -> u64
+fn repeated(luma: &Words, i: usize, j: usize) -> u64
     requires { ⌜ (i ≤ j) × (j ≤ 750) ⌝ }
     ensures { λ r. ⌜ RepeatedPost (now (luma .entry)) i j r ⌝ }
 {
@@ -123,7 +125,7 @@ fn repeated(luma: &[u64; 1600], i: usize, j: usize) -> u64
 }
 
 // The longest run of repeated ones among pictures i to before j.
-fn longest(luma: &[u64; 1600], i: usize, j: usize) -> u64
+fn longest(luma: &Words, i: usize, j: usize) -> u64
     requires { ⌜ (i ≤ j) × (j ≤ 750) ⌝ }
     ensures { λ r. ⌜ LongestPost (now (luma .entry)) i j r ⌝ }
 {
@@ -157,10 +159,10 @@ fn no_scene() -> SceneRow {
 }
 
 // The row of the scene from picture i to before picture j.
-pub fn scene_row(luma: &[u64; 1600], i: usize, j: usize) -> SceneRow
+pub fn scene_row(luma: &Words, i: usize, j: usize) -> SceneRow
     ensures { λ r. ⌜ RowPost (now (luma .entry)) i j r ⌝ }
 {
-    if 750 < j {
+    if layout::PICTURES < j {
         return no_scene();
     }
     if j < i {
@@ -171,8 +173,8 @@ pub fn scene_row(luma: &[u64; 1600], i: usize, j: usize) -> SceneRow
         pictures: (j - i) as u32,
         repeated: figures::low(repeated(luma, i, j)),
         longest: figures::low(longest(luma, i, j)),
-        score: figures::low(total(luma, 100, i, j)),
+        score: figures::low(total(luma, layout::SCORES, i, j)),
         peak: figures::low(peak(luma, i, j)),
-        change: figures::low(total(luma, 850, i, j)),
+        change: figures::low(total(luma, layout::CHANGES, i, j)),
     }
 }

@@ -12,8 +12,8 @@ use Rattle.rules.specs.Calls.{Question, answerTo, Call, feedCapture, feedLuma, 
 use Rattle.rules.specs.Calls.{captureFed, lumaFed}
 use Rattle.luma_laws.proofs.Counted.{whole-counted, every-picture}
 use Rattle.luma_cuts.specs.Counts.{tilesAt}
-use Rattle.luma_rows.specs.State as side-luma
-use Rattle.luma_rows.specs.State.{loaded, slot, Stands, refused, live}
+use Rattle.luma_state.specs.State as side-luma
+use Rattle.luma_state.specs.State.{loaded, slot, Stands, refused, live}
 use Rattle.luma.proofs.Seals.{ring-is}
 use Rattle.sample.specs.State.{State, Means}
 use Rattle.sample.specs.Contract.{OpenPost}

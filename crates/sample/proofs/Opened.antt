@@ -1,7 +1,7 @@
 -- The number that an opening is refused with, 0 for none.
 use Prim.Native.Nat.{ℕ, zero, suc, _<_}
 use native.Mathlib.Omega.{arith}
-use mathlib.Core.Path.{_≡_, refl, _∙_}
+use mathlib.Core.Path.{_≡_}
 use Rattle.rules.specs.Refusals.{Fault, none, fault}
 use Rattle.figures.specs.Opening.{numbered}
 

@@ -23,7 +23,7 @@ use Rattle.counts.specs.declared.Summary.{Summary}
 use Rattle.counts.specs.Summary.{SumsUp, SumOf, Figures, standing}
 use Rattle.luma.specs.declared.Summary as of-luma
 use Rattle.luma.specs.Contract.{SummaryPost, Summarised, Known}
-use Rattle.luma_rows.specs.State.{openingIn}
+use Rattle.luma_state.specs.State.{openingIn}
 use Rattle.sample.specs.State.{State, Words, wordsOf, Means}
 use Rattle.sample.specs.Contract.{Leaves, SealPost, Ready, WritePost}
 

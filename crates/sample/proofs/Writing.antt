@@ -1,5 +1,5 @@
 -- The record that a seal writes: its header and rows are the rules', and so is its length.
-use Prim.Native.Nat.{ℕ, zero, suc, _+_, _*_, _%_, _^_, _≤_, _<_}
+use Prim.Native.Nat.{ℕ, _+_, _*_, _%_, _^_, _≤_, _<_}
 use native.Mathlib.Omega.{arith}
 use native.Mathlib.Nat.{mod-eq-of-lt}
 use mathlib.Core.Path.{_≡_, refl, sym, ap, subst, _∙_}
@@ -13,7 +13,7 @@ use Rattle.rules.specs.declared.Answer.the-variants.{Done, Refused}
 use Rattle.rules.specs.declared.Header.{Header}
 use Rattle.rules.specs.declared.UnitRow.{UnitRow}
 use Rattle.rules.specs.declared.SceneRow.{SceneRow}
-use Rattle.rules.specs.Bytes.{count, total}
+use Rattle.rules.specs.Bytes.{count}
 use Rattle.rules.specs.Packets.{Packet}
 use Rattle.rules.specs.Units.{unitsOf}
 use Rattle.rules.specs.Refusals.{none, fault}

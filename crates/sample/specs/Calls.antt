@@ -19,7 +19,7 @@ use Rattle.rules.specs.Counted.{Whole, Counted}
 use Rattle.capture.specs.Contract as side-capture
 use Rattle.luma.specs.Contract as side-luma
 use Rattle.luma_cuts.specs.Counts.{tilesAt}
-use Rattle.luma_rows.specs.State.{slot}
+use Rattle.luma_state.specs.State.{slot}
 use Rattle.sample.specs.State.{State, wordsOf}
 use Rattle.sample.specs.Contract.{OpenPost, Asked}
 

@@ -3,7 +3,7 @@ use Prim.Native.Nat.{ℕ}
 use mathlib.Core.List.{List}
 use Rattle.rules.specs.declared.Opening.{Opening}
 use Rattle.capture.specs.State as side-capture
-use Rattle.luma_rows.specs.State as side-luma
+use Rattle.luma_state.specs.State as side-luma
 
 pub record State : Type 0 where
   pub capture : List ℕ

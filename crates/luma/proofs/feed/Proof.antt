@@ -1,7 +1,8 @@
 use Rattle.figures.specs.Opening.{numbered}
 use mathlib.Core.Path.{ap, _∙_}
 use borrow.Author.Tests.{not-true, not-false}
-use Rattle.luma.proofs.Posts.{fits-of, feed-stopped, feed-forged, wrong-opening, wrong-place, feed-post}
+use Rattle.luma_state.proofs.Kept.{fits-of}
+use Rattle.luma.proofs.Posts.{feed-stopped, feed-forged, wrong-opening, wrong-place, feed-post}
 use borrow.Author.Needs.{needs}
 use Rattle.luma.proofs.feed.Statement.{statement}
 use Rattle.luma.proofs.feed.Tie as tie

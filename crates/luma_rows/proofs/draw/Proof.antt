@@ -1,7 +1,6 @@
 use Rattle.luma_rows.proofs.Plain.{took-plain}
-use Rattle.luma_rows.proofs.Rows.{at-row-end}
+use Rattle.luma_rows.proofs.Rows.{at-row-end, within-row, to-row-end}
 use native.Mathlib.Omega.{arith}
-use Rattle.luma_rows.proofs.Rows.{within-row, to-row-end}
 use borrow.Author.Needs.{needs}
 use Rattle.luma_rows.proofs.draw.Statement.{statement}
 use Rattle.luma_rows.proofs.draw.Tie as tie

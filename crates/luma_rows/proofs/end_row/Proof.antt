@@ -25,8 +25,8 @@ finish-row-requires c κs =
       fits = omega (arith, row-room (a .g) (a .s) (p .line), p .fits .room);
     }
 
-mul-slot : tie.Need-mul-slot
-mul-slot c = search needs
+slot-of-requires : tie.Need-slot-of-requires
+slot-of-requires c κs = search needs
 
 count-row-requires : tie.Need-count-row-requires
 count-row-requires c κs =
@@ -69,7 +69,7 @@ returns c =
     row-ended (a .g) (a .s) (p .fits) (p .line) (p .row) (p .col) refl
     (c .before .before .before .before .before .before .before .before .before .before .before .before .before .before .keep .ensures)
     (c .before .before .before .before .before .before .before .before .before .before .before .finish-row .ensures)
-    (c .before .before .before .before .before .before .count-row .ensures)
+    (rw (c .before .before .before .before .before .before .before .before .before .before .slot-of .ensures .0) at (c .before .before .before .before .before .before .count-row .ensures))
     (c .before .before .before .before .before .moves-in .ensures) (c .before .compare-run .ensures) _ (c .next-row .ensures)
 
 pub end-row-spec : {M : Type 1} → statement M
@@ -79,7 +79,7 @@ end-row-spec =
     mul-base
     keep-requires
     finish-row-requires
-    mul-slot
+    slot-of-requires
     count-row-requires
     moves-in-requires
     slice-aggregate-compare-run

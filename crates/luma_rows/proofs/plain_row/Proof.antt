@@ -23,8 +23,8 @@ compare-run-requires c κs =
 put-requires : tie.Need-put-requires
 put-requires c κs = let p = c .before .before .before .before .before .before .before .pre in (omega (arith, p .narrow, p .there), omega (arith, row-room (c .before .before .before .before .before .before .before .args .g) (c .before .before .before .before .before .before .before .args .s) (c .before .before .before .before .before .before .before .pre .line), c .before .before .before .before .before .before .before .pre .fits .room))
 
-mul-own : tie.Need-mul-own
-mul-own c = search needs
+slot-of-requires : tie.Need-slot-of-requires
+slot-of-requires c κs = search needs
 
 count-row-requires : tie.Need-count-row-requires
 count-row-requires c κs =
@@ -49,7 +49,7 @@ returns c =
     let p = c .before .before .before .before .before .before .before .before .before .before .before .before .before .before .before .pre in
     let a = c .before .before .before .before .before .before .before .before .before .before .before .before .before .before .before .args in
     plain-row (a .g) (a .s) p (λ i. omega (arith, c .before .before .before .before .before .before .before .before .before .before .before .before .before .before .shared-slice-known .given i)) (c .before .before .before .before .before .before .before .before .before .before .before .before .moves-in .ensures) (c .before .before .before .before .before .before .before .before .before .compare-run .ensures) (c .before .before .before .before .before .before .before .put .ensures)
-    (c .before .before .count-row .ensures) _ (rw (c .before .moved-to .ensures) at (c .next-row .ensures))
+    (rw (c .before .before .before .before .before .before .slot-of .ensures .0) at (c .before .before .count-row .ensures)) _ (rw (c .before .moved-to .ensures) at (c .next-row .ensures))
 
 pub plain-row-spec : {M : Type 1} → statement M
 plain-row-spec =
@@ -59,7 +59,7 @@ plain-row-spec =
     moves-in-requires
     compare-run-requires
     put-requires
-    mul-own
+    slot-of-requires
     count-row-requires
     moved-to-requires
     next-row-requires

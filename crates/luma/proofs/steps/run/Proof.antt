@@ -1,11 +1,9 @@
 use native.Mathlib.Nat.{lt-of-le-of-lt}
-use Rattle.luma.proofs.Pieces.{taking-rest, on-rest, onward}
+use Rattle.luma.proofs.Pieces.{taking-rest, on-rest, onward, goes-none, goes-more, ran-all, ran-over}
 use Prim.Native.Nat.{_-_, _≤_}
 use lib.ListN.{length, take}
 use native.Mathlib.Omega.{arith}
-use Rattle.luma_rows.specs.State.{Sane}
-use Rattle.luma_rows.specs.Contract.{Goes}
-use Rattle.luma.proofs.Pieces.{goes-none, goes-more, ran-all, ran-over}
+use Rattle.luma_state.specs.State.{Sane, Goes}
 use Rattle.luma.proofs.steps.run.Statement.{statement}
 use Rattle.luma.proofs.steps.run.Tie as tie
 

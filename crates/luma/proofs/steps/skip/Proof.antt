@@ -6,11 +6,11 @@ use Rattle.luma.proofs.steps.skip.Tie as tie
 wrapping-add-u64-requires : tie.Need-wrapping-add-u64-requires
 wrapping-add-u64-requires c κs = search needs
 
-sub-t6 : tie.Need-sub-t6
-sub-t6 c = search needs
+sub-p : tie.Need-sub-p
+sub-p c = search needs
 
 returns : tie.Need-returns
 returns c = (refl, rw (c .before .wrapping-add-u64 .ensures))
 
 pub skip-spec : {M : Type 1} → statement M
-skip-spec = tie.close (tie.spec wrapping-add-u64-requires sub-t6 returns)
+skip-spec = tie.close (tie.spec wrapping-add-u64-requires sub-p returns)

@@ -1,7 +1,7 @@
 use native.Mathlib.Omega.{arith}
-use Rattle.luma.proofs.Posts.{not-placed, is-placed}
-use Rattle.luma.proofs.stored.placed.Statement.{statement}
-use Rattle.luma.proofs.stored.placed.Tie as tie
+use Rattle.luma_state.proofs.Kept.{not-placed, is-placed}
+use Rattle.luma_state.proofs.stored.placed.Statement.{statement}
+use Rattle.luma_state.proofs.stored.placed.Tie as tie
 
 returns : tie.Need-returns
 returns c = not-placed (λ h. omega (arith, h .few))

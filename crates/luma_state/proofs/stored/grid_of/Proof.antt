@@ -1,6 +1,6 @@
 use borrow.Author.Needs.{needs}
-use Rattle.luma.proofs.stored.grid_of.Statement.{statement}
-use Rattle.luma.proofs.stored.grid_of.Tie as tie
+use Rattle.luma_state.proofs.stored.grid_of.Statement.{statement}
+use Rattle.luma_state.proofs.stored.grid_of.Tie as tie
 
 sizes-of-requires : tie.Need-sizes-of-requires
 sizes-of-requires c κs = search needs

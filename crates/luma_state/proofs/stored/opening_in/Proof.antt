@@ -1,6 +1,6 @@
 use borrow.Author.Needs.{needs}
-use Rattle.luma.proofs.stored.opening_in.Statement.{statement}
-use Rattle.luma.proofs.stored.opening_in.Tie as tie
+use Rattle.luma_state.proofs.stored.opening_in.Statement.{statement}
+use Rattle.luma_state.proofs.stored.opening_in.Tie as tie
 
 element-copy-out-low : tie.Need-element-copy-out-low
 element-copy-out-low c = search needs

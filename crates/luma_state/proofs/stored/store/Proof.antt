@@ -1,7 +1,7 @@
-use Rattle.luma.proofs.Posts.{stored}
+use Rattle.luma_state.proofs.Kept.{stored}
 use borrow.Author.Needs.{needs}
-use Rattle.luma.proofs.stored.store.Statement.{statement}
-use Rattle.luma.proofs.stored.store.Tie as tie
+use Rattle.luma_state.proofs.stored.store.Statement.{statement}
+use Rattle.luma_state.proofs.stored.store.Tie as tie
 
 element-write-luma : tie.Need-element-write-luma
 element-write-luma c = search needs

@@ -20,8 +20,9 @@ use Rattle.luma_blocks.specs.Pixels.{RowsOf}
 use Rattle.luma_tiles.specs.Bins.{Counts}
 use Rattle.luma_changes.specs.declared.sums.Moves.{Moves}
 use Rattle.luma_changes.specs.Figures.{Figures}
-use Rattle.luma_rows.specs.declared.Grid.{Grid}
-use Rattle.luma_rows.specs.declared.Progress.{Progress}
+use Rattle.luma_state.specs.declared.Grid.{Grid}
+use Rattle.luma_state.specs.declared.Progress.{Progress}
+use Rattle.luma_state.specs.Layout.{wordCount, repeatsAt, scoresAt, changesAt}
 
 -- ---- the scalars
 
@@ -62,15 +63,29 @@ gridOf o = record { width = o .width; side = side o; columns = columns o; lines 
 abbrev pub movesIn : Progress → Moves
 movesIn s = record { up = s .ups; down = s .downs; squares = s .squares }
 
+-- what a grid's numbers may be: those of every opening that is not refused are such
+pub record Fits (g : Grid) : Type 0 where
+  pub some : 0 < g .side
+  pub few : g .side ≤ 32
+  pub wide : 15 ≤ g .columns
+  pub narrow : g .columns ≤ 239
+  pub high : 30 ≤ g .lines
+  pub low : g .lines ≤ 59
+  pub least : 15 ≤ g .width
+  pub most : g .width ≤ 1920
+  pub room : g .lines * g .columns ≤ 14101
+  pub rows : g .lines * g .side * g .width ≤ g .bytes
+  pub small : g .bytes ≤ 2088960
+
 -- ---- whole pictures, with the pixels pxs
 
 -- what the words hold: the opening, and of the pictures every cut score that is settled and every change, 0 elsewhere, and the map of repeats
 pub record Words (o : Opening) (pxs : List (List ℕ)) (luma : List ℕ) : Type 0 where
-  pub size : length luma ≡ 1600
+  pub size : length luma ≡ wordCount
   pub opening : openingIn luma ≡ o
-  pub scores : (i : ℕ) → i < 750 → getD luma (100 + i) 0 ≡ cutScore (map (histograms o) pxs) i
-  pub changes : (i : ℕ) → i < 750 → getD luma (850 + i) 0 ≡ getD (changes pxs) i 0
-  pub repeats : (j : ℕ) → j < 12 → getD luma (64 + j) 0 ≡ mapWord (repeats pxs) j
+  pub scores : (i : ℕ) → i < 750 → getD luma (scoresAt + i) 0 ≡ cutScore (map (histograms o) pxs) i
+  pub changes : (i : ℕ) → i < 750 → getD luma (changesAt + i) 0 ≡ getD (changes pxs) i 0
+  pub repeats : (j : ℕ) → j < 12 → getD luma (repeatsAt + j) 0 ≡ mapWord (repeats pxs) j
 
 -- the first place of picture i's histograms in the ring
 abbrev pub slot : ℕ → ℕ
@@ -132,7 +147,21 @@ pub data Stands (o : Opening) (s : Progress) (luma sums bins picture joined : Li
   refused : openingFault o orElse lumaFault o joined ≡ fault (s .status) (s .place) → 0 < s .status → Stands o s luma sums bins picture joined
   live : openingFault o ≡ none → Sane (gridOf o) s → Live (gridOf o) o s luma sums bins picture joined → Stands o s luma sums bins picture joined
 
+-- what the lent arrays stand for: the opening and the joined bytes
 pub record Means (luma sums bins picture : List ℕ) (o : Opening) (joined : List ℕ) : Type 0 where
-  pub size : length luma ≡ 1600
+  pub size : length luma ≡ wordCount
   pub opening : openingIn luma ≡ o
   pub stands : Stands o (loaded luma) luma sums bins picture joined
+
+-- ---- on the way through a piece
+
+-- the arrays, but for the scalars in the words, which are s
+pub record Holding (o : Opening) (s : Progress) (luma sums bins picture joined : List ℕ) : Type 0 where
+  pub size : length luma ≡ wordCount
+  pub opening : openingIn luma ≡ o
+  pub stands : Stands o s luma sums bins picture joined
+
+-- from one state of the arrays, by the bytes of chunk, to another, whatever the opening and the joined bytes
+abbrev pub Goes : Grid → Progress → List ℕ → List ℕ → List ℕ → List ℕ → List ℕ → Progress → List ℕ → List ℕ → List ℕ → List ℕ → Type 0
+Goes g s luma sums bins picture chunk r luma′ sums′ bins′ picture′ =
+    (o : Opening) (joined : List ℕ) → Live g o s luma sums bins picture joined → Live g o r luma′ sums′ bins′ picture′ (joined ++ chunk)

@@ -10,22 +10,24 @@ use mathlib.Core.Bool.{Bool}
 use lib.ListN.{length, getD, set, replicate, length-set, length-replicate}
 use lib.Seq.{getD-set-other, drop-nil}
 use Rattle.rules.specs.declared.Opening.{Opening}
-use Rattle.rules.specs.declared.Answer.the-variants.{Done, Refused}
 use Rattle.rules.specs.Bytes.{tally, parts, count, All}
-use Rattle.rules.specs.Refusals.{none, answer}
-use Rattle.rules.specs.Opening.{openingFault, openAnswer, side, columns}
+use Rattle.rules.specs.Refusals.{none}
+use Rattle.rules.specs.Opening.{openingFault, side, columns}
 use Rattle.rules.specs.Pictures.{pictureSize}
 use Rattle.rules.specs.Histograms.{histograms}
 use Rattle.rules.specs.Cuts.{cutScore}
 use Rattle.rules.specs.Changes.{repeats, changes}
 use Rattle.luma_laws.specs.Past.{previous, lastFrom, ones, mapWord}
 use Rattle.figures.specs.Opening.{numbered, OpeningFault}
-use Rattle.luma_rows.specs.declared.Progress.{Progress}
-use Rattle.luma_rows.specs.State.{openingIn, gridOf, slot, Words, drawing, Live, refused, live}
-use Rattle.luma_rows.specs.Contract.{Fits}
-use Rattle.luma.specs.Contract.{OpenPost}
-use Rattle.luma_picture.proofs.Ends.{still}
-use Rattle.luma.proofs.Posts.{fits-of}
+use Rattle.luma_changes.specs.Figures.{Figures}
+use Rattle.luma_state.specs.declared.Progress.{Progress}
+use Rattle.luma_state.specs.State.{Fits, Means, movesIn, openingIn, gridOf, slot, Words, drawing, Live, refused, live}
+use Rattle.luma_state.proofs.Kept.{fits-of}
+
+-- no pixel has moved
+pub still : (old : List ℕ) (s : Progress) → s .ups ≡ 0 → s .downs ≡ 0 → s .squares ≡ 0 → Figures old [] (movesIn s)
+unfolding tally
+still old s a b c = record { up = rw a; down = rw b; both = rw c }
 
 -- a list of zeros, read anywhere
 pub Zeros : List ℕ → Type 0
@@ -135,34 +137,27 @@ module _ (o : Opening) (f : ℕ) (small : Small o) where
   opening-in : openingIn (openedWords o f) ≡ o
   opening-in = rw (mod-eq-of-lt (small .width), mod-eq-of-lt (small .height), mod-eq-of-lt (small .time), mod-eq-of-lt (small .pid))
 
-  pub opened-post : OpeningFault o f → f ≡ 0 → OpenPost o (Done 0) (openedWords o f) (replicate 240 0) (replicate 720 0) (replicate 14104 0)
-  unfolding openAnswer
-  opened-post w z =
+  pub opened-live : OpeningFault o f → f ≡ 0 → Means (openedWords o f) (replicate 240 0) (replicate 720 0) (replicate 14104 0) o []
+  opened-live w z =
       let e : openingFault o ≡ none = w .shown ∙ ap numbered z in
       let fits = fits-of o e in
       record {
-        answer = rw e;
-        means = record {
-          size = size;
-          opening = opening-in;
-          stands = rw z
-              (live e
-              (record {
-                few = omega arith;
-                line = omega arith;
-                row = λ h. fits .some;
-                col = λ h. omega (arith, fits .least);
-                left = λ h. absurd (omega (arith, fits .high));
-              })
-              (open-live o fits (rw z at (no-words o (openedWords o f) size opening-in behind)) (length-replicate {A = ℕ} 240 0) (length-replicate {A = ℕ} 720 0) (length-replicate {A = ℕ} 14104 0) (zeros 240) (zeros 720) (zeros 14104)));
-        };
+        size = size;
+        opening = opening-in;
+        stands = rw z
+            (live e
+            (record {
+              few = omega arith;
+              line = omega arith;
+              row = λ h. fits .some;
+              col = λ h. omega (arith, fits .least);
+              left = λ h. absurd (omega (arith, fits .high));
+            })
+            (open-live o fits (rw z at (no-words o (openedWords o f) size opening-in behind)) (length-replicate {A = ℕ} 240 0)
+            (length-replicate {A = ℕ} 720 0) (length-replicate {A = ℕ} 14104 0) (zeros 240) (zeros 720) (zeros 14104)));
       }
 
-pub refused-post : (o : Opening) (f : ℕ) → Small o → OpeningFault o f → (f ≡ 0 → ⊥) → OpenPost o (Refused f 0) (openedWords o f) (replicate 240 0) (replicate 720 0) (replicate 14104 0)
-unfolding openAnswer
-refused-post o zero small w n = absurd (n refl)
-refused-post o (suc k) small w n =
-    record {
-      answer = rw (w .shown);
-      means = record { size = size o (suc k) small; opening = opening-in o (suc k) small; stands = refused (rw (w .shown)) (omega arith) };
-    }
+pub opened : (o : Opening) (f : ℕ) → Small o → OpeningFault o f → Means (openedWords o f) (replicate 240 0) (replicate 720 0) (replicate 14104 0) o []
+opened o zero small w = opened-live o 0 small w refl
+opened o (suc k) small w =
+    record { size = size o (suc k) small; opening = opening-in o (suc k) small; stands = refused (rw (w .shown)) (omega arith) }

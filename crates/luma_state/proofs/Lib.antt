@@ -1,0 +1,3 @@
+-- What the functions' proofs stand on.
+pub mod Kept
+pub mod Opens
