@@ -1,9 +1,34 @@
+# make carolsedge builds the command; make install PREFIX=.. puts it in place with the library, its header and the man pages;
 # make demo measures a stored sample and shows its record; make test runs the gate, and nothing else; make bench prints speeds.
-.PHONY: demo test bench
+.PHONY: carolsedge install demo test bench
+
+archive = target/staticlib/libcarolsedge.a
+version = $(shell sed -n 's/^version = "\(.*\)"/\1/p' command/Cargo.toml)
+PREFIX ?= /usr/local
+place = $(DESTDIR)$(abspath $(PREFIX))
+
+carolsedge: $(archive)
+	CARGO_TARGET_DIR=$(CURDIR)/target/cargo CAROLSEDGE_LIB_DIR=$(CURDIR)/target/staticlib \
+	  cargo build --quiet --release --offline --manifest-path command/Cargo.toml
+	install -D -m 755 target/cargo/release/carolsedge target/bin/carolsedge
+
+# The library is built only once it is proved, which takes some minutes on a fresh clone.
+$(archive): $(shell find crates -name '*.rt')
+	rt staticlib carolsedge
+
+install: carolsedge
+	install -D -m 755 target/bin/carolsedge $(place)/bin/carolsedge
+	install -D -m 644 include/carolsedge.h $(place)/include/carolsedge.h
+	install -D -m 644 $(archive) $(place)/lib/libcarolsedge.a
+	install -d $(place)/lib/pkgconfig $(place)/share/man/man1
+	sed 's|@PREFIX@|$(abspath $(PREFIX))|; s|@VERSION@|$(version)|' command/carolsedge.pc.in \
+	  >$(place)/lib/pkgconfig/carolsedge.pc
+	install -m 644 command/man/*.1 $(place)/share/man/man1
 
 # The programs are built only once they are proved, which takes some minutes on a fresh clone.
 demo:
 	rt check measure show
+	rm -f target/clip.record
 	target/bin/measure 64 48 40000 256 tests/streams/clip.pcap tests/streams/clip.y target/clip.record
 	target/bin/show < target/clip.record
 

@@ -1,6 +1,6 @@
 /* measure W H D PID CAPTURE LUMA: measures a sample and prints its record, as the programs measure and show do together.
  *
- * Exit status: 0 printed, 1 refused (`refused NUMBER PLACE` on standard output), 2 usage or a file that cannot be read.
+ * Exit status: 0 printed, 1 refused (`refused NUMBER PLACE` on standard output), 2 usage, or a file or standard output that fails.
  *
  *   cc -std=c11 -Iinclude examples/c/measure.c target/staticlib/libcarolsedge.a -o target/measure-c
  */
@@ -34,10 +34,16 @@ static int failed(const char *name)
     return 2;
 }
 
+/* What was printed may still be on its way: only now is it known whether standard output takes it. */
+static int printed(int status)
+{
+    return fflush(stdout) != 0 || ferror(stdout) ? failed("standard output") : status;
+}
+
 static int refused(uint32_t number, uint64_t place)
 {
     printf("refused %" PRIu32 " %" PRIu64 "\n", number, place);
-    return 1;
+    return printed(1);
 }
 
 typedef uint32_t feed(struct carolsedge_sample *, const uint8_t *, size_t, uint64_t *);
@@ -87,7 +93,7 @@ static int print_record(const uint8_t *record, size_t length)
         print_unit(j, &u);
     for (size_t j = 0; carolsedge_read_scene(record, length, j, &s) == CAROLSEDGE_DONE; j++)
         print_scene(j, &s);
-    return 0;
+    return printed(0);
 }
 
 int main(int words, char **word)

@@ -1,31 +1,45 @@
 //! measure W H D PID CAPTURE LUMA: measures a sample and prints its record, as the programs measure and show do together.
+//!
+//! Exit status: 0 printed, 1 refused (`refused NUMBER PLACE` on standard output), 2 usage, or a file or standard output that fails.
 use carolsedge::{Opening, Record, Refusal, Sample, RECORD_MOST};
-use std::error::Error;
 use std::fs::File;
-use std::io::Read;
+use std::io::{self, Read, Write};
 use std::process::ExitCode;
 
 const USAGE: &str = "usage: measure W H D PID CAPTURE LUMA (D: microseconds a picture)";
 
+// Why there is no record.
+enum Stop {
+    Refused(Refusal),
+    Failed(String),
+}
+
+impl From<Refusal> for Stop {
+    fn from(refusal: Refusal) -> Stop {
+        Stop::Refused(refusal)
+    }
+}
+
+fn failed(name: &str) -> impl Fn(io::Error) -> Stop + '_ {
+    move |e| Stop::Failed(format!("{name}: {e}"))
+}
+
 // Hands a file on piece by piece. A refusal is kept by the sample: its seal repeats it.
-fn feed(
-    name: &str,
-    mut side: impl FnMut(&[u8]) -> Result<usize, Refusal>,
-) -> Result<(), Box<dyn Error>> {
-    let say = |e| format!("{name}: {e}");
-    let mut file = File::open(name).map_err(say)?;
+fn feed(name: &str, mut side: impl FnMut(&[u8]) -> Result<usize, Refusal>) -> Result<(), Stop> {
+    let mut file = File::open(name).map_err(failed(name))?;
     let mut piece = vec![0; 65536];
     loop {
-        match file.read(&mut piece).map_err(say)? {
+        match file.read(&mut piece).map_err(failed(name))? {
             0 => return Ok(()),
             n => drop(side(&piece[..n])),
         }
     }
 }
 
-fn print(record: Record) {
+fn print(record: Record, mut out: impl Write) -> io::Result<()> {
     let h = record.header();
-    println!(
+    writeln!(
+        out,
         "sample {} {} {} {} {} {} {} {} {:016X}",
         h.width,
         h.height,
@@ -36,26 +50,30 @@ fn print(record: Record) {
         h.skipped,
         h.bad,
         h.index.to_bits()
-    );
+    )?;
     for (j, u) in record.units().enumerate() {
-        println!(
+        writeln!(
+            out,
             "unit {j} {} {} {} {} {}",
             u.least, u.greatest, u.size, u.packets, u.lost
-        );
+        )?;
     }
     for (j, s) in record.scenes().enumerate() {
-        println!(
+        writeln!(
+            out,
             "scene {j} {} {} {} {} {} {} {}",
             s.first, s.pictures, s.repeated, s.longest, s.score, s.peak, s.change
-        );
+        )?;
     }
+    out.flush()
 }
 
-fn measure(words: &[String]) -> Result<(), Box<dyn Error>> {
+fn measure(words: &[String]) -> Result<(), Stop> {
+    let usage = || Stop::Failed(USAGE.into());
     let [width, height, time, pid, capture, luma] = words else {
-        return Err(USAGE.into());
+        return Err(usage());
     };
-    let number = |word: &String| word.parse().map_err(|_| USAGE);
+    let number = |word: &String| word.parse().map_err(|_| usage());
     let mut sample = Sample::open(Opening {
         width: number(width)?,
         height: number(height)?,
@@ -66,17 +84,24 @@ fn measure(words: &[String]) -> Result<(), Box<dyn Error>> {
     feed(luma, |piece| sample.feed_luma(piece))?;
     let mut buffer = [0; RECORD_MOST];
     let length = sample.seal(&mut buffer)?;
-    print(Record::read(&buffer[..length])?);
-    Ok(())
+    let record = Record::read(&buffer[..length])?;
+    let out = io::BufWriter::new(io::stdout().lock());
+    print(record, out).map_err(failed("standard output"))
 }
 
 fn main() -> ExitCode {
     let words: Vec<String> = std::env::args().skip(1).collect();
-    match measure(&words) {
-        Ok(()) => ExitCode::SUCCESS,
-        Err(e) => {
-            eprintln!("{e}");
-            ExitCode::FAILURE
+    let said = match measure(&words) {
+        Ok(()) => return ExitCode::SUCCESS,
+        Err(Stop::Failed(said)) => said,
+        Err(Stop::Refused(Refusal { number, place })) => {
+            match writeln!(io::stdout(), "refused {number} {place}") {
+                Ok(()) => return ExitCode::from(1),
+                Err(e) => format!("standard output: {e}"),
+            }
         }
-    }
+    };
+    // Where standard error cannot be written there is nobody to tell.
+    let _ = writeln!(io::stderr(), "measure: {said}");
+    ExitCode::from(2)
 }

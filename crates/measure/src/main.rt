@@ -1,6 +1,7 @@
 // measure W H D PID CAPTURE LUMA RECORD: a capture and luma pictures go in, a record comes out.
 //
-// CAPTURE and LUMA are files; one of them may be `-`, standard input. Prints `sealed LENGTH` and writes RECORD, or prints `refused NUMBER PLACE` and writes no file.
+// CAPTURE and LUMA are files; one of them may be `-`, standard input. Prints `sealed LENGTH` and writes RECORD, or prints
+// `refused NUMBER PLACE` and writes no file. A RECORD that stands already is left alone, and then nothing is read.
 mod arguments;
 mod side;
 mod write;
@@ -63,8 +64,11 @@ fn seal(capture: &[u64; 3840], luma: &[u64; 1600], name: &[u8]) {
     }
 }
 
-// Opens a sample, feeds both sides and seals.
+// Opens a sample, feeds both sides and seals, if the record has a place to go to.
 fn measure(o: Opening, capture_name: &[u8], luma_name: &[u8], record_name: &[u8]) {
+    if !write::is_free(record_name) {
+        return;
+    }
     let mut capture = [0u64; 3840];
     let mut luma = [0u64; 1600];
     let mut sums = [0u32; 240];

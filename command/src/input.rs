@@ -1,0 +1,69 @@
+//! A file that is read, or standard input.
+use crate::stop::Stop;
+use std::ffi::OsStr;
+use std::fs::{File, Metadata};
+use std::io::{self, ErrorKind, Read};
+use std::os::fd::AsFd;
+use std::os::unix::fs::MetadataExt;
+
+/// A file by device and number, whatever its names are.
+#[derive(Clone, Copy, PartialEq)]
+pub struct Identity(u64, u64);
+
+impl Identity {
+    pub fn of(file: &Metadata) -> Identity {
+        Identity(file.dev(), file.ino())
+    }
+}
+
+pub struct Input {
+    name: String,
+    file: File,
+    identity: Identity,
+    length: Option<u64>,
+}
+
+impl Input {
+    /// Opens a file, or standard input for `-`.
+    pub fn open(word: &OsStr) -> Result<Input, Stop> {
+        let name = match word == "-" {
+            true => "standard input".to_string(),
+            false => word.to_string_lossy().into_owned(),
+        };
+        let opened = opened(word).and_then(|file| Ok((file.metadata()?, file)));
+        let (about, file) = opened.map_err(|error| Stop::file(&name, &error))?;
+        let length = about.is_file().then(|| about.len());
+        Ok(Input { name, file, identity: Identity::of(&about), length })
+    }
+
+    pub fn name(&self) -> &str {
+        &self.name
+    }
+
+    pub fn identity(&self) -> Identity {
+        self.identity
+    }
+
+    /// How many bytes it has, where that is known.
+    pub fn length(&self) -> Option<u64> {
+        self.length
+    }
+
+    /// Fills the front of the piece, and gives how many bytes came; 0 at the end.
+    pub fn read(&mut self, piece: &mut [u8]) -> Result<usize, Stop> {
+        loop {
+            match self.file.read(piece) {
+                Ok(n) => return Ok(n),
+                Err(error) if error.kind() == ErrorKind::Interrupted => {}
+                Err(error) => return Err(Stop::file(&self.name, &error)),
+            }
+        }
+    }
+}
+
+fn opened(word: &OsStr) -> io::Result<File> {
+    if word == "-" {
+        return Ok(File::from(io::stdin().as_fd().try_clone_to_owned()?));
+    }
+    File::open(word)
+}

@@ -1,0 +1,84 @@
+//! carolsedge measure: a capture and pictures go in, a record comes out.
+mod asked;
+mod files;
+mod look;
+mod progress;
+mod stream;
+mod telling;
+mod walk;
+mod y4m;
+
+use crate::input::Input;
+use crate::output;
+use crate::record_file::RecordFile;
+use crate::stop::Stop;
+use crate::Subcommand;
+use asked::Asked;
+use carolsedge::{Record, Sample, RECORD_MOST};
+use std::ffi::OsString;
+use walk::Walk;
+
+pub const SUBCOMMAND: Subcommand =
+    Subcommand { name: "measure", summary: "measure a capture and its pictures into a record", help: HELP, run };
+
+const HELP: &str = "\
+usage: carolsedge measure CAPTURE [PICTURES] -o RECORD --pid PID [options]
+
+Measures a capture and its pictures into a record. Prints `sealed LENGTH`, or
+`refused NUMBER PLACE` and, on standard error, why.
+
+  CAPTURE      a libpcap file of Ethernet frames, or - for standard input
+  PICTURES     a .y4m file, or raw 8-bit luma (with --size and a time), or - for
+               standard input; without PICTURES ffmpeg decodes the capture
+  -o RECORD    where the record goes: a new file, or in place of a regular file
+               that is neither CAPTURE nor PICTURES
+  --pid PID    the identifier of the video's packets
+  --size WxH   width and height of a picture
+  --time US    microseconds that a picture is shown
+  --rate N[/D] pictures a second, in place of --time: 25, 30000/1001
+
+Numbers may also be hexadecimal, as 0x100. Only 8-bit luma is measured; of a
+y4m file's pictures the luma plane is taken, and its rate unless one is given.
+
+Exit status: 0 sealed, 1 refused, 2 wrong words or a file's error.
+";
+
+/// Bytes that are read and fed at once.
+const PIECE: usize = 1 << 17;
+
+/// A sample that was fed both sides, and what was noticed meanwhile.
+pub struct Measured {
+    sample: Sample,
+    walk: Walk,
+    /// Whether the pictures were raw luma, which says nothing of itself.
+    raw: bool,
+    doubts: Vec<String>,
+}
+
+fn run(words: Vec<OsString>) -> Result<(), Stop> {
+    let asked = Asked::read(words)?;
+    let capture = Input::open(&asked.capture)?;
+    let pictures = asked.pictures.as_deref().map(Input::open).transpose()?;
+    let inputs = [Some(&capture), pictures.as_ref()].into_iter().flatten();
+    let inputs = inputs.map(|input| (input.identity(), input.name().to_string())).collect();
+    let record = RecordFile::new(&asked.record, inputs)?;
+    let measured = match pictures {
+        Some(pictures) => files::measure(&asked, capture, pictures)?,
+        None => stream::measure(&asked, capture)?,
+    };
+    seal(&asked, &measured, &record)
+}
+
+fn seal(asked: &Asked, measured: &Measured, file: &RecordFile) -> Result<(), Stop> {
+    let mut buffer = [0; RECORD_MOST];
+    let sealed = measured.sample.seal(&mut buffer);
+    let length = sealed.map_err(|refusal| {
+        let found = telling::refused(&refusal, asked.pid, measured);
+        Stop::refused(refusal, found)
+    })?;
+    let bytes = &buffer[..length];
+    file.write(bytes)?;
+    let record = Record::read(bytes).map_err(|refusal| Stop::refused(refusal, Vec::new()))?;
+    telling::sealed(&record.header(), measured);
+    output::print(&format!("sealed {length}\n"))
+}

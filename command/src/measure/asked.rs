@@ -1,0 +1,115 @@
+//! What `carolsedge measure` is asked for.
+use super::y4m::Heading;
+use crate::output;
+use crate::stop::Stop;
+use crate::words::{number, Words};
+use carolsedge::Opening;
+use std::ffi::OsString;
+
+/// How long a picture is shown.
+#[derive(Clone, Copy)]
+enum Time {
+    Microseconds(u32),
+    /// Pictures a second: number and divisor.
+    Rate(u32, u32),
+}
+
+pub struct Asked {
+    pub capture: OsString,
+    pub pictures: Option<OsString>,
+    pub record: OsString,
+    pub pid: u32,
+    size: Option<(u32, u32)>,
+    time: Option<Time>,
+}
+
+impl Asked {
+    pub fn read(words: Vec<OsString>) -> Result<Asked, Stop> {
+        let usage = |text: &str| Err(Stop::Usage(text.into()));
+        let words = Words::part(words, &["-o", "--size", "--time", "--rate", "--pid"], &[])?;
+        let mut plain = words.plain(&["CAPTURE", "PICTURES"], 1)?;
+        let size = words.read("--size", size, "WIDTHxHEIGHT, as 1920x1080")?;
+        let time = words.read("--time", number, "a number of microseconds")?.map(Time::Microseconds);
+        let rate = words.read("--rate", rate, "pictures a second, as 25 or 30000/1001")?;
+        let pid = words.read("--pid", number, "a packet identifier")?;
+        let Some(record) = words.value("-o") else {
+            return usage("-o RECORD is missing");
+        };
+        if record == "-" || record.is_empty() {
+            return usage(&format!("-o {}: not the name of a file", record.to_string_lossy()));
+        }
+        if time.is_some() && rate.is_some() {
+            return usage("--rate: --time is given too");
+        }
+        let Some(pid) = pid else {
+            return usage("--pid PID is missing: the identifier of the video's packets");
+        };
+        let (capture, pictures) = (plain[0].take().unwrap_or_default(), plain[1].take());
+        if capture == "-" && pictures.as_deref() == Some(capture.as_os_str()) {
+            return usage("-: CAPTURE and PICTURES cannot both be standard input");
+        }
+        Ok(Asked { capture, pictures, record: record.into(), pid, size, time: time.or(rate) })
+    }
+
+    /// The opening for pictures that say nothing of themselves.
+    pub fn opening(&self) -> Result<Opening, Stop> {
+        let Some((width, height)) = self.size else {
+            return Err(Stop::Usage("--size WxH is missing: raw luma does not say it".into()));
+        };
+        let Some(time) = self.time else {
+            return Err(Stop::Usage("--time or --rate is missing: raw luma does not say it".into()));
+        };
+        Ok(Opening { width, height, time: microseconds(time), pid: self.pid })
+    }
+
+    /// The opening for pictures with a heading. What the words say of the time prevails.
+    pub fn opening_with(&self, heading: &Heading) -> Result<Opening, Stop> {
+        let Heading { width, height, rate, .. } = *heading;
+        match self.size {
+            Some((w, h)) if (w, h) != (width, height) => {
+                return Err(Stop::Usage(format!("--size {w}x{h}: the pictures are {width}x{height}")));
+            }
+            _ => {}
+        }
+        let Some(time) = self.time.or(rate.map(|(number, divisor)| Time::Rate(number, divisor))) else {
+            return Err(Stop::Usage("--time or --rate is missing: the pictures do not say it".into()));
+        };
+        Ok(Opening { width, height, time: microseconds(time), pid: self.pid })
+    }
+
+    /// An opening for a stream of which no picture came: its seal says what is wrong with the capture.
+    pub fn opening_without(&self) -> Opening {
+        let (width, height) = self.size.unwrap_or((64, 48));
+        let time = microseconds(self.time.unwrap_or(Time::Microseconds(40_000)));
+        Opening { width, height, time, pid: self.pid }
+    }
+}
+
+/// `WxH`; either may be hexadecimal, so the x that parts them is one with a number on both sides.
+fn size(text: &str) -> Option<(u32, u32)> {
+    let parts = text.match_indices(['x', 'X']).map(|(at, _)| (number(&text[..at]), number(&text[at + 1..])));
+    parts.filter_map(|(width, height)| Some((width?, height?))).next()
+}
+
+/// `N` or `N/D`, both above 0.
+fn rate(text: &str) -> Option<Time> {
+    let (pictures, seconds) = text.split_once('/').unwrap_or((text, "1"));
+    let (pictures, seconds) = (number(pictures)?, number(seconds)?);
+    (pictures > 0 && seconds > 0).then_some(Time::Rate(pictures, seconds))
+}
+
+/// Microseconds a picture, the nearest whole number; says so where they had to be rounded.
+fn microseconds(time: Time) -> u32 {
+    let (pictures, seconds) = match time {
+        Time::Microseconds(time) => return time,
+        Time::Rate(pictures, seconds) => (u64::from(pictures), u64::from(seconds)),
+    };
+    let all = 1_000_000 * seconds;
+    let nearest = (2 * all + pictures) / (2 * pictures);
+    if all % pictures != 0 {
+        let exact = all as f64 / pictures as f64;
+        let rate = format!("{pictures}/{seconds} pictures a second");
+        output::say(&format!("{rate} are {exact:.3} microseconds each, rounded to {nearest}\n"));
+    }
+    u32::try_from(nearest).unwrap_or(u32::MAX)
+}

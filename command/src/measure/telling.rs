@@ -1,0 +1,105 @@
+//! What is said on standard error of a run: behind a seal what was measured and what looks doubtful; behind a refusal
+//! what was really found.
+use super::walk::Walk;
+use super::Measured;
+use crate::output::{count, grouped, say};
+use carolsedge::{Header, Refusal};
+
+/// Says what a sealed record holds, and warns where that may not be what was meant.
+pub fn sealed(header: &Header, measured: &Measured) {
+    let Header { units, pictures, frames, skipped, bad, .. } = *header;
+    let (units, pictures) = (units as u64, u64::from(pictures));
+    let both = format!("{} beside {}", count(pictures, "picture"), count(units, "unit"));
+    let skips = if skipped == 0 { "none".into() } else { grouped(skipped.into()) };
+    let frames = count(frames.into(), "frame");
+    say(&format!("{both}; {frames}, {skips} skipped; {}\n", count(bad.into(), "bad packet")));
+    if pictures != units {
+        say(&format!("warning: {both}: {}\n", differ(pictures, units, measured.raw)));
+    }
+    if skipped > 0 {
+        say(&format!("warning: {} of {frames} skipped: {}\n", grouped(skipped.into()), reasons(&measured.walk)));
+        tell(&mends(&measured.walk));
+    }
+    if bad > 0 {
+        let bad = count(bad.into(), "packet");
+        say(&format!("warning: {bad} without 0x47 at the beginning: damaged, or no transport stream\n"));
+    }
+    for doubt in &measured.doubts {
+        say(&format!("warning: {doubt}\n"));
+    }
+}
+
+fn tell(lines: &[String]) {
+    for line in lines {
+        say(&format!("  {line}\n"));
+    }
+}
+
+/// What it may be that there are not as many pictures as units.
+fn differ(pictures: u64, units: u64, raw: bool) -> &'static str {
+    let near = |twice: u64| raw && (2 * pictures).abs_diff(twice * units) <= twice;
+    if near(3) {
+        "half as many again; there may be chroma too (yuv420p): ffmpeg -vf extractplanes=y gives the luma alone"
+    } else if near(4) {
+        "twice as many; samples may have two bytes each (10 bits), or there may be chroma too (yuv422p)"
+    } else if near(6) {
+        "three times as many; there may be chroma too (yuv444p): ffmpeg -vf extractplanes=y gives the luma alone"
+    } else if pictures < units {
+        "units before the first key frame give no picture, nor do lost ones and second fields; see that the \
+         pictures are those of the captured time"
+    } else {
+        "see that the pictures are those of the captured time, and that the decoder doubled none \
+         (ffmpeg -fps_mode passthrough)"
+    }
+}
+
+/// The skipped frames by reason: `2 not IPv4, 1 RTP`.
+fn reasons(walk: &Walk) -> String {
+    let all = walk.skipped().map(|(frames, _, words, _)| format!("{} {words}", grouped(frames)));
+    all.collect::<Vec<_>>().join(", ")
+}
+
+/// What mends each reason that may have cost packets.
+fn mends(walk: &Walk) -> Vec<String> {
+    let all = walk.skipped().filter(|reason| !reason.3.is_empty());
+    all.map(|(_, _, words, mends)| format!("{words}: {mends}")).collect()
+}
+
+/// What was found about a refused seal; nothing where the table says it all.
+pub fn refused(refusal: &Refusal, pid: u32, measured: &Measured) -> Vec<String> {
+    match refusal.number {
+        12 => no_packet(pid, &measured.walk),
+        14 if !measured.doubts.is_empty() => measured.doubts.clone(),
+        _ => Vec::new(),
+    }
+}
+
+/// Why there is no packet of the identifier.
+fn no_packet(pid: u32, walk: &Walk) -> Vec<String> {
+    let skipped: u64 = walk.skipped().map(|reason| reason.0).sum();
+    let identifiers = walk.identifiers();
+    if walk.carrying() == 0 {
+        if skipped == 0 {
+            return vec!["The capture has no frames: was there traffic, and did tcpdump's filter let it pass?".into()];
+        }
+        let frames = count(skipped, "frame");
+        let mut lines = vec![format!("No frame carries transport packets. Of {frames}: {}.", reasons(walk))];
+        lines.extend(mends(walk).iter().map(|line| format!("  {line}")));
+        return lines;
+    }
+    let frames = count(walk.carrying(), "frame");
+    if identifiers.is_empty() {
+        let bad = count(walk.bad(), "packet");
+        return vec![format!(
+            "All {bad} in {frames} are bad: none begins with 0x47, so this is no transport stream."
+        )];
+    }
+    let most = identifiers.iter().take(6).map(|(of, n)| format!("{of} ({})", count(*n, "packet")));
+    let most = most.collect::<Vec<_>>().join(", ");
+    let mut lines = vec![format!("No packet in {frames} has identifier {pid}. There are: {most}.")];
+    // Identifiers below 32 are tables, and 8191 fills gaps.
+    if let Some((likely, _)) = identifiers.iter().find(|(of, _)| (32..8191).contains(of)) {
+        lines.push(format!("Most likely: --pid {likely}"));
+    }
+    lines
+}

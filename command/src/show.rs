@@ -1,0 +1,78 @@
+//! carolsedge show: a record for people, or every figure of it for programs.
+mod date;
+mod page;
+mod tables;
+
+use crate::input::Input;
+use crate::output;
+use crate::stop::{Refused, Stop};
+use crate::words::Words;
+use crate::Subcommand;
+use carolsedge::{Record, Refusal, RECORD_MOST};
+use std::ffi::OsString;
+
+pub const SUBCOMMAND: Subcommand =
+    Subcommand { name: "show", summary: "show a record as a page, as lines, as JSON or as CSV", help: HELP, run };
+
+const HELP: &str = "\
+usage: carolsedge show RECORD [--lines | --json | --csv]
+
+Shows a record: a file, or - for standard input. Without an option it is a page
+for people, with times as dates (UTC) and seconds.
+
+  --lines      a line for the sample, each unit and each scene, the fields in
+               the record's order, as the program show prints them
+  --json       every figure, as one JSON object
+  --csv        every figure; a line's first field is sample, unit or scene, and
+               the first line of each kind names its figures
+
+Times are microseconds since 1970, the index is given with its 64 bits, scores
+are millionths, and changes hundredths. Lost packets are counted modulo 16, so
+there may have been more.
+
+Exit status: 0 shown, 1 refused, 2 wrong words or a file's error.
+";
+
+fn run(words: Vec<OsString>) -> Result<(), Stop> {
+    let words = Words::part(words, &[], &["--lines", "--json", "--csv"])?;
+    let plain = words.plain(&["RECORD"], 0)?;
+    let forms: Vec<_> = ["--lines", "--json", "--csv"].into_iter().filter(|form| words.has(form)).collect();
+    if let [first, second, ..] = forms[..] {
+        return Err(Stop::Usage(format!("{second}: {first} is given too")));
+    }
+    let mut input = Input::open(plain[0].as_deref().unwrap_or_default())?;
+    let bytes = read(&mut input)?;
+    let form = forms.first().copied();
+    let record = Record::read(&bytes).map_err(|refusal| refused(refusal, form))?;
+    output::print(&match form {
+        Some("--lines") => tables::lines(&record),
+        Some("--json") => tables::json(&record),
+        Some(_) => tables::csv(&record),
+        None => page::page(&record, input.name()),
+    })
+}
+
+/// All bytes, but no more than it takes to see that they are too many for a record.
+fn read(input: &mut Input) -> Result<Vec<u8>, Stop> {
+    let mut bytes = vec![0; RECORD_MOST + 1];
+    let mut length = 0;
+    while length < bytes.len() {
+        match input.read(&mut bytes[length..])? {
+            0 => break,
+            n => length += n,
+        }
+    }
+    bytes.truncate(length);
+    Ok(bytes)
+}
+
+/// A refused record; among lines the program show prints the number alone.
+fn refused(refusal: Refusal, form: Option<&str>) -> Stop {
+    match form {
+        Some("--lines") => {
+            let line = format!("refused {}\n", refusal.number);
+            Stop::Refused(Refused { line, refusal, found: Vec::new() })
+        }
+        _ => Stop::refused(refusal, Vec::new()),
+    }
+}

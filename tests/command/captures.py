@@ -1,0 +1,117 @@
+# Captures: what is said of frames that carry nothing, and of a capture without a packet of the identifier.
+import random
+import re
+import struct
+from common import capture, carrying, check, counted, ethernet, expect, good, ipv4, packets, proved, read, run, udp, write
+
+RAW = ["--size", "30x30", "--time", "40000", "--pid", "256"]
+
+
+def rtp(payload, kind=33):
+    return struct.pack(">BBHII", 0x80, kind, 7, 0, 0) + payload
+
+
+def vlan(payload):
+    return ethernet(0x8100, struct.pack(">HH", 5, 0x0800) + ipv4(udp(payload)))
+
+
+def ipv6(payload):
+    return ethernet(0x86DD, struct.pack(">IHBB", 0x60000000, 8 + len(payload), 17, 64) + bytes(32) + udp(payload))
+
+
+SEVEN = packets(7)
+ARP = ethernet(0x0806, bytes(46))
+# Each way in which frames with the stream in them carry nothing: frames, snap length, reason, what mends it.
+SKIPPED = {
+    "a VLAN tag": ([vlan(SEVEN)], 65535, "1 with a VLAN tag", "take the tag off"),
+    "IPv6": ([ipv6(SEVEN)], 65535, "1 IPv6", "only IPv4"),
+    "RTP": ([carrying(rtp(SEVEN))], 65535, "1 RTP", "12 bytes of RTP"),
+    "a short snap length": ([carrying(SEVEN)], 96, "1 cut short by the snap length", "tcpdump -s 0"),
+    "a very short snap length": ([carrying(SEVEN)], 30, "1 cut short by the snap length", "tcpdump -s 0"),
+    "packets of 204 bytes": ([carrying((SEVEN[:188] + bytes(16)) * 7)], 65535, "1 with packets of 204 bytes", "188 bytes"),
+    "1,472 bytes": ([carrying((SEVEN + SEVEN)[:1472])], 65535, "1 whose bytes are no multiple of 188", "pkt_size=1316"),
+    "fragments": ([ethernet(0x0800, ipv4(udp(SEVEN), fragment=0x2000))], 65535, "1 IPv4 fragments", "too long for the network"),
+    "no IPv4": ([ARP, ethernet(0x88CC, bytes(60))], 65535, "2 not IPv4", ""),
+    "TCP": ([ethernet(0x0800, ipv4(bytes(200), protocol=6))], 65535, "1 not UDP", ""),
+    "options": ([ethernet(0x0800, ipv4(bytes(4) + udp(SEVEN), first=0x46))], 65535, "1 with IPv4 options", ""),
+    "an empty datagram": ([carrying(b"")], 65535, "1 whose bytes are no multiple of 188", ""),
+}
+
+
+def named():
+    """A refusal 12, and a warning behind a seal, by what was really found."""
+    pictures = write("black.y", bytes(900))
+    words = ["measure", "capture.pcap", pictures, "-o", "record", *RAW]
+    for name, (frames, snap, reason, mends) in SKIPPED.items():
+        write("capture.pcap", capture(frames, snap))
+        said = ["refused 12", "No frame carries transport packets", reason, mends]
+        got = expect(name, 1, b"refused 12 0\n", said, *words)
+        check("--pid" not in got[2], name + ": a hint about the identifier: " + got[2])
+        write("capture.pcap", capture(frames, snap) + capture(good(1))[24:])
+        said = ["1 picture beside 1 unit", "warning: %d of %d frames skipped" % (len(frames), len(frames) + 1), reason, mends]
+        expect(name + " beside the stream", 0, b"sealed 128\n", said, *words)
+    write("capture.pcap", capture([]))
+    got = expect("no frames", 1, b"refused 12 0\n", ["The capture has no frames"], *words)
+    check("--pid" not in got[2], "no frames: a hint about the identifier")
+    write("capture.pcap", b"")
+    expect("nothing at all", 1, b"refused 11 0\n", ["cut short"], *words)
+    write("capture.pcap", capture([carrying(packets(7, sync=0x48))] * 3))
+    got = expect("all bad", 1, b"refused 12 0\n", ["All 21 packets in 3 frames are bad"], *words)
+    check("--pid" not in got[2], "all bad: a hint about the identifier")
+    others = [carrying(packets(7, pid=pid)) for pid in (0, 0, 0, 8191, 8191, 8191, 8191, 300, 300, 17)]
+    write("capture.pcap", capture(others))
+    said = ["No packet in 10 frames has identifier 256", "8191 (28 packets), 0 (21 packets), 300 (14 packets)", "Most likely: --pid 300"]
+    expect("another identifier", 1, b"refused 12 0\n", said, *words)
+    write("capture.pcap", capture(good(1) + [carrying(packets(2, sync=0))]))
+    expect("bad packets", 0, b"sealed 128\n", ["2 bad packets", "warning: 2 packets without 0x47"], *words)
+    whole = capture(good(1))
+    for name, data, line, said in (
+        ("big-endian", b"\xa1\xb2\xc3\xd4" + whole[4:], b"refused 5 3\n", "editcap -F pcap"),
+        ("nanoseconds", b"\x4d\x3c\xb2\xa1" + whole[4:], b"refused 5 3\n", "editcap -F pcap"),
+        ("another link", whole[:20] + b"\x71" + whole[21:], b"refused 6 23\n", "not -i any"),
+        ("microseconds", whole[:28] + struct.pack("<I", 10**6) + whole[32:], b"refused 7 31\n", "damaged"),
+        ("a frame's length", whole[:32] + struct.pack("<I", 65536) + whole[36:], b"refused 8 35\n", "damaged"),
+        ("cut short", whole[:1000], b"refused 11 1000\n", "cut short"),
+    ):
+        write("capture.pcap", data)
+        expect(name, 1, line, [said], *words)
+
+
+def mixed(pick):
+    """Frames of every kind, some with a byte changed."""
+    kinds = [frames[0] for frames, *_ in SKIPPED.values()] + good(3) + [carrying(packets(3, pid=300)), b"", bytes(41)]
+    frames = []
+    for _ in range(pick.randrange(1, 60)):
+        frame = bytearray(pick.choice(kinds))
+        if frame and pick.random() < 0.5:
+            at = pick.randrange(min(len(frame), 60))
+            frame[at] = pick.choice((0, 8, 0x45, 0x47, 17, frame[at] ^ 1, pick.getrandbits(8)))
+        frames.append(bytes(frame))
+    return capture(frames + good(1), pick.choice((65535, 65535, 300, 96)))
+
+
+def counts():
+    """On random captures the reasons add up to the record's count of skipped frames, which the library made."""
+    pictures = write("black.y", bytes(900))
+    sealed = 0
+    for seed in range(150):
+        write("capture.pcap", mixed(random.Random(seed)))
+        status, out, err = run("measure", "capture.pcap", pictures, "-o", "record", *RAW)
+        if status == 1:
+            check(out == b"refused 12 0\n", "seed %d: %r" % (seed, out))
+            continue
+        record, line = proved(30, 30, 40000, 256, "capture.pcap", pictures)
+        check((out, read("record")) == (line, record), "seed %d: another record" % seed)
+        skipped = int.from_bytes(record[48:52], "little")
+        told = re.search(r"warning: .* skipped: (.*)", err)
+        reasons = sum(int(n) for n in re.findall(r"(?:^|, )(\d+) ", told.group(1))) if told else 0
+        check(reasons == skipped, "seed %d: %d frames skipped, reasons for %d" % (seed, skipped, reasons))
+        sealed += 1
+    check(sealed > 50, "only %d of the random captures were sealed" % sealed)
+    return sealed
+
+
+def test():
+    named()
+    sealed = counts()
+    return "captures: %d runs; on %d random captures the reasons add up to the skipped frames" % (counted(), sealed)

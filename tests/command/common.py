@@ -1,0 +1,165 @@
+# What the cases share: running the command, judging what it did, and making captures and y4m files.
+import os
+import shutil
+import struct
+import subprocess
+import sys
+import tempfile
+
+ROOT = os.path.dirname(os.path.dirname(os.path.dirname(os.path.abspath(__file__))))
+STREAMS = os.path.join(ROOT, "tests", "streams")
+PROGRAMS = {}
+
+
+def begin(folder):
+    PROGRAMS["carolsedge"] = os.path.join(ROOT, "target", "bin", "carolsedge")
+    for name in ("measure", "show"):
+        PROGRAMS[name] = os.path.join(os.path.abspath(folder), name)
+
+
+def fresh(test):
+    """Runs a file's cases in an empty folder."""
+    folder = tempfile.mkdtemp()
+    before = os.getcwd()
+    os.chdir(folder)
+    try:
+        return test()
+    finally:
+        os.chdir(before)
+        shutil.rmtree(folder)
+
+
+def fail(text):
+    print("command: FAILED: " + text, file=sys.stderr)
+    sys.exit(1)
+
+
+def check(holds, text):
+    if not holds:
+        fail(text)
+
+
+def run(*words, stdin=b"", program="carolsedge", **how):
+    """Exit status, standard output and standard error (as text)."""
+    done = subprocess.run([PROGRAMS[program], *words], input=stdin, capture_output=True, timeout=120, **how)
+    return done.returncode, done.stdout, done.stderr.decode(errors="replace")
+
+
+def expect(name, status, out, err, *words, **how):
+    """The run ends with this status, prints `out` (None: anything), and says each of `err`; [] is nothing at all."""
+    got = run(*words, **how)
+    detail = "%s: %s\nstatus %d, printed %r\nsaid %s" % (name, " ".join(map(str, words)), got[0], got[1][:300], got[2][:1500])
+    check(got[0] == status, "status %d wanted: %s" % (status, detail))
+    check(out is None or got[1] == out, "%r wanted: %s" % (out, detail))
+    check(err != [] or got[2] == "", "silence wanted: " + detail)
+    for part in err or []:
+        check(part in got[2], "%r wanted: %s" % (part, detail))
+    expect.count += 1
+    return got
+
+
+expect.count = 0
+
+
+def counted():
+    """How many runs were judged since the last time."""
+    n, expect.count = expect.count, 0
+    return n
+
+
+def read(name):
+    with open(name, "rb") as file:
+        return file.read()
+
+
+def write(name, data):
+    with open(name, "wb") as file:
+        file.write(data)
+    return name
+
+
+def stream(name, ending):
+    return os.path.join(STREAMS, name + ending)
+
+
+def proved(width, height, time, pid, capture, luma):
+    """The record that the proved program makes."""
+    if os.path.lexists("proved.record"):
+        os.remove("proved.record")
+    words = [str(width), str(height), str(time), str(pid), capture, luma, "proved.record"]
+    status, out, err = run(*words, program="measure")
+    check(out.startswith(b"sealed "), "the proved program: %s: %r %s" % (" ".join(words), out, err))
+    return read("proved.record"), out
+
+
+def same_record(name, record, made="record"):
+    check(read(made) == record, name + ": another record than the proved program's")
+    os.remove(made)
+
+
+# ---- captures
+
+PCAP = struct.pack("<IHHiIII", 0xA1B2C3D4, 2, 4, 0, 0, 65535, 1)
+
+
+def packets(n, pid=256, counter=0, sync=0x47):
+    """Transport packets, the first with a start mark."""
+    all = b""
+    for i in range(n):
+        head = bytes([sync, (0x40 if i == 0 else 0) | pid >> 8, pid & 255, 0x10 | (counter + i) % 16])
+        all += head + bytes(184)
+    return all
+
+
+def ethernet(kind, payload):
+    return bytes(12) + struct.pack(">H", kind) + payload
+
+
+def ipv4(payload, protocol=17, fragment=0, first=0x45):
+    return struct.pack(">BBHHHBBH4s4s", first, 0, 20 + len(payload), 0, fragment, 64, protocol, 0, bytes(4), bytes(4)) + payload
+
+
+def udp(payload):
+    return struct.pack(">HHHH", 5004, 5004, 8 + len(payload), 0) + payload
+
+
+def carrying(payload):
+    return ethernet(0x0800, ipv4(udp(payload)))
+
+
+def capture(frames, snap=65535):
+    """A libpcap file, a millisecond between frames."""
+    out = PCAP
+    for i, frame in enumerate(frames):
+        stored = frame[:snap]
+        out += struct.pack("<IIII", 10 + i // 1000, i % 1000 * 1000, len(stored), len(frame)) + stored
+    return out
+
+
+def good(frames):
+    """So many frames that carry a unit of seven packets each."""
+    return [carrying(packets(7, counter=7 * i)) for i in range(frames)]
+
+
+# ---- pictures
+
+CHROMA = {
+    "mono": lambda w, h: 0,
+    "420": lambda w, h: 2 * ((w + 1) // 2) * ((h + 1) // 2),
+    "411": lambda w, h: 2 * ((w + 3) // 4) * h,
+    "422": lambda w, h: 2 * ((w + 1) // 2) * h,
+    "444": lambda w, h: 2 * w * h,
+    "444alpha": lambda w, h: 3 * w * h,
+}
+for name in ("420jpeg", "420mpeg2", "420paldv"):
+    CHROMA[name] = CHROMA["420"]
+
+
+def y4m(luma, w, h, form="420jpeg", rate="25:1", more="Ip A1:1", line=b"FRAME\n"):
+    """A y4m file of this luma; its chroma bytes count upward."""
+    out = ("YUV4MPEG2 W%d H%d F%s %s%s\n" % (w, h, rate, more, " C" + form if form else "")).encode()
+    n = CHROMA[form or "420"](w, h)
+    chroma = bytes(i % 256 for i in range(n))
+    for at in range(0, len(luma), w * h):
+        out += line + luma[at : at + w * h] + chroma
+    return out

@@ -1,0 +1,39 @@
+# make install: the command, the library with its header, pkg-config's file and the man pages, all of them usable.
+import os
+import shutil
+import subprocess
+from common import PROGRAMS, ROOT, check, counted, expect, stream
+
+
+def done(*words, **how):
+    got = subprocess.run(words, capture_output=True, text=True, **how)
+    check(got.returncode == 0, "%s: %s" % (" ".join(words), got.stderr))
+    return got.stdout
+
+
+def test():
+    prefix = os.path.abspath("prefix")
+    done("make", "-s", "-C", ROOT, "install", "PREFIX=" + prefix)
+    places = sorted(os.path.relpath(os.path.join(at, name), prefix) for at, _, names in os.walk(prefix) for name in names)
+    wanted = ["bin/carolsedge", "include/carolsedge.h", "lib/libcarolsedge.a", "lib/pkgconfig/carolsedge.pc"]
+    pages = ["share/man/man1/" + name for name in os.listdir(os.path.join(ROOT, "command", "man"))]
+    check(places == sorted(wanted + pages), "installed: %s" % places)
+    flags = ["-I%s/include" % prefix, "-L%s/lib" % prefix, "-lcarolsedge"]
+    said = []
+    if shutil.which("pkg-config"):
+        asked = done("pkg-config", "--cflags", "--libs", "carolsedge", env=dict(os.environ, PKG_CONFIG_PATH=prefix + "/lib/pkgconfig"))
+        check(asked.split() == flags, "pkg-config says " + asked)
+    else:
+        said.append("pkg-config is not installed")
+    done("cc", "-std=c11", os.path.join(ROOT, "examples", "c", "measure.c"), *flags, "-o", "example")
+    done("./example", "64", "48", "40000", "256", stream("clip", ".pcap"), stream("clip", ".y"))
+    for name in pages if shutil.which("man") else []:
+        page = subprocess.run(["man", "--warnings", "-l", os.path.join(prefix, name)], capture_output=True, text=True)
+        check(page.returncode == 0 and not page.stderr and "EXIT STATUS" in page.stdout, name + ": " + page.stderr)
+    if not shutil.which("man"):
+        said.append("man is not installed")
+    PROGRAMS["installed"] = prefix + "/bin/carolsedge"
+    expect("installed", 0, None, [], "--version", program="installed")
+    done("make", "-s", "-C", ROOT, "install", "PREFIX=/usr", "DESTDIR=" + os.path.abspath("stage"))
+    check("prefix=/usr\n" in open("stage/usr/lib/pkgconfig/carolsedge.pc").read(), "DESTDIR does not stand before PREFIX")
+    return "install: %d files, of which a C program builds%s" % (len(places), "".join("; " + line for line in said))

@@ -1,0 +1,132 @@
+# Pictures: raw and y4m, from files and standard input, make the proved program's record byte for byte; doubtful ones are told.
+import os
+import random
+from common import CHROMA, check, counted, expect, good, proved, read, same_record, stream, write, y4m, capture
+
+RAW = ["--size", "64x48", "--time", "40000", "--pid", "256"]
+OUT = ["-o", "record"]
+
+
+def stored():
+    """Every stored stream, raw and as y4m, by name and on standard input."""
+    for line in open(stream("counts", ".txt")):
+        if line.startswith("#") or not line.strip():
+            continue
+        name, width, height, time, pid = line.split()[:5]
+        w, h, cap, luma = int(width), int(height), stream(name, ".pcap"), stream(name, ".y")
+        record, sealed = proved(w, h, time, pid, cap, luma)
+        words = [*OUT, "--pid", pid]
+        raw = [*words, "--size", "%sx%s" % (width, height), "--time", time]
+        file = write("pictures.y4m", y4m(read(luma), w, h, rate="%d:%d" % (1000000, int(time))))
+        for how, stdin, *given in (
+            ("raw", b"", cap, luma, *raw),
+            ("luma on standard input", read(luma), cap, "-", *raw),
+            ("capture on standard input", read(cap), "-", luma, *raw),
+            ("y4m", b"", cap, file, *words),
+            ("y4m on standard input", read(file), cap, "-", *words),
+            ("y4m with its own size", b"", cap, file, *words, "--size", "%sx%s" % (width, height)),
+        ):
+            expect(name + ", " + how, 0, sealed, [" beside "], "measure", *given, stdin=stdin)
+            same_record(name + ", " + how, record)
+
+
+def formats():
+    """Formats of y4m, also with sizes whose half is no whole number, and with more in heading and frame lines."""
+    cap = write("capture.pcap", capture(good(9)))
+    for w, h in ((64, 48), (31, 33), (30, 47)):
+        luma = random.Random(w).randbytes(9 * w * h)
+        record, sealed = proved(w, h, 40000, 256, cap, write("luma.y", luma))
+        for form in [*CHROMA, None]:
+            for line in (b"FRAME\n", b"FRAME Ip XCAROL\n"):
+                write("pictures.y4m", y4m(luma, w, h, form, line=line, more="Ip  A1:1 XYSCSS=420JPEG"))
+                name = "%s of %d x %d" % (form, w, h)
+                expect(name, 0, sealed, ["9 pictures beside 9 units"], "measure", cap, "pictures.y4m", *OUT, "--pid", "256")
+                same_record(name, record)
+    words = ["measure", cap, "pictures.y4m", *OUT, "--pid", "256"]
+    whole = y4m(bytes(9 * 900), 30, 30)
+    for form in ("420p10", "422p12", "444p16", "420p9", "mono10", "mono16", "mono12"):
+        write("pictures.y4m", whole.replace(b"C420jpeg", b"C" + form.encode()))
+        expect(form, 2, b"", ["pictures.y4m: its format is %s, deeper than 8 bits" % form, "format=gray"], *words)
+    for form in ("rgb", "yuyv", "420x"):
+        write("pictures.y4m", whole.replace(b"C420jpeg", b"C" + form.encode()))
+        expect(form, 2, b"", ["pictures.y4m: its format %s is not known" % form, "extractplanes=y"], *words)
+    for name, data, said in (
+        ("no frame line", whole.replace(b"FRAME\n", b"FRAMES\n"), "no line FRAME"),
+        ("half a frame line", whole.replace(b"FRAME\n", b"FRA\n"), "no line FRAME"),
+        ("no y4m", b"YUV4MPEG3 W30 H30\n", "no y4m file"),
+        ("nothing", b"", "no y4m file"),
+        ("no end of the heading", b"YUV4MPEG2 W30 H30 " + bytes(9000), "no y4m file"),
+        ("no number", whole.replace(b"W30", b"W3O"), "no number in W3O"),
+        ("a rate that is none", whole.replace(b"F25:1", b"F25"), "no number in F25"),
+    ):
+        write("pictures.y4m", data)
+        expect(name, 2, b"", ["pictures.y4m: ", said], *words)
+    write("pictures.y4m", whole.replace(b"F25:1", b"F0:0"))
+    expect("no rate", 2, b"", ["--time or --rate is missing"], *words)
+    expect("no rate but --rate", 0, None, None, *words, "--rate", "25")
+    expect("another size", 2, b"", ["--size 30x31: the pictures are 30x30"], *words, "--rate", "25", "--size", "30x31")
+    os.remove("record")
+    write("pictures.y4m", whole[:-700])
+    expect("cut inside the luma", 1, b"refused 13 7850\n", ["refused 13"], *words)
+    write("pictures.y4m", whole[:-100])
+    expect("cut inside the chroma", 0, None, ["warning: pictures.y4m ends inside a picture"], *words)
+
+
+def doubtful():
+    """What sealed without a word: chroma beside the luma, two bytes a sample, width and height changed over."""
+    cap, luma = stream("clip", ".pcap"), read(stream("clip", ".y"))
+    size = 64 * 48
+    planar = b"".join(luma[at : at + size] + bytes(size // 2) for at in range(0, 74 * size, size))
+    words = ["measure", cap, "pictures.y", *OUT]
+    write("pictures.y", planar)
+    expect("yuv420p", 0, None, ["111 pictures beside 75 units", "yuv420p"], *words, *RAW)
+    deep = b"".join((4 * byte).to_bytes(2, "little") for byte in luma)
+    write("pictures.y", deep)
+    expect("10 bits", 0, None, ["150 pictures beside 75 units", "two bytes each", "every second byte"], *words, *RAW)
+    for name in ("clip", "reduced", "dropped"):
+        w, h = (150, 122) if name == "reduced" else (64, 48)
+        write("pictures.y", read(stream(name, ".y")))
+        turned = ["--size", "%dx%d" % (h, w), "--time", "40000", "--pid", "257" if name == "reduced" else "256"]
+        words[1] = stream(name, ".pcap")
+        expect("turned", 0, None, ["is it --size %dx%d?" % (w, h)], *words, *turned)
+        right = ["--size", "%dx%d" % (w, h), *turned[2:]]
+        check("is it" not in expect("not turned", 0, None, None, *words, *right)[2], "a doubt about the right size")
+    write("pictures.y", bytes(75 * size))
+    words[1] = cap
+    check("warning" not in expect("black", 0, None, None, *words, *RAW)[2], "a doubt about black pictures")
+    write("pictures.y", luma[: 74 * size])
+    expect("a picture too few", 0, None, ["warning: 74 pictures beside 75 units", "key frame"], *words, *RAW)
+    write("pictures.y", luma + luma[:size])
+    expect("a picture too many", 0, None, ["warning: 76 pictures beside 75 units", "passthrough"], *words, *RAW)
+
+
+def refusals():
+    cap, luma = stream("clip", ".pcap"), stream("clip", ".y")
+    words = ["measure", cap, luma, "-o", "none", "--pid", "256", "--time", "40000"]
+    for name, number, *given in (
+        ("size", "1 0", *words, "--size", "640x29"),
+        ("far out", "1 0", *words, "--size", "4294967295x0"),
+        ("time", "2 0", *words[:-2], "--size", "64x48", "--time", "9999"),
+        ("a slow rate", "2 0", *words[:-2], "--size", "64x48", "--rate", "1"),
+        ("a rate of a picture in many years", "2 0", *words[:-2], "--size", "64x48", "--rate", "1/4294967295"),
+        ("PID", "3 0", *words[:4], "none", *words[7:], "--pid", "8192", "--size", "64x48"),
+        ("no capture", "5 3", "measure", luma, *words[2:], "--size", "64x48"),
+    ):
+        given = [*given[:3], "-o", "none", *[w for w in given[3:] if w not in ("-o", "none")]]
+        line = ("refused %s\n" % number).encode()
+        expect(name, 1, line, ["carolsedge measure: refused %s: " % number.split()[0]], *given)
+    write("long.y", bytes(64 * 48 * 750 + 1))
+    expect("751 pictures", 1, b"refused 10 2304000\n", ["750 pictures"], "measure", cap, "long.y", "-o", "none", *RAW)
+    write("cut.y", bytes(5000))
+    expect("inside a picture", 1, b"refused 13 5000\n", ["--size"], "measure", cap, "cut.y", "-o", "none", *RAW)
+    expect("no picture", 1, b"refused 14 0\n", ["extractplanes=y"], "measure", cap, "/dev/null", "-o", "none", *RAW)
+    check(not os.path.lexists("none"), "a refused run made a record")
+
+
+def test():
+    stored()
+    formats()
+    doubtful()
+    refusals()
+    return "pictures: %d runs: raw luma and %d formats of y4m make the proved program's records; doubts are told" % (
+        counted(), len(CHROMA) + 1)

@@ -1,0 +1,118 @@
+# show: the lines of the proved program, every figure as JSON and CSV, and a page for people.
+import csv
+import datetime
+import io
+import json
+import math
+import random
+import struct
+from common import check, counted, expect, proved, read, run, stream, write
+
+UNIT = ["least", "greatest", "size", "packets", "lost"]
+SCENE = ["first", "pictures", "repeated", "longest", "score", "peak", "change"]
+SAMPLE = ["width", "height", "time", "pid", "pictures", "frames", "skipped", "bad"]
+
+
+def made(pick, bits=None):
+    """An allowed record with figures from all over."""
+    units, scenes = pick.randint(1, 40), pick.randint(1, 9)
+    cuts = [0] + sorted(pick.sample(range(1, 700), scenes - 1)) + [700]
+    index = pick.getrandbits(64) if bits is None else bits
+    words = [1, 64 + 32 * (units + scenes), units, 64, scenes, 64 + 32 * units, 640, 480, 40000, 8191, 700, 2**32 - 1, pick.getrandbits(32), pick.getrandbits(32)]
+    out = struct.pack("<14IQ", *words, index)
+    for _ in range(units):
+        times = sorted(pick.getrandbits(pick.choice((20, 51, 64))) for _ in range(2))
+        cells = pick.randint(1, (2**32 - 1) // 184)
+        out += struct.pack("<QQ4I", *times, 184 * cells, cells, pick.getrandbits(32), 0)
+    for a, b in zip(cuts, cuts[1:]):
+        out += struct.pack("<8I", a, b - a, *(pick.getrandbits(32) for _ in range(5)), 0)
+    return out
+
+
+def figures(lines):
+    """The figures in the lines of the proved program."""
+    rows = [line.split() for line in lines.decode().splitlines()]
+    sample = dict(zip(SAMPLE, map(int, rows[0][1:9])), index_bits=rows[0][9])
+    unit = [dict(zip(UNIT, map(int, row[2:]))) for row in rows if row[0] == "unit"]
+    scene = [dict(zip(SCENE, map(int, row[2:]))) for row in rows if row[0] == "scene"]
+    return sample, unit, scene
+
+
+def same_json(name, text, sample, unit, scene):
+    got = json.loads(text)
+    index = got.pop("index")
+    bits = int(sample["index_bits"], 16)
+    value = struct.unpack("<d", struct.pack("<Q", bits))[0]
+    check(index == (value if math.isfinite(value) else None), "%s: index %s" % (name, index))
+    check((got.pop("units"), got.pop("scenes")) == (unit, scene), name + ": other rows in JSON")
+    check(got == sample, name + ": another sample in JSON")
+
+
+def same_csv(name, text, sample, unit, scene):
+    rows = list(csv.reader(io.StringIO(text.decode())))
+    for kind, names, want in (("sample", SAMPLE + ["index_bits"], [sample]), ("unit", UNIT, unit), ("scene", SCENE, scene)):
+        heading, *found = [row for row in rows if row[0] == kind]
+        check(all(len(row) == len(heading) for row in found), name + ": CSV rows of another length")
+        found = [dict(zip(heading[1:], row[1:])) for row in found]
+        check(len(found) == len(want), name + ": CSV has other rows")
+        for j, (a, b) in enumerate(zip(found, want)):
+            check(all(a[key] == str(b[key]) for key in names), "%s: CSV %s %d: %s" % (name, kind, j, a))
+            check(kind == "sample" or a["number"] == str(j), "%s: CSV number %s" % (name, a))
+
+
+def on_page(name, text, sample, unit, scene):
+    page = text.decode()
+    lines = page.splitlines()
+    check("(bits %s)" % sample["index_bits"] in page, name + ": no bits on the page")
+    first = min(row["least"] for row in unit)
+    at = 1 + next(i for i, line in enumerate(lines) if line.startswith("   No."))
+    for j, row in enumerate(unit):
+        words = lines[at + j].replace(",", "").split()
+        seconds = ["%d.%06d" % divmod(t, 10**6) for t in (row["least"] - first, row["greatest"] - row["least"])]
+        check(words[0] == str(j) and words[3:] == [*seconds, *(str(row[key]) for key in UNIT[2:])], "%s: page: %s" % (name, words))
+        if row["least"] < 2**51:
+            date = datetime.datetime(1970, 1, 1) + datetime.timedelta(microseconds=row["least"])
+            check(" ".join(words[1:3]) == date.strftime("%Y-%m-%d %H:%M:%S.%f"), "%s: page: %s" % (name, words))
+    at += 1 + next(i for i, line in enumerate(lines[at:]) if line.startswith("   No."))
+    for j, row in enumerate(scene):
+        words = lines[at + j].replace(",", "").split()
+        check(words[0] == str(j) and words[3:] == [str(row[key]) for key in SCENE], "%s: page: %s" % (name, words))
+
+
+def every_form(name, record):
+    write("record", record)
+    lines = run(program="show", stdin=record)[1]
+    expect(name, 0, lines, [], "show", "--lines", "record")
+    expect(name, 0, lines, [], "show", "-", "--lines", stdin=record)
+    told = figures(lines)
+    same_json(name, expect(name, 0, None, [], "show", "record", "--json")[1], *told)
+    same_csv(name, expect(name, 0, None, [], "show", "record", "--csv")[1], *told)
+    on_page(name, expect(name, 0, None, [], "show", "record")[1], *told)
+
+
+def broken():
+    whole = made(random.Random(1))
+    for name, data, number, said in (
+        ("nothing", b"", 16, "fewer than 64"), ("63 bytes", whole[:63], 16, "cut short"), ("another edition", b"\x09" + whole[1:], 17, "later program"),
+        ("one byte short", whole[:-1], 18, "altered or cut"), ("one byte long", whole + b"\0", 18, "altered or cut"), ("a capture", read(stream("clip", ".pcap")), 17, "no record"),
+    ):
+        write("record", data)
+        for words in (["record"], ["record", "--json"], ["record", "--csv"]):
+            expect(name, 1, b"refused %d 0\n" % number, ["carolsedge show: refused %d: " % number, said], "show", *words)
+        expect(name, 1, run(program="show", stdin=data)[1], ["refused %d" % number], "show", "record", "--lines")
+    expect("an endless file", 1, b"refused 17 0\n", None, "show", "/dev/zero")
+    expect("no file", 2, b"", ["nowhere: No such file or directory"], "show", "nowhere")
+    expect("a folder", 2, b"", [".: Is a directory"], "show", ".")
+
+
+def test():
+    for line in open(stream("counts", ".txt")):
+        if not line.startswith("#") and line.strip():
+            name, *opening = line.split()[:5]
+            every_form(name, proved(*opening, stream(name, ".pcap"), stream(name, ".y"))[0])
+    for seed in range(20):
+        every_form("seed %d" % seed, made(random.Random(seed)))
+    for bits in (0, 1, 0x7FF0000000000000, 0xFFF0000000000000, 0x7FF8000000000001, 0x8000000000000000, 0x4013D70A3D70A3D7, 0x7FEFFFFFFFFFFFFF):
+        every_form("bits %X" % bits, made(random.Random(9), bits))
+    broken()
+    return "show: %d runs: the proved program's lines, and every figure on the page, in JSON and in CSV" % counted()
