@@ -9,6 +9,9 @@ use borrow.Author.Tests.{lt-ltb}
 use Rattle.rules.specs.declared.Opening.{Opening}
 use Rattle.rules.specs.Pictures.{pictureSize, lumaFault}
 use Rattle.rules.specs.Bytes.{Bytes}
+use Rattle.rules.specs.Seal.{reduced}
+use Rattle.luma_laws.proofs.Past.{reduced-whole}
+use Rattle.luma_laws.proofs.Full.{size-some, full-reduced}
 use Rattle.luma_laws.proofs.Pictures.{bytes-append, bytes-take}
 use Rattle.luma_state.specs.declared.Grid.{Grid}
 use Rattle.luma_state.specs.declared.Progress.{Progress}
@@ -149,11 +152,18 @@ ran-over g s r q piece at f h n e o joined good same v =
     let long : length (joined ++ take at piece) ≡ length (w .whole) + length (w .cur) = ap length (w .split) ∙ length-append (w .whole) (w .cur) in
     let past : 750 * pictureSize o < length (joined ++ piece) =
     omega (arith, ap length split, length-append (joined ++ take at piece) (drop at piece), length-drop at piece, full, long) in
+    let none-open : w .cur ≡ [] = w .room n750 in
+    let short : length (w .cur) < pictureSize o = rw none-open (size-some o good) in
+    let there : 750 * pictureSize o ≤ length (joined ++ take at piece) = omega arith in
+    let all : w .pxs ≡ reduced o (joined ++ piece) =
+    w .reduced ∙ sym (reduced-whole o (length (w .pxs)) (w .whole) (w .cur) good (w .full) short (w .few)) ∙ ap (reduced o) (sym (w .split))
+    ∙ sym (full-reduced o good (joined ++ take at piece) (drop at piece) there) ∙ ap (reduced o) (sym split) in
     rw e
     (record {
       size = w .words .size;
       opening = w .words .opening;
-      stands = refused (rw (good, lt-ltb (750 * pictureSize o) (length (joined ++ piece)) past, b)) (omega arith);
+      stands = refused (rw (good, lt-ltb (750 * pictureSize o) (length (joined ++ piece)) past, b)) (omega arith)
+          (λ g. record { there = omega arith; pictures = n; fresh = rw all at (w .fresh); words = rw all at (w .words) });
     })
 
 -- ---- the rest of a piece, as a part of it

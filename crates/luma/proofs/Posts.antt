@@ -23,7 +23,7 @@ use Rattle.luma_state.specs.declared.Progress.{Progress}
 use Rattle.luma_state.specs.State.{loaded, openingIn, gridOf, Place, drawing, passing, Live, Sane, Stands, refused, live, Means, Fits, Holding}
 use Rattle.luma_state.specs.Contract.{Stored, Placed}
 use Rattle.luma.specs.Contract.{FeedPost, Ran, Replied}
-use Rattle.luma_state.proofs.Kept.{fits-of, means-stored}
+use Rattle.luma_state.proofs.Kept.{fits-of, full-more, means-stored}
 
 -- ---- the opening
 
@@ -83,12 +83,12 @@ fault-kept o s t k p h = go (openingFault o) h
 
 pub reply-stopped : (s : Progress) (n : ℕ) → (s .status ≡ 0 → ⊥) → Replied s n (Refused (s .status) (s .place))
 unfolding lumaAnswer
-reply-stopped s n h o luma sums bins picture joined (refused e k) = rw e
+reply-stopped s n h o luma sums bins picture joined (refused e k f) = rw e
 reply-stopped s n h o luma sums bins picture joined (live e sane v) = absurd (h (v .status))
 
 pub reply-done : (s : Progress) (n : ℕ) → s .status ≡ 0 → Replied s n (Done n)
 unfolding lumaAnswer
-reply-done s n h o luma sums bins picture joined (refused e k) = absurd (omega arith)
+reply-done s n h o luma sums bins picture joined (refused e k f) = absurd (omega arith)
 reply-done s n h o luma sums bins picture joined (live e sane v) = rw (e, no-fault o e sane v)
 
 -- ---- a feed
@@ -104,7 +104,7 @@ module _ {luma sums bins picture : List ℕ} (s : Progress) (is : s ≡ loaded l
   alive n o joined h = go (h .stands)
     where
       go : Stands o (loaded luma) luma sums bins picture joined → Alive s luma sums bins picture o joined
-      go (refused e k) = absurd (omega (arith, ap (λ (x : Progress). x .status) is))
+      go (refused e k f) = absurd (omega (arith, ap (λ (x : Progress). x .status) is))
       go (live e sane v) = record { good = e; sane = rw is sane; live = rw is v }
 
   pub wrong-opening : (f : ℕ) → s .status ≡ 0 → OpeningFault (openingIn luma) f → (f ≡ 0 → ⊥) → (o : Opening) (joined : List ℕ) → Means luma sums bins picture o joined → ⊥
@@ -132,7 +132,7 @@ module _ {luma sums bins picture piece : List ℕ} (s : Progress) (is : s ≡ lo
       }
     where
       still : (o : Opening) (joined : List ℕ) → Stands o (loaded luma) luma sums bins picture joined → Stands o (loaded luma) luma sums bins picture (joined ++ piece)
-      still o joined (refused e k) = refused (fault-kept o joined piece (getD luma 0 0) (getD luma 1 0) e) k
+      still o joined (refused e k f) = refused (fault-kept o joined piece (getD luma 0 0) (getD luma 1 0) e) k (λ g. full-more piece g (f g))
       still o joined (live e sane v) = absurd (n (ap (λ (x : Progress). x .status) is ∙ v .status))
 
   -- words that no call made

@@ -132,5 +132,5 @@ summarised luma s r is es el ef ei ep er sums bins picture o joined h =
     }
   where
     stands : 0 < r .status → Stands o (loaded luma) luma sums bins picture joined → openingFault o orElse lumaFault o joined ≡ fault (r .status) (r .place)
-    stands p (refused e k) = rw (es, el, is) e
+    stands p (refused e k f) = rw (es, el, is) e
     stands p (live e sane v) = absurd (omega (arith, es, ap (λ (x : Progress). x .status) is, v .status))

@@ -3,20 +3,21 @@ use Prim.Native.Nat.{ℕ, suc, _+_, _-_, _/_, _≤_}
 use native.Mathlib.Omega.{arith}
 use native.Mathlib.Nat.{mul-le-mul, mul-le-mul-right, mul-comm, div-mul-le-self}
 use mathlib.Core.Path.{_≡_, refl, ap, _∙_}
-use mathlib.Core.List.{List, [], _∷_}
+use mathlib.Core.List.{List, [], _∷_, _++_}
 use mathlib.Core.Bool.{true, false}
-use lib.ListN.{length, getD, set, length-set}
+use lib.ListN.{length, getD, set, length-append, length-set}
 use lib.Seq.{sets, sets-eq, getD-set-other}
 use Rattle.rules.specs.declared.Opening.{Opening}
-use Rattle.rules.specs.declared.Answer.{Answer}
 use Rattle.rules.specs.Refusals.{none}
 use Rattle.rules.specs.Opening.{openingFault, side, columns, lines, pixelCount}
 use Rattle.rules.specs.Pictures.{pictureSize}
 use Rattle.luma_laws.proofs.Blocks.{side-some}
+use Rattle.rules.specs.Seal.{reduced}
 use Rattle.luma_laws.proofs.Sizes.{good, sizes}
+use Rattle.luma_laws.proofs.Full.{full-reduced}
 use Rattle.luma_state.specs.declared.Grid.{Grid}
 use Rattle.luma_state.specs.declared.Progress.{Progress}
-use Rattle.luma_state.specs.State.{Holding, Fits, loaded, openingIn, gridOf, Words, Live, Sane, Stands, refused, live, Means}
+use Rattle.luma_state.specs.State.{Holding, Full, Fits, loaded, openingIn, gridOf, Words, Live, Sane, Stands, refused, live, Means}
 use Rattle.luma_state.specs.Contract.{Stored, Placed}
 
 -- ---- the sizes of an opening that is not refused
@@ -117,8 +118,15 @@ live-kept n k v =
 
 stands-kept : {o : Opening} {s : Progress} {w z sums bins picture joined : List ℕ} → length z ≡ length w → ((i : ℕ) → 12 ≤ i → getD z i 0 ≡ getD w i 0) →
     Stands o s w sums bins picture joined → Stands o s z sums bins picture joined
-stands-kept n k (refused e h) = refused e h
+stands-kept n k (refused e h f) =
+    refused e h (λ g. record { there = f g .there; pictures = f g .pictures; fresh = f g .fresh; words = words-kept n k (f g .words) })
 stands-kept n k (live e sane v) = live e sane (live-kept n k v)
+
+-- bytes behind 750 pictures
+pub full-more : {o : Opening} {s : Progress} {luma joined : List ℕ} (piece : List ℕ) → openingFault o ≡ none → Full o s luma joined → Full o s luma (joined ++ piece)
+full-more {o} {s} {luma} {joined} piece g f =
+    let same : reduced o (joined ++ piece) ≡ reduced o joined = full-reduced o g joined piece (f .there) in
+    record { there = simp length-append (omega (arith, f .there)); pictures = f .pictures; fresh = rw same (f .fresh); words = rw same (f .words) }
 
 pub means-stored : {o : Opening} {r : Progress} {w z sums bins picture joined : List ℕ} → Stored w r z → Holding o r w sums bins picture joined → Means z sums bins picture o joined
 means-stored {o} {r} {w} {z} st h =

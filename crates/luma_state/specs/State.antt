@@ -14,6 +14,7 @@ use Rattle.rules.specs.Pictures.{pictureSize, lumaFault, pixels}
 use Rattle.rules.specs.Histograms.{histograms}
 use Rattle.rules.specs.Cuts.{cutScore}
 use Rattle.rules.specs.Changes.{repeats, changes}
+use Rattle.rules.specs.Seal.{reduced}
 use Rattle.luma_laws.specs.Past.{previous, mapWord}
 use Rattle.luma_blocks.specs.Rows.{SumsOf}
 use Rattle.luma_blocks.specs.Pixels.{RowsOf}
@@ -142,9 +143,17 @@ pub record Sane (g : Grid) (s : Progress) : Type 0 where
   pub col : s .line < g .lines → s .col < g .width
   pub left : s .line ≡ g .lines → 0 < s .left
 
+-- 750 pictures are there, and what the words and the scalars know of them stays: refusal 10 takes none of it away
+pub record Full (o : Opening) (s : Progress) (luma joined : List ℕ) : Type 0 where
+  pub there : 750 * pictureSize o ≤ length joined
+  pub pictures : s .pictures ≡ 750
+  pub fresh : s .fresh ≡ count not (repeats (reduced o joined)) % 2 ^ 64
+  pub words : Words o (reduced o joined) luma
+
 -- The arrays stand for the opening o and the joined bytes: a refusal stands, the opening's or 10, with its place; or none
 pub data Stands (o : Opening) (s : Progress) (luma sums bins picture joined : List ℕ) : Type 0 where
-  refused : openingFault o orElse lumaFault o joined ≡ fault (s .status) (s .place) → 0 < s .status → Stands o s luma sums bins picture joined
+  refused : openingFault o orElse lumaFault o joined ≡ fault (s .status) (s .place) → 0 < s .status → (openingFault o ≡ none → Full o s luma joined) →
+      Stands o s luma sums bins picture joined
   live : openingFault o ≡ none → Sane (gridOf o) s → Live (gridOf o) o s luma sums bins picture joined → Stands o s luma sums bins picture joined
 
 -- what the lent arrays stand for: the opening and the joined bytes

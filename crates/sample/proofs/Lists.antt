@@ -52,7 +52,7 @@ kept : (o : Opening) (luma : List ℕ) (st : State) → side-luma.Means (st .lum
 kept o luma st h small i k = go (h .stands)
   where
     go : Stands o (loaded (st .luma)) (st .luma) (st .sums) (st .bins) (st .picture) luma → tilesAt (st .bins) (slot i) ≡ histograms o (getD (reduced o luma) i [])
-    go (refused e n) = absurd (never (rw (k .whole .opened, k .clear) at e))
+    go (refused e n f) = absurd (never (rw (k .whole .opened, k .clear) at e))
       where
         never : {p q : ℕ} → none ≡ fault p q → ⊥
         never e = let z : _≡_ {A = ℕ} 0 1 = cc in omega arith
