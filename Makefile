@@ -1,5 +1,6 @@
-# make carolsedge builds the command; make install PREFIX=.. puts it in place with the library, its header and the man pages;
-# make demo measures a stored sample and shows its record; make test runs the gate, and nothing else; make bench prints speeds.
+# make carolsedge builds the command; make install PREFIX=.. puts it in place, with the library and the man pages;
+# make demo measures a stored sample and shows its record; make test runs the gate, and nothing else;
+# make bench prints speeds.
 .PHONY: carolsedge install demo test bench
 
 archive = target/staticlib/libcarolsedge.a

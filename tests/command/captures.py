@@ -2,7 +2,8 @@
 import random
 import re
 import struct
-from common import capture, carrying, check, counted, ethernet, expect, good, ipv4, packets, proved, read, run, udp, write
+from common import capture, carrying, check, counted, ethernet, expect, good, ipv4, packets, proved, read, run, udp
+from common import write
 
 RAW = ["--size", "30x30", "--time", "40000", "--pid", "256"]
 
@@ -20,6 +21,8 @@ def ipv6(payload):
 
 
 SEVEN = packets(7)
+LONG = (SEVEN[:188] + bytes(16)) * 7
+CUT = ethernet(0x0800, ipv4(udp(SEVEN), fragment=0x2000))
 ARP = ethernet(0x0806, bytes(46))
 # Each way in which frames with the stream in them carry nothing: frames, snap length, reason, what mends it.
 SKIPPED = {
@@ -28,9 +31,9 @@ SKIPPED = {
     "RTP": ([carrying(rtp(SEVEN))], 65535, "1 RTP", "12 bytes of RTP"),
     "a short snap length": ([carrying(SEVEN)], 96, "1 cut short by the snap length", "tcpdump -s 0"),
     "a very short snap length": ([carrying(SEVEN)], 30, "1 cut short by the snap length", "tcpdump -s 0"),
-    "packets of 204 bytes": ([carrying((SEVEN[:188] + bytes(16)) * 7)], 65535, "1 with packets of 204 bytes", "188 bytes"),
-    "1,472 bytes": ([carrying((SEVEN + SEVEN)[:1472])], 65535, "1 whose bytes are no multiple of 188", "pkt_size=1316"),
-    "fragments": ([ethernet(0x0800, ipv4(udp(SEVEN), fragment=0x2000))], 65535, "1 IPv4 fragments", "too long for the network"),
+    "packets of 204 bytes": ([carrying(LONG)], 65535, "1 with packets of 204 bytes", "188 bytes"),
+    "1,472 bytes": ([carrying(2 * SEVEN[:736])], 65535, "1 whose bytes are no multiple of 188", "pkt_size=1316"),
+    "fragments": ([CUT], 65535, "1 IPv4 fragments", "too long for the network"),
     "no IPv4": ([ARP, ethernet(0x88CC, bytes(60))], 65535, "2 not IPv4", ""),
     "TCP": ([ethernet(0x0800, ipv4(bytes(200), protocol=6))], 65535, "1 not UDP", ""),
     "options": ([ethernet(0x0800, ipv4(bytes(4) + udp(SEVEN), first=0x46))], 65535, "1 with IPv4 options", ""),
@@ -48,7 +51,8 @@ def named():
         got = expect(name, 1, b"refused 12 0\n", said, *words)
         check("--pid" not in got[2], name + ": a hint about the identifier: " + got[2])
         write("capture.pcap", capture(frames, snap) + capture(good(1))[24:])
-        said = ["1 picture beside 1 unit", "warning: %d of %d frames skipped" % (len(frames), len(frames) + 1), reason, mends]
+        said = "warning: %d of %d frames skipped" % (len(frames), len(frames) + 1)
+        said = ["1 picture beside 1 unit", said, reason, mends]
         expect(name + " beside the stream", 0, b"sealed 128\n", said, *words)
     write("capture.pcap", capture([]))
     got = expect("no frames", 1, b"refused 12 0\n", ["The capture has no frames"], *words)
@@ -60,7 +64,8 @@ def named():
     check("--pid" not in got[2], "all bad: a hint about the identifier")
     others = [carrying(packets(7, pid=pid)) for pid in (0, 0, 0, 8191, 8191, 8191, 8191, 300, 300, 17)]
     write("capture.pcap", capture(others))
-    said = ["No packet in 10 frames has identifier 256", "8191 (28 packets), 0 (21 packets), 300 (14 packets)", "Most likely: --pid 300"]
+    most = "8191 (28 packets), 0 (21 packets), 300 (14 packets)"
+    said = ["No packet in 10 frames has identifier 256", most, "Most likely: --pid 300"]
     expect("another identifier", 1, b"refused 12 0\n", said, *words)
     write("capture.pcap", capture(good(1) + [carrying(packets(2, sync=0))]))
     expect("bad packets", 0, b"sealed 128\n", ["2 bad packets", "warning: 2 packets without 0x47"], *words)

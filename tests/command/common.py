@@ -48,7 +48,8 @@ def run(*words, stdin=b"", program="carolsedge", **how):
 def expect(name, status, out, err, *words, **how):
     """The run ends with this status, prints `out` (None: anything), and says each of `err`; [] is nothing at all."""
     got = run(*words, **how)
-    detail = "%s: %s\nstatus %d, printed %r\nsaid %s" % (name, " ".join(map(str, words)), got[0], got[1][:300], got[2][:1500])
+    typed = " ".join(map(str, words))
+    detail = "%s: %s\nstatus %d, printed %r\nsaid %s" % (name, typed, got[0], got[1][:300], got[2][:1500])
     check(got[0] == status, "status %d wanted: %s" % (status, detail))
     check(out is None or got[1] == out, "%r wanted: %s" % (out, detail))
     check(err != [] or got[2] == "", "silence wanted: " + detail)
@@ -116,7 +117,7 @@ def ethernet(kind, payload):
 
 
 def ipv4(payload, protocol=17, fragment=0, first=0x45):
-    return struct.pack(">BBHHHBBH4s4s", first, 0, 20 + len(payload), 0, fragment, 64, protocol, 0, bytes(4), bytes(4)) + payload
+    return struct.pack(">BBHHHBBHQ", first, 0, 20 + len(payload), 0, fragment, 64, protocol, 0, 0) + payload
 
 
 def udp(payload):

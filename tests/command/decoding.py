@@ -1,5 +1,5 @@
-# The stream in a capture is decoded by ffmpeg. A stand-in shows what ffmpeg is given and how its troubles end; the real
-# one is used where it is installed.
+# The stream in a capture is decoded by ffmpeg. A stand-in shows what ffmpeg is given and how its troubles end; the
+# real one is used where it is installed.
 import os
 import random
 import shutil
@@ -8,7 +8,8 @@ import struct
 import subprocess
 import time
 from captures import mixed
-from common import PROGRAMS, capture, carrying, check, counted, expect, good, packets, proved, read, run, same_record, stream, write, y4m
+from common import PROGRAMS, capture, carrying, check, counted, expect, good, proved, read, run, same_record, stream
+from common import write, y4m
 
 OUT = ["-o", "record", "--pid", "256"]
 # What the stand-in does: keeps its words and its input, gives the file `gives`, says and ends as it is told.
@@ -58,9 +59,10 @@ def given():
         write("gives", y4m(read(luma), int(width), int(height), "mono", rate="1000000:" + d))
         for way in ("after", "together"):
             for words, data in (([cap], b""), (["-"], read(cap))):
-                expect(name, 0, sealed, None, "measure", *words, "-o", "record", "--pid", pid, stdin=data, **stand_in(WAY=way))
+                words += ["-o", "record", "--pid", pid]
+                expect(name, 0, sealed, None, "measure", *words, stdin=data, **stand_in(WAY=way))
                 same_record(name + ", decoded", record)
-                check(read("got") == transport(read(cap)), name + ": ffmpeg was given something else than the packets")
+                check(read("got") == transport(read(cap)), name + ": ffmpeg was given something else")
                 check("-map 0:i:%s " % pid in read("words").decode(), "ffmpeg's words are " + read("words").decode())
     write("gives", y4m(bytes(900), 30, 30, "mono"))
     for seed in range(40):
@@ -92,8 +94,10 @@ def troubles():
     write("none.pcap", capture([]))
     none = ["measure", "none.pcap", *OUT]
     expect("no frames", 1, b"refused 12 0\n", ["The capture has no frames"], *none, **stand_in(**told))
-    expect("no packet", 1, b"refused 12 0\n", ["has identifier 300", "--pid 256"], "measure", cap, "-o", "record", "--pid", "300", **stand_in(**told))
-    expect("no identifier", 1, b"refused 3 0\n", ["refused 3"], "measure", cap, "-o", "record", "--pid", "8192", **stand_in(**told))
+    other = ["measure", cap, "-o", "record", "--pid"]
+    said = ["has identifier 300", "--pid 256"]
+    expect("no packet", 1, b"refused 12 0\n", said, *other, "300", **stand_in(**told))
+    expect("no identifier", 1, b"refused 3 0\n", ["refused 3"], *other, "8192", **stand_in(**told))
     write("no.pcap", b"no capture at all, though it has some bytes")
     expect("no capture", 1, b"refused 5 3\n", ["editcap"], "measure", "no.pcap", *OUT, **stand_in(**told))
     whole = y4m(bytes(4 * 900), 30, 30, "mono")
@@ -102,7 +106,8 @@ def troubles():
     write("gives", whole[:-1])
     expect("a picture cut", 1, b"refused 13 3599\n", ["refused 13"], *words, **stand_in())
     write("gives", whole.replace(b"Cmono", b"Cmono10"))
-    expect("10 bits", 2, b"", ["the stream of PID 256: its format is mono10, deeper than 8 bits"], *words, **stand_in())
+    said = ["the stream of PID 256: its format is mono10, deeper than 8 bits"]
+    expect("10 bits", 2, b"", said, *words, **stand_in())
     write("gives", whole.replace(b"W30 H30", b"W30 H20"))
     expect("a size", 1, b"refused 1 0\n", ["refused 1"], *words, **stand_in())
     write("gives", y4m(bytes(751 * 900), 30, 30, "mono"))
@@ -148,7 +153,7 @@ def ffmpeg(*words):
 
 
 def real():
-    """The real ffmpeg: what it decodes is what it decodes by hand, and its y4m files give the luma that it extracts."""
+    """The real ffmpeg: it decodes as it does by hand, and its y4m files give the luma that it extracts."""
     if not shutil.which("ffmpeg"):
         return "ffmpeg is not installed: the stand-in alone was used"
     passing = ["-fps_mode", "passthrough"]
@@ -159,14 +164,15 @@ def real():
             continue
         name, width, height, d, pid = line.split()[:5]
         write("stream.ts", transport(read(stream(name, ".pcap"))))
-        ffmpeg("-i", "stream.ts", "-map", "0:i:" + pid, "-vf", "extractplanes=y", *passing, "-f", "rawvideo", "luma.y")
+        plane = ["-vf", "extractplanes=y", *passing, "-f", "rawvideo", "luma.y"]
+        ffmpeg("-i", "stream.ts", "-map", "0:i:" + pid, *plane)
         record, sealed = proved(width, height, d, pid, stream(name, ".pcap"), "luma.y")
         expect(name, 0, sealed, None, "measure", stream(name, ".pcap"), "-o", "record", "--pid", pid)
         same_record(name + ", decoded by ffmpeg", record)
     cap = write("capture.pcap", capture(good(25)))
     for form in ("yuv420p", "yuvj420p", "yuv422p", "yuv444p", "yuv411p", "gray"):
         ffmpeg("-i", "test.y4m", "-pix_fmt", form, "-strict", "-1", "form.y4m")
-        ffmpeg("-i", "form.y4m", "-vf", "extractplanes=y", *passing, "-f", "rawvideo", "luma.y")
+        ffmpeg("-i", "form.y4m", *plane)
         record, sealed = proved(66, 50, 40000, 256, cap, "luma.y")
         expect(form, 0, sealed, ["25 pictures beside 25 units"], "measure", cap, "form.y4m", *OUT)
         same_record("ffmpeg's " + form, record)
@@ -174,7 +180,8 @@ def real():
     deep = b"".join(((a | b << 8) & 1023).to_bytes(2, "little") for a, b in zip(deep[::2], deep[1::2]))
     write("deep.y", deep)
     upper = ["-vf", "extractplanes=y,scale=sws_dither=none,format=gray", *passing]
-    ffmpeg("-f", "rawvideo", "-pix_fmt", "gray10le", "-s", "66x50", "-i", "deep.y", *upper, "-f", "rawvideo", "upper.y")
+    raw = ["-f", "rawvideo"]
+    ffmpeg(*raw, "-pix_fmt", "gray10le", "-s", "66x50", "-i", "deep.y", *upper, *raw, "upper.y")
     check(read("upper.y") == bytes(a >> 2 | b << 6 for a, b in zip(deep[::2], deep[1::2])), "not the upper 8 bits")
     for form in ("yuv420p10le", "gray10le", "yuv444p12le"):
         ffmpeg("-i", "test.y4m", "-pix_fmt", form, "-strict", "-1", "form.y4m")
@@ -183,7 +190,8 @@ def real():
         data = read("deep.ts")
         write("deep.pcap", capture([carrying(data[at : at + 1316]) for at in range(0, len(data), 1316)]))
         expect("a deep stream", 2, b"", ["the stream of PID 256: its format is mono10"], "measure", "deep.pcap", *OUT)
-    expect("tables alone", 1, b"refused 14 0\n", ["ffmpeg decoded no picture"], "measure", stream("clip", ".pcap"), "-o", "record", "--pid", "0")
+    words = ["measure", stream("clip", ".pcap"), "-o", "record", "--pid", "0"]
+    expect("tables alone", 1, b"refused 14 0\n", ["ffmpeg decoded no picture"], *words)
     return subprocess.run(["ffmpeg", "-version"], capture_output=True).stdout.decode().split(" Copyright")[0]
 
 

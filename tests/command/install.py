@@ -14,14 +14,16 @@ def done(*words, **how):
 def test():
     prefix = os.path.abspath("prefix")
     done("make", "-s", "-C", ROOT, "install", "PREFIX=" + prefix)
-    places = sorted(os.path.relpath(os.path.join(at, name), prefix) for at, _, names in os.walk(prefix) for name in names)
+    files = [os.path.join(at, name) for at, _, names in os.walk(prefix) for name in names]
+    places = sorted(os.path.relpath(file, prefix) for file in files)
     wanted = ["bin/carolsedge", "include/carolsedge.h", "lib/libcarolsedge.a", "lib/pkgconfig/carolsedge.pc"]
     pages = ["share/man/man1/" + name for name in os.listdir(os.path.join(ROOT, "command", "man"))]
     check(places == sorted(wanted + pages), "installed: %s" % places)
     flags = ["-I%s/include" % prefix, "-L%s/lib" % prefix, "-lcarolsedge"]
     said = []
     if shutil.which("pkg-config"):
-        asked = done("pkg-config", "--cflags", "--libs", "carolsedge", env=dict(os.environ, PKG_CONFIG_PATH=prefix + "/lib/pkgconfig"))
+        env = dict(os.environ, PKG_CONFIG_PATH=prefix + "/lib/pkgconfig")
+        asked = done("pkg-config", "--cflags", "--libs", "carolsedge", env=env)
         check(asked.split() == flags, "pkg-config says " + asked)
     else:
         said.append("pkg-config is not installed")
@@ -35,5 +37,6 @@ def test():
     PROGRAMS["installed"] = prefix + "/bin/carolsedge"
     expect("installed", 0, None, [], "--version", program="installed")
     done("make", "-s", "-C", ROOT, "install", "PREFIX=/usr", "DESTDIR=" + os.path.abspath("stage"))
-    check("prefix=/usr\n" in open("stage/usr/lib/pkgconfig/carolsedge.pc").read(), "DESTDIR does not stand before PREFIX")
+    told = open("stage/usr/lib/pkgconfig/carolsedge.pc").read()
+    check("prefix=/usr\n" in told, "DESTDIR does not stand before PREFIX")
     return "install: %d files, of which a C program builds%s" % (len(places), "".join("; " + line for line in said))

@@ -1,4 +1,4 @@
-# Pictures: raw and y4m, from files and standard input, make the proved program's record byte for byte; doubtful ones are told.
+# Pictures: raw and y4m, from files and standard input, make the proved program's record; doubts are told.
 import os
 import random
 from common import CHROMA, check, counted, expect, good, proved, read, same_record, stream, write, y4m, capture
@@ -40,9 +40,9 @@ def formats():
             for line in (b"FRAME\n", b"FRAME Ip XCAROL\n"):
                 write("pictures.y4m", y4m(luma, w, h, form, line=line, more="Ip  A1:1 XYSCSS=420JPEG"))
                 name = "%s of %d x %d" % (form, w, h)
-                expect(name, 0, sealed, ["9 pictures beside 9 units"], "measure", cap, "pictures.y4m", *OUT, "--pid", "256")
+                words = ["measure", cap, "pictures.y4m", *OUT, "--pid", "256"]
+                expect(name, 0, sealed, ["9 pictures beside 9 units"], *words)
                 same_record(name, record)
-    words = ["measure", cap, "pictures.y4m", *OUT, "--pid", "256"]
     whole = y4m(bytes(9 * 900), 30, 30)
     for form in ("420p10", "422p12", "444p16", "420p9", "mono10", "mono16", "mono12"):
         write("pictures.y4m", whole.replace(b"C420jpeg", b"C" + form.encode()))
@@ -63,8 +63,9 @@ def formats():
         expect(name, 2, b"", ["pictures.y4m: ", said], *words)
     write("pictures.y4m", whole.replace(b"F25:1", b"F0:0"))
     expect("no rate", 2, b"", ["--time or --rate is missing"], *words)
-    expect("no rate but --rate", 0, None, None, *words, "--rate", "25")
-    expect("another size", 2, b"", ["--size 30x31: the pictures are 30x30"], *words, "--rate", "25", "--size", "30x31")
+    words += ["--rate", "25"]
+    expect("no rate but --rate", 0, None, None, *words)
+    expect("another size", 2, b"", ["--size 30x31: the pictures are 30x30"], *words, "--size", "30x31")
     os.remove("record")
     write("pictures.y4m", whole[:-700])
     expect("cut inside the luma", 1, b"refused 13 7850\n", ["refused 13"], *words)

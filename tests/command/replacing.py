@@ -1,5 +1,6 @@
 # No input and no device is ever lost: RECORD goes over nothing or over a regular file that is no input.
 import os
+import socket
 import stat
 import subprocess
 from common import PROGRAMS, check, counted, expect, proved, read, same_record, stream, write
@@ -21,16 +22,15 @@ def listing():
 
 
 def left(name, said, words, stdin=None):
+    """What stands there is left alone, which is said; `stdin` is the name of a file."""
     before = listing()
-    how = {"stdin": None} if stdin else {}
-    if stdin:
-        with open(stdin, "rb") as file:
-            done = subprocess.run([PROGRAMS["carolsedge"], "measure", *words], stdin=file, capture_output=True)
-        check(done.returncode == 2 and said in done.stderr.decode(), "%s: %d %s" % (name, done.returncode, done.stderr))
-        expect.count += 1
-    else:
-        expect(name, 2, b"", [said, "left alone"], "measure", *words)
+    with open(stdin or "/dev/null", "rb") as file:
+        done = subprocess.run([PROGRAMS["carolsedge"], "measure", *words], stdin=file, capture_output=True)
+    told = done.stderr.decode()
+    right = done.returncode == 2 and done.stdout == b"" and said in told and "left alone" in told
+    check(right, "%s: status %d, %s" % (name, done.returncode, told))
     check(listing() == before, "%s: something was touched" % name)
+    expect.count += 1
 
 
 def kinds(cap, luma):
@@ -40,12 +40,15 @@ def kinds(cap, luma):
     write("old", b"old")
     os.symlink("old", "link")
     os.symlink(cap, "link-to-capture")
-    socket = subprocess.run(["python3", "-c", "import socket; socket.socket(socket.AF_UNIX).bind('socket')"])
-    for name, said in (
-        ("fifo", "a FIFO"), ("folder", "a folder"), ("folder/", "a folder"), ("..", "a folder"), ("dangling", "a symbolic link"),
-        ("link", "a symbolic link"), ("link-to-capture", "a symbolic link"), ("socket", "a socket"),
+    socket.socket(socket.AF_UNIX).bind("socket")
+    for said, names in (
+        ("a FIFO", ["fifo"]),
+        ("a socket", ["socket"]),
+        ("a folder", ["folder", "folder/", "..", "/"]),
+        ("a symbolic link", ["link", "dangling", "link-to-capture"]),
     ):
-        left(name, "it is " + said, [cap, luma, "-o", name, *RAW])
+        for name in names:
+            left(name, "it is " + said, [cap, luma, "-o", name, *RAW])
     try:
         os.mknod("null", 0o666 | stat.S_IFCHR, os.makedev(1, 3))
         device = "devices too"
@@ -67,7 +70,7 @@ def inputs(cap, luma):
     os.symlink(cap, "by-link")
     left("the capture through a link", "the same file as by-link", ["by-link", luma, "-o", cap, *RAW])
     left("the capture on standard input", "the same file as standard input", ["-", luma, "-o", cap, *RAW], stdin=cap)
-    left("the pictures on standard input", "the same file as standard input", [cap, "-", "-o", luma, *RAW], stdin=luma)
+    left("the luma on standard input", "the same file as standard input", [cap, "-", "-o", luma, *RAW], stdin=luma)
     left("the capture that is to be decoded", "the same file as " + cap, [cap, "-o", "hard", "--pid", "256"])
 
 
@@ -106,5 +109,5 @@ def test():
     device = kinds(cap, luma)
     inputs(cap, luma)
     modes(cap, luma)
-    return "replacing: %d runs: links, FIFOs, sockets, folders (%s) and inputs under any name are left alone; modes follow" % (
-        counted(), device)
+    said = "replacing: %d runs: links, FIFOs, sockets, folders (%s), inputs by any name are left alone; modes follow"
+    return said % (counted(), device)

@@ -18,8 +18,9 @@ def made(pick, bits=None):
     units, scenes = pick.randint(1, 40), pick.randint(1, 9)
     cuts = [0] + sorted(pick.sample(range(1, 700), scenes - 1)) + [700]
     index = pick.getrandbits(64) if bits is None else bits
-    words = [1, 64 + 32 * (units + scenes), units, 64, scenes, 64 + 32 * units, 640, 480, 40000, 8191, 700, 2**32 - 1, pick.getrandbits(32), pick.getrandbits(32)]
-    out = struct.pack("<14IQ", *words, index)
+    counts = [1, 64 + 32 * (units + scenes), units, 64, scenes, 64 + 32 * units]
+    sample = [640, 480, 40000, 8191, 700, 2**32 - 1, pick.getrandbits(32), pick.getrandbits(32)]
+    out = struct.pack("<14IQ", *counts, *sample, index)
     for _ in range(units):
         times = sorted(pick.getrandbits(pick.choice((20, 51, 64))) for _ in range(2))
         cells = pick.randint(1, (2**32 - 1) // 184)
@@ -50,7 +51,8 @@ def same_json(name, text, sample, unit, scene):
 
 def same_csv(name, text, sample, unit, scene):
     rows = list(csv.reader(io.StringIO(text.decode())))
-    for kind, names, want in (("sample", SAMPLE + ["index_bits"], [sample]), ("unit", UNIT, unit), ("scene", SCENE, scene)):
+    kinds = ("sample", SAMPLE + ["index_bits"], [sample]), ("unit", UNIT, unit), ("scene", SCENE, scene)
+    for kind, names, want in kinds:
         heading, *found = [row for row in rows if row[0] == kind]
         check(all(len(row) == len(heading) for row in found), name + ": CSV rows of another length")
         found = [dict(zip(heading[1:], row[1:])) for row in found]
@@ -69,7 +71,8 @@ def on_page(name, text, sample, unit, scene):
     for j, row in enumerate(unit):
         words = lines[at + j].replace(",", "").split()
         seconds = ["%d.%06d" % divmod(t, 10**6) for t in (row["least"] - first, row["greatest"] - row["least"])]
-        check(words[0] == str(j) and words[3:] == [*seconds, *(str(row[key]) for key in UNIT[2:])], "%s: page: %s" % (name, words))
+        wanted = [str(j), *seconds, *(str(row[key]) for key in UNIT[2:])]
+        check(words[:1] + words[3:] == wanted, "%s: page: %s" % (name, words))
         if row["least"] < 2**51:
             date = datetime.datetime(1970, 1, 1) + datetime.timedelta(microseconds=row["least"])
             check(" ".join(words[1:3]) == date.strftime("%Y-%m-%d %H:%M:%S.%f"), "%s: page: %s" % (name, words))
@@ -93,12 +96,17 @@ def every_form(name, record):
 def broken():
     whole = made(random.Random(1))
     for name, data, number, said in (
-        ("nothing", b"", 16, "fewer than 64"), ("63 bytes", whole[:63], 16, "cut short"), ("another edition", b"\x09" + whole[1:], 17, "later program"),
-        ("one byte short", whole[:-1], 18, "altered or cut"), ("one byte long", whole + b"\0", 18, "altered or cut"), ("a capture", read(stream("clip", ".pcap")), 17, "no record"),
+        ("nothing", b"", 16, "fewer than 64"),
+        ("63 bytes", whole[:63], 16, "cut short"),
+        ("another edition", b"\x09" + whole[1:], 17, "later program"),
+        ("one byte short", whole[:-1], 18, "altered or cut"),
+        ("one byte long", whole + b"\0", 18, "altered or cut"),
+        ("a capture", read(stream("clip", ".pcap")), 17, "no record"),
     ):
         write("record", data)
         for words in (["record"], ["record", "--json"], ["record", "--csv"]):
-            expect(name, 1, b"refused %d 0\n" % number, ["carolsedge show: refused %d: " % number, said], "show", *words)
+            told = ["carolsedge show: refused %d: " % number, said]
+            expect(name, 1, b"refused %d 0\n" % number, told, "show", *words)
         expect(name, 1, run(program="show", stdin=data)[1], ["refused %d" % number], "show", "record", "--lines")
     expect("an endless file", 1, b"refused 17 0\n", None, "show", "/dev/zero")
     expect("no file", 2, b"", ["nowhere: No such file or directory"], "show", "nowhere")
@@ -112,7 +120,7 @@ def test():
             every_form(name, proved(*opening, stream(name, ".pcap"), stream(name, ".y"))[0])
     for seed in range(20):
         every_form("seed %d" % seed, made(random.Random(seed)))
-    for bits in (0, 1, 0x7FF0000000000000, 0xFFF0000000000000, 0x7FF8000000000001, 0x8000000000000000, 0x4013D70A3D70A3D7, 0x7FEFFFFFFFFFFFFF):
+    for bits in (0, 1, 0x7FF << 52, 0xFFF << 52, 0x7FF8000000000001, 1 << 63, 0x4013D70A3D70A3D7, (0x7FF << 52) - 1):
         every_form("bits %X" % bits, made(random.Random(9), bits))
     broken()
     return "show: %d runs: the proved program's lines, and every figure on the page, in JSON and in CSV" % counted()

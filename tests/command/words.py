@@ -82,7 +82,8 @@ def helps():
             manual = page.read().replace("\\-", "-")
         for word in text.replace("[", " ").replace("]", " ").split():
             word = word.strip(".,:;")
-            check(not word.startswith("--") or word == "--help" or word in manual, "the manual of %s lacks %s" % (name, word))
+            known = not word.startswith("--") or word == "--help" or word in manual
+            check(known, "the manual of %s lacks %s" % (name, word))
     check(run("--help")[1] == run("help")[1] == run("-h")[1], "help, -h and --help differ")
     version = [line for line in open(os.path.join(ROOT, "command", "Cargo.toml")) if line.startswith("version")]
     expect("version", 0, ("carolsedge %s\n" % version[0].split('"')[1]).encode(), [], "--version")

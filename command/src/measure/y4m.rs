@@ -70,8 +70,8 @@ fn refused(format: &str) -> String {
     let known = ["mono", "420", "411", "422", "444"].iter().any(|name| format.starts_with(name));
     if known && format.ends_with(|last: char| last.is_ascii_digit()) {
         return format!(
-            "its format is {format}, deeper than 8 bits, and is not measured; the upper 8 bits of each sample are given \
-             by: ffmpeg -i IN -vf extractplanes=y,scale=sws_dither=none,format=gray -fps_mode passthrough OUT.y4m"
+            "its format is {format}, deeper than 8 bits, and not measured; each sample's upper 8 bits are given by: \
+             ffmpeg -i IN -vf extractplanes=y,scale=sws_dither=none,format=gray -fps_mode passthrough OUT.y4m"
         );
     }
     format!(

@@ -1,7 +1,7 @@
 // measure W H D PID CAPTURE LUMA RECORD: a capture and luma pictures go in, a record comes out.
 //
-// CAPTURE and LUMA are files; one of them may be `-`, standard input. Prints `sealed LENGTH` and writes RECORD, or prints
-// `refused NUMBER PLACE` and writes no file. A RECORD that stands already is left alone, and then nothing is read.
+// CAPTURE and LUMA are files; one of them may be `-`, standard input. Prints `sealed LENGTH` and writes RECORD, or
+// prints `refused NUMBER PLACE` and writes no file. A RECORD that stands already is left alone, and nothing is read.
 mod arguments;
 mod side;
 mod write;

@@ -1,9 +1,9 @@
-// Writing the record: beside its name first, so that a half-written record never stands under it, and only where nothing
-// stands there yet, so that no input and no device is ever lost.
+// Writing the record: beside its name first, so that a half-written record never stands under it, and only where
+// nothing stands there yet, so that no input and no device is ever lost.
 use libc::STDERR_FILENO;
 
-// Whether nothing stands under the name; otherwise has told that it is left alone. To rename a thing to the name that it
-// has does nothing, whatever it is, and fails where there is none.
+// Whether nothing stands under the name; otherwise has told that it is left alone. To rename a thing to the name that
+// it has does nothing, whatever it is, and fails where there is none.
 pub fn is_free(name: &[u8]) -> bool {
     if os::rename(name, name) != 0 {
         return true;
@@ -28,7 +28,7 @@ fn fill(fd: i32, name: &[u8], record: &[u8]) -> bool {
     true
 }
 
-// Gives the file `part` the record's name, which is taken by making an empty file first: that fails where anything stands.
+// Gives the file `part` the record's name, which is taken by making an empty file first: that fails where it is taken.
 fn put(part: &[u8], name: &[u8]) -> bool {
     let fd = os::create(name);
     if fd < 0 {
