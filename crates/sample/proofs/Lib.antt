@@ -2,3 +2,4 @@ pub mod Lists
 pub mod Opened
 pub mod Sealing
 pub mod Writing
+pub mod ReadBack

@@ -70,7 +70,8 @@ some-outcome o capture luma (feedLuma piece ∷ cs) q e = cons-ne-nil _ _ e
 some-outcome o capture luma (ask p ∷ cs) q e = cons-ne-nil _ _ e
 
 -- the outcome of a question at the end goes by the joined strings
-asked-last : (o : Opening) (capture luma : List ℕ) (cs : List Call) (os : List Outcome) (s : Outcome) (q : Question) →
+pub asked-last : (o : Opening) (capture luma : List ℕ) (cs : List Call) (os : List Outcome) (s : Outcome)
+    (q : Question) →
     os ++ s ∷ [] ≡ expected o capture luma (cs ++ ask q ∷ []) → s ≡ replied
     (answerTo o (capture ++ captureFed cs) (luma ++ lumaFed cs) q)
 unfolding expected captureFed lumaFed

@@ -11,6 +11,7 @@ use Rattle.rules.specs.declared.Opening.{Opening}
 use Rattle.rules.specs.declared.Answer.{Answer}
 use Rattle.rules.specs.declared.Answer.the-variants.{Done, Refused}
 use Rattle.rules.specs.declared.Header.{Header}
+use Rattle.rules.specs.declared.Index.{Index}
 use Rattle.rules.specs.declared.UnitRow.{UnitRow}
 use Rattle.rules.specs.declared.SceneRow.{SceneRow}
 use Rattle.rules.specs.Bytes.{count}
@@ -32,15 +33,18 @@ use Rattle.luma_laws.proofs.Counted.{reduced-length}
 use Rattle.luma_laws.proofs.Sizes.{good}
 use Rattle.luma_laws.proofs.Scenes.{pictures-most}
 use Rattle.rules.proofs.Laws.UnitsMore.{allPackets, allLost, packets-total, lost-small, units-none}
-use Rattle.index.specs.Counts.{Counts}
+use Rattle.index.specs.Counts.{Counts, IndexFrom}
+use Rattle.index.proofs.Taken.{index-is}
 use Rattle.luma_scenes.specs.Words.{Holds}
 use Rattle.luma_scenes.specs.Contract.{CountPost}
 use Rattle.luma_scenes.proofs.Sample.{sample-holds}
 use Rattle.sealing.specs.Contract.{RecordWritten}
 use Rattle.luma_laws.proofs.Past.{length-repeats}
 use Rattle.counts.specs.declared.Summary.{Summary}
+use Rattle.counts.specs.Summary.{Figures}
 use Rattle.luma.specs.declared.Summary as of-luma
-use Rattle.sample.specs.Contract.{BitsOf, HeaderOf, Ready}
+use Rattle.luma.specs.Contract.{Known}
+use Rattle.sample.specs.Contract.{IndexIn, headerBy, Ready}
 
 both : {a b : Answer} {x y : List ℕ} → a ≡ b → x ≡ y → sealedInto a x ≡ sealedInto b y
 both e f = cc
@@ -58,6 +62,51 @@ repeatsOf o fedLuma = repeats (reduced o fedLuma)
 
 abbrev changesOf : Opening → List ℕ → List ℕ
 changesOf o fedLuma = changes (reduced o fedLuma)
+
+-- ---- the index
+
+-- of equal counts
+pub index-by : {u u′ n n′ p p′ l l′ : ℕ} {i : Index} → u ≡ u′ → n ≡ n′ → p ≡ p′ → l ≡ l′ → IndexFrom u n p l i →
+    IndexFrom u′ n′ p′ l′ i
+index-by a b c d h = rw (← a, ← b, ← c, ← d) h
+
+-- where no refusal stands, and there is a packet and a picture, it is the rule's
+pub index-is-rule : (capture luma : List ℕ) (o : Opening) (fedCapture fedLuma : List ℕ) (c : Summary)
+    (l : of-luma.Summary) →
+    Figures capture o fedCapture c → Known luma o fedLuma l → 1 ≤ c .units → 1 ≤ l .pictures →
+    (i : Index) → IndexIn c l i → i ≡ index o fedCapture fedLuma
+unfolding index indexFrom unrepeated units
+index-is-rule capture luma o fedCapture fedLuma c l fig k some-units some-pictures i e =
+    let ps = wholeWanted o fedCapture in
+    let few = fig .few in
+    let fm : l .pictures ≤ 750 = omega (arith, k .pictures, pictures-most o fedLuma) in
+    let few-fresh : l .fresh ≤ l .pictures =
+    omega (
+      arith,
+      k .fresh,
+      count-few not (repeatsOf o fedLuma),
+      length-repeats (reduced o fedLuma),
+      reduced-length o
+          fedLuma,
+      k .pictures,
+    ) in
+    let packets : c .packets ≡ length ps = fig .packets ∙ packets-total ps in
+    let lo = lost-small ps in
+    let g₁ : l .fresh % 2 ^ 32 ≡ l .fresh = mod-eq-of-lt (omega arith) in
+    let g₂ : l .pictures % 2 ^ 32 ≡ l .pictures = mod-eq-of-lt (omega arith) in
+    let g₃ : c .packets % 2 ^ 32 ≡ c .packets = mod-eq-of-lt (omega arith) in
+    let g₄ : c .lost % 2 ^ 32 ≡ c .lost = mod-eq-of-lt (omega (arith, fig .lost)) in
+    let e′ = rw (g₁, g₂, g₃, g₄) at e in
+    let some = some-packet ps (omega (arith, fig .units)) in
+    let counts : Counts (l .fresh) (l .pictures) (c .packets) (c .lost) = record {
+      some-pictures = some-pictures;
+      of-them = few-fresh;
+      some-packets = omega arith;
+      few-pictures = omega arith;
+      few-packets = omega arith;
+      few-lost = omega (arith, fig .lost);
+    } in
+    index-is counts e′ ∙ rw (k .fresh, k .pictures, fig .packets, fig .lost)
 
 module _ (capture luma : List ℕ) (o : Opening) (fedCapture fedLuma : List ℕ) (c : Summary) (l : of-luma.Summary) (r : Ready capture luma o fedCapture fedLuma c l) where
   abbrev pictures : ℕ
@@ -107,37 +156,12 @@ module _ (capture luma : List ℕ) (o : Opening) (fedCapture fedLuma : List ℕ)
 
     -- ---- the header
 
-    packets-are : c .packets ≡ length (wholeWanted o fedCapture)
-    packets-are = r .figures .packets ∙ ap allPackets units-are ∙ packets-total (wholeWanted o fedCapture)
-
-    lost-are : c .lost ≡ allLost (unitsOf (wholeWanted o fedCapture))
-    lost-are = r .figures .lost ∙ ap allLost units-are
-
-    pub header-is : (h : Header) → HeaderOf o c pictures (l .fresh) n h → h ≡ header o fedCapture fedLuma
-    unfolding header index indexFrom unrepeated
-    header-is h e =
-        let few = r .figures .few in
-        let ps = wholeWanted o fedCapture in
-        let f : l .fresh ≡ count not (repeats (reduced o fedLuma)) = r .known .fresh in
-        let few-fresh : l .fresh ≤ pictures = omega (arith, f, count-few not (repeatsOf o fedLuma), length-repeats (reduced o fedLuma), reduced-length o fedLuma, pictures-are) in
-        let fm = few-pictures in
-        let lo = lost-small ps in
-        let g₁ : l .fresh % 2 ^ 32 ≡ l .fresh = mod-eq-of-lt (omega arith) in
-        let g₂ : c .packets % 2 ^ 32 ≡ c .packets = mod-eq-of-lt (omega (arith, packets-are)) in
-        let g₃ : c .lost % 2 ^ 32 ≡ c .lost = mod-eq-of-lt (omega (arith, lost-are)) in
-        let some = some-packet ps (omega (arith, r .units, r .figures .units, ap length units-are)) in
-        let k : Counts (l .fresh % 2 ^ 32) pictures (c .packets % 2 ^ 32) (c .lost % 2 ^ 32) =
-        record {
-          some-pictures = r .some;
-          of-them = omega (arith, g₁);
-          some-packets = omega (arith, g₂, packets-are);
-          few-pictures = omega arith;
-          few-packets = omega (arith, g₂, packets-are);
-          few-lost = omega (arith, g₃, lost-are);
-        }
-        in
-        let ix : h .index ≡ indexBits (indexOf (l .fresh % 2 ^ 32) pictures (c .packets % 2 ^ 32) (c .lost % 2 ^ 32)) = e .index k in
-        e .is ∙ rw (ix, g₁, g₂, g₃, f, r .figures .units, count-is, pictures-are, r .figures .frames, r .figures .skipped, r .figures .bad, r .figures .packets, r .figures .lost)
+    pub header-is : (h : Header) (i : Index) → IndexIn c l i → h ≡ headerBy o c pictures n (indexBits i) →
+        h ≡ header o fedCapture fedLuma
+    unfolding header
+    header-is h i e g =
+        let x = index-is-rule capture luma o fedCapture fedLuma c l (r .figures) (r .known) (r .units) (r .some) i e in
+        g ∙ rw (x, r .figures .units, count-is, pictures-are, r .figures .frames, r .figures .skipped, r .figures .bad)
 
     record-is : (before after : List ℕ) → RecordWritten capture luma (header o fedCapture fedLuma) before after →
         after ≡ over (recordBytes (header o fedCapture fedLuma) (units o fedCapture) (scenes o fedLuma)) before
@@ -149,18 +173,14 @@ module _ (capture luma : List ℕ) (o : Opening) (fedCapture fedLuma : List ℕ)
         ∙ ap (λ (us : List UnitRow). over (recordBytes hd us (scenesOf (o .time) (scoresOf o fedLuma) (repeatsOf o fedLuma) (changesOf o fedLuma))) before) (sym units-are)
         ∙ ap (λ (xs : List SceneRow). over (recordBytes hd (units o fedCapture) xs) before) (sym scenes-are)
 
-    pub written-post : (before after : List ℕ) (h : Header) (a : Answer) → HeaderOf o c pictures (l .fresh) n h → RecordWritten capture luma h before after →
+    pub written-post : (before after : List ℕ) (h : Header) (i : Index) (a : Answer) → IndexIn c l i →
+        h ≡ headerBy o c pictures n (indexBits i) → RecordWritten capture luma h before after →
         64 + 32 * (c .units + n) ≤ length before → a ≡ Done (64 + 32 * (c .units + n)) →
         sealedInto a after ≡ answerTo o fedCapture fedLuma (seal before)
     unfolding sealAnswer sealedBuffer noRoom sealed
-    written-post before after h a e w room d =
+    written-post before after h i a e g w room d =
         let f : sealFault o fedCapture fedLuma (length before) ≡ none = r .free (length before) ∙ rw (sym size-is, le-ltb (length before) (64 + 32 * (c .units + n)) room) in
-        let i = header-is h e in
-        let w′ : RecordWritten capture luma (header o fedCapture fedLuma) before after = rw i at w in
+        let x = header-is h i e g in
+        let w′ : RecordWritten capture luma (header o fedCapture fedLuma) before after = rw x at w in
         let b = record-is before after w′ in
         rw f (both (d ∙ ap Done size-is) b)
-
--- the index's bits, of counts that were taken below 2^32
-pub bits-from : {a a′ pictures b b′ d d′ r : ℕ} → a ≡ a′ → b ≡ b′ → d ≡ d′ → BitsOf a pictures b d r → BitsOf a′ pictures b′ d′ r
-bits-from {a = a} {pictures = n} {b = b} {b′ = b′} {d′ = d′} {r = r} e f g h =
-    subst (λ (x : ℕ). BitsOf x n b′ d′ r) e (subst (λ (y : ℕ). BitsOf a n y d′ r) f (subst (λ (z : ℕ). BitsOf a n b z r) g h))

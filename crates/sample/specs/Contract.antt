@@ -6,12 +6,12 @@ use mathlib.Core.List.{List, []}
 use Rattle.rules.specs.declared.Opening.{Opening}
 use Rattle.rules.specs.declared.Answer.{Answer}
 use Rattle.rules.specs.declared.Header.{Header}
+use Rattle.rules.specs.declared.Index.{Index}
 use Rattle.rules.specs.Opening.{openAnswer}
-use Rattle.rules.specs.Index.{indexOf, indexBits}
 use Rattle.rules.specs.Refusals.{fault, InTable}
 use Rattle.rules.specs.Seal.{sealedLength, noRoom, sealFault}
 use Rattle.rules.specs.Calls.{Question, seal, Reply, sealedInto, answerTo, lentTo, lentAfter, refusalIn}
-use Rattle.index.specs.Counts.{Counts}
+use Rattle.index.specs.Counts.{IndexFrom}
 use Rattle.counts.specs.declared.Summary.{Summary}
 use Rattle.counts.specs.Summary.{Figures}
 use Rattle.luma.specs.declared.Summary as of-luma
@@ -43,8 +43,9 @@ SealPost w before a after = Asked w (seal before) (sealedInto a after)
 
 -- ---- of the functions within
 
-abbrev pub BitsOf : ℕ → ℕ → ℕ → ℕ → ℕ → Type 0
-BitsOf unrepeated pictures packets lost r = Counts unrepeated pictures packets lost → r ≡ indexBits (indexOf unrepeated pictures packets lost)
+-- the index that the counts of the two sides give
+abbrev pub IndexIn : Summary → of-luma.Summary → Index → Type 0
+IndexIn c l i = IndexFrom (l .fresh % 2 ^ 32) (l .pictures % 2 ^ 32) (c .packets % 2 ^ 32) (c .lost % 2 ^ 32) i
 
 -- a header of an opening, of what the capture side counted, of pictures and scenes, and of the index's bits
 abbrev pub headerBy : Opening → Summary → ℕ → ℕ → ℕ → Header
@@ -62,10 +63,6 @@ headerBy o c pictures scenes index =
       bad = c .bad;
       index = index;
     }
-
-pub record HeaderOf (o : Opening) (c : Summary) (pictures fresh scenes : ℕ) (h : Header) : Type 0 where
-  pub is : h ≡ headerBy o c pictures scenes (h .index)
-  pub index : BitsOf (fresh % 2 ^ 32) pictures (c .packets % 2 ^ 32) (c .lost % 2 ^ 32) (h .index)
 
 -- nothing but a short buffer refuses a seal of what the words stand for
 pub record Ready (capture luma : List ℕ) (o : Opening) (fedCapture fedLuma : List ℕ) (c : Summary) (l : of-luma.Summary) : Type 0 where

@@ -1,13 +1,18 @@
 // A stream sample: opened, fed on two sides, sealed. Its state is memory that the caller lends, in arrays of fixed sizes: the capture side's words, and the luma
 // side's words, block sums, bins and picture. Every call is safe and ends on any contents of them, and expects no checking by its caller.
 ghost use mathlib.Core.Path.{_≡_};
+ghost use mathlib.Core.Bool.{not};
+ghost use lib.Dec.{T};
+ghost use lib.Ieee.{isNan};
 ghost use Rattle.rules.specs.Refusals.{listed};
+ghost use Rattle.rules.specs.Index.{indexBits};
 ghost use Rattle.capture.specs.Contract as side-capture;
 ghost use Rattle.luma.specs.Contract as side-luma;
-ghost use Rattle.sample.specs.Contract.{OpenPost, SealPost, BitsOf, HeaderOf, WritePost};
+ghost use Rattle.sample.specs.Contract.{OpenPost, SealPost, IndexIn, headerBy, WritePost};
 use counts::Summary;
 use rules::Answer;
 use rules::Header;
+use rules::Index;
 use rules::Opening;
 
 // Opens a sample, and answers Done with 0, or refusal 1, 2 or 3, which its feeds and seals then repeat.
@@ -70,31 +75,22 @@ fn refused(number: u64, place: u64) -> Answer
     }
 }
 
-// The bits of the index of counts that a seal can have; 0 of any others.
-fn bits_of(unrepeated: u32, pictures: u32, packets: u32, lost: u32) -> u64
-    ensures { λ r. ⌜ BitsOf unrepeated pictures packets lost r ⌝ }
+// The index of what was fed, from what the two sides count; zeros of counts that no sample has.
+fn index_in(c: Summary, l: luma::Summary) -> Index
+    ensures { λ r. ⌜ IndexIn c l r ⌝ }
 {
-    if pictures < 1 {
-        return 0;
-    }
-    if pictures < unrepeated {
-        return 0;
-    }
-    if packets < 1 {
-        return 0;
-    }
-    let i = index::index_of(unrepeated, pictures, packets, lost);
-    index::index_bits(i)
-}
-
-// The header's figures, with so many pictures of which `fresh` are not repeated.
-fn header_of(o: Opening, c: Summary, pictures: u32, fresh: u64, scenes: u32) -> Header
-    ensures { λ r. ⌜ HeaderOf o c pictures fresh scenes r ⌝ }
-{
-    let unrepeated = figures::low(fresh);
+    let unrepeated = figures::low(l.fresh);
+    let pictures = figures::low(l.pictures);
     let packets = figures::low(c.packets);
     let lost = figures::low(c.lost);
-    let index = bits_of(unrepeated, pictures, packets, lost);
+    index::index_from(unrepeated, pictures, packets, lost)
+}
+
+// The header's figures, with so many pictures and scenes, and with the index's bits.
+fn header_of(o: Opening, c: Summary, pictures: u32, scenes: u32, i: Index) -> Header
+    requires { ⌜ T (not (isNan (i .value))) ⌝ }
+    ensures { λ r. ⌜ r ≡ headerBy o c pictures scenes (indexBits i) ⌝ }
+{
     Header {
         units: c.units,
         scenes: scenes,
@@ -106,7 +102,7 @@ fn header_of(o: Opening, c: Summary, pictures: u32, fresh: u64, scenes: u32) -> 
         frames: c.frames,
         skipped: c.skipped,
         bad: c.bad,
-        index: index,
+        index: index::index_bits(i),
     }
 }
 
@@ -134,7 +130,8 @@ fn write(
     if buffer.len() < size {
         return refused(15, size as u64);
     }
-    let h = header_of(o, c, n as u32, l.fresh, scenes as u32);
+    let i = index_in(c, l);
+    let h = header_of(o, c, n as u32, scenes as u32, i);
     sealing::write_record(buffer, capture, luma, h);
     Answer::Done(size as u64)
 }

@@ -59,6 +59,9 @@ returns-3 c =
       refusals = refused-leaves _ _ 15 _ (c .refused3 .ensures);
     }
 
+index-in-requires : tie.Need-index-in-requires
+index-in-requires c κs = search needs
+
 cast-header-of : tie.Need-cast-header-of
 cast-header-of c = search needs
 
@@ -66,15 +69,23 @@ cast-header-of-2 : tie.Need-cast-header-of-2
 cast-header-of-2 c = search needs
 
 header-of-requires : tie.Need-header-of-requires
-header-of-requires c κs = search needs
+header-of-requires c κs = c .index-in .ensures .number
 
 write-record-requires : tie.Need-write-record-requires
 unfolding recordLength
 write-record-requires c κs =
-    let h = c .before .header-of .ensures .is in
+    let h = c .before .header-of .ensures in
     let u = ap (λ (x : Header). x .units) h in
     let n = ap (λ (x : Header). x .scenes) h in
-    omega (arith, u, n, c .before .before .if3 .left, c .before .before .before .before .count .ensures .most, c .before .before .before .before .before .before .if2 .left, c .before .before .before .before .before .before .before .before .if1 .left)
+    omega (
+      arith,
+      u,
+      n,
+      c .before .before .before .if3 .left,
+      c .before .before .before .before .before .count .ensures .most,
+      c .before .before .before .before .before .before .before .if2 .left,
+      c .before .before .before .before .before .before .before .before .before .if1 .left,
+    )
 
 same-length : tie.Need-same-length
 same-length c = search needs
@@ -83,11 +94,13 @@ returns-4 : tie.Need-returns-4
 returns-4 c =
     record {
       rule = λ fc fl r.
-          written-post _ _ _ fc fl _ _ r (c .before .before .before .before .before .before .before .count .result)
-          (c .before .before .before .before .before .before .before .count .ensures) _ _
-          (c .before .before .before .before .header-of .result) _
+          written-post _ _ _ fc fl _ _ r
+          (c .before .before .before .before .before .before .before .before .count .result)
+          (c .before .before .before .before .before .before .before .before .count .ensures) _ _
+          (c .before .before .before .before .header-of .result) _ _
+          (c .before .before .before .before .before .index-in .ensures)
           (c .before .before .before .before .header-of .ensures) (c .before .before .write-record .ensures)
-          (c .before .before .before .before .before .if3 .left) refl;
+          (c .before .before .before .before .before .before .if3 .left) refl;
       refusals = done-leaves _ _ _ _ refl;
     }
 
@@ -107,6 +120,7 @@ write-spec =
     add-size-2
     refused-requires-3
     returns-3
+    index-in-requires
     cast-header-of
     cast-header-of-2
     header-of-requires
