@@ -177,7 +177,7 @@ fn put_scene(row: &mut [u64; 7], s: SceneRow)
 pub extern "C" fn carolsedge_read_header(bytes: &[u8], figures: &mut [u64; 11]) -> u32
     ensures { λ r. ⌜ HeaderRead (now (bytes .entry)) (now (figures .entry)) r (now (figures .exit)) ⌝ }
 {
-    match view::read_header(bytes) {
+    match record_view::read_header(bytes) {
         HeaderAnswer::Given(h) => {
             put_header(figures, h);
             0
@@ -191,7 +191,7 @@ pub extern "C" fn carolsedge_read_header(bytes: &[u8], figures: &mut [u64; 11]) 
 pub extern "C" fn carolsedge_read_unit(bytes: &[u8], j: usize, row: &mut [u64; 5]) -> u32
     ensures { λ r. ⌜ UnitRead (now (bytes .entry)) j (now (row .entry)) r (now (row .exit)) ⌝ }
 {
-    match view::read_unit(bytes, j) {
+    match record_view::read_unit(bytes, j) {
         UnitAnswer::Given(u) => {
             put_unit(row, u);
             0
@@ -205,7 +205,7 @@ pub extern "C" fn carolsedge_read_unit(bytes: &[u8], j: usize, row: &mut [u64; 5
 pub extern "C" fn carolsedge_read_scene(bytes: &[u8], j: usize, row: &mut [u64; 7]) -> u32
     ensures { λ r. ⌜ SceneRead (now (bytes .entry)) j (now (row .entry)) r (now (row .exit)) ⌝ }
 {
-    match view::read_scene(bytes, j) {
+    match record_view::read_scene(bytes, j) {
         SceneAnswer::Given(s) => {
             put_scene(row, s);
             0

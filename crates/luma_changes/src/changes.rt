@@ -35,7 +35,8 @@ fn root(v: u64, n: u64) -> u64
     low
 }
 
-// q of a picture of n pixels. Numbers that no picture gives are answered by 0.
+// q of a picture of n pixels. Numbers that no picture gives get some q, at most 25,500: 0 as it is written, which nothing
+// goes by.
 pub fn change(n: u32, up: u32, down: u32, squares: u32) -> u64
     ensures { λ r. ⌜ Changed n up down squares r ⌝ }
 {

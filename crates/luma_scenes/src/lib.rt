@@ -146,6 +146,7 @@ fn longest(luma: &Words, i: usize, j: usize) -> u64
     most
 }
 
+// Zeros for pictures that are no scene's, which nothing goes by.
 fn no_scene() -> SceneRow {
     SceneRow {
         first: 0,

@@ -54,11 +54,11 @@ fn seal(capture: &[u64; 3840], luma: &[u64; 1600], name: &[u8]) {
             }
             let n = io::count(length as isize, &buffer);
             if write::write_record(name, &buffer[..n]) {
-                answers::print_answer(b"sealed", b"refused", a, b"\n");
+                program_text::print_answer(b"sealed", b"refused", a, b"\n");
             }
         }
         Answer::Refused { number, place } => {
-            answers::print_answer(b"sealed", b"refused", a, b"\n");
+            program_text::print_answer(b"sealed", b"refused", a, b"\n");
             hint(number);
         }
     }

@@ -65,8 +65,8 @@ pub fn write_record(name: &[u8], record: &[u8]) -> bool {
         return false;
     }
     let mut path = io::buffer();
-    let end = lines::put_text(&mut path, 0, name);
-    let whole = lines::put_text(&mut path, end, b".part");
+    let end = record_text::put_text(&mut path, 0, name);
+    let whole = record_text::put_text(&mut path, end, b".part");
     let n = io::count(whole as isize, &path);
     write_part(&path[..n], name, record)
 }

@@ -31,7 +31,7 @@ use Rattle.rules.specs.Index.{float, valueOf, indexOf, indexBits}
 use Rattle.rules.specs.Record.{recordLength}
 use Rattle.rules.specs.Seal.{reduced, scenesIn, scenes, indexFrom, index, header, captureUnfinished, noPacket, lumaUnfinished, noPicture, sealFault}
 use Rattle.luma_laws.proofs.Pictures.{bytes-take, bytes-drop}
-use Rattle.rules.proofs.Laws.Words.{word32-fits}
+use Rattle.record_laws.proofs.Words.{word32-fits}
 use Rattle.rules.proofs.Laws.Frames.{size-least, by-frames, frames-none, frames-one}
 use Rattle.rules.proofs.Laws.Begins.{only-all, all-append}
 use Rattle.rules.proofs.Laws.Onward.{base, base-sum, Whole, frames-whole, of-none, of-from, layout}
@@ -42,7 +42,7 @@ use Rattle.rules.proofs.Laws.Bounds.{frame-count-few, skipped-few, bad-few, wan
 use Rattle.luma_laws.proofs.Sizes.{good}
 use Rattle.luma_laws.proofs.Ranges.{AtMost, sample-scored, sample-changed}
 use Rattle.rules.proofs.Laws.UnitsMore.{units-beginnings, packets-total, lost-small, allPackets, allLost}
-use Rattle.rules.proofs.Laws.Record.{Each, UnitFits, SceneFits, Figures}
+use Rattle.record_laws.proofs.Record.{Each, UnitFits, SceneFits, Figures}
 use Rattle.luma_laws.proofs.Spans.{longest-most, peak-most}
 use Rattle.luma_laws.proofs.Scenes.{Apart, last, next, starts-apart, below-length, starts-first, sample-scores, sample-few, pictures-most}
 

@@ -21,8 +21,8 @@ use Rattle.rules.specs.Pictures.{pictureCount}
 use Rattle.rules.specs.Record.{recordLength}
 use Rattle.rules.specs.Reading.{headerOf, unitAt, sceneAt, allowed, readingFault, rowFault, unitFault, sceneFault, headerAnswer, unitAnswer, sceneAnswer}
 use Rattle.rules.specs.Seal.{scenes, header, sealed, sealedLength, sealFault}
-use Rattle.rules.proofs.Laws.Record.{Each, Figures, length-record, header-read, unit-read, scene-read}
-use Rattle.rules.proofs.Laws.Allowed.{goodHeader, goodUnit, goodUnits, goodScenes, goodFigures, allowed-figures, record-allowed}
+use Rattle.record_laws.proofs.Record.{Each, Figures, length-record, header-read, unit-read, scene-read}
+use Rattle.record_laws.proofs.Allowed.{goodHeader, goodUnit, goodUnits, goodScenes, goodFigures, allowed-figures, record-allowed}
 use Rattle.rules.proofs.Laws.Bounds.{skipped-few}
 use Rattle.luma_laws.proofs.Scenes.{Joins, pictures-most, sample-joins, sample-few}
 use Rattle.record_laws.proofs.Ranges.{Sealable, sealable, UnitRange, units-most, unit-ranges, figures-fit}

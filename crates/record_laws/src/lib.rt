@@ -1,1 +1,1 @@
-// The laws of sealed records: every figure fits its word, and what was sealed is read as it was. No code.
+// No code: the laws of a record's bytes, below the crates that read and write them.

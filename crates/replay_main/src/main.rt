@@ -30,7 +30,7 @@ fn run_opening(
         Answer::Done(_) => {
             io::write_all(STDOUT_FILENO, b"open ok\n");
         }
-        Answer::Refused { .. } => answers::print_answer(b"", b"open refused", a, b"\n"),
+        Answer::Refused { .. } => program_text::print_answer(b"", b"open refused", a, b"\n"),
     }
     true
 }
@@ -44,8 +44,8 @@ fn run_seal(capture: &[u64; 3840], luma: &[u64; 1600], length: u32) -> bool {
     let n = io::count(length as isize, &space);
     let buffer = &mut space[..n];
     let a = sample::seal(capture, luma, buffer);
-    answers::print_answer(b"seal", b"seal refused", a, b" ");
-    answers::print_hex(buffer);
+    program_text::print_answer(b"seal", b"seal refused", a, b" ");
+    program_text::print_hex(buffer);
     io::write_all(STDOUT_FILENO, b"\n");
     true
 }
@@ -65,7 +65,7 @@ fn feed_capture(capture: &mut [u64; 3840], piece: &mut [u8], length: u32) -> boo
     }
     let n = io::count(length as isize, piece);
     let a = sample::feed_capture(capture, &piece[..n]);
-    answers::print_answer(b"capture", b"capture refused", a, b"\n");
+    program_text::print_answer(b"capture", b"capture refused", a, b"\n");
     true
 }
 
@@ -82,7 +82,7 @@ fn feed_luma(
     }
     let n = io::count(length as isize, piece);
     let a = sample::feed_luma(luma, sums, bins, picture, &piece[..n]);
-    answers::print_answer(b"luma", b"luma refused", a, b"\n");
+    program_text::print_answer(b"luma", b"luma refused", a, b"\n");
     true
 }
 

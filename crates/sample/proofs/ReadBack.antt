@@ -11,7 +11,7 @@ use Rattle.rules.specs.Refusals.{Fault, none, fault, answer}
 use Rattle.rules.specs.Seal.{over, sealed, sealedLength, sealFault, sealAnswer, sealedBuffer}
 use Rattle.rules.specs.Calls.{Reply, seal, sealedInto, replied, answerTo, captureFed, lumaFed}
 use Rattle.record_laws.proofs.Sealed.{sealed-length, sealed-header, sealed-unit, sealed-scene}
-use Rattle.record.proofs.Theorems.{front}
+use Rattle.record_reader.proofs.Theorems.{front}
 use Rattle.sample.specs.ReadBack.{ReadsAs, SealReadsBack}
 use Rattle.sample.proofs.Lists.{runs, asked-last}
 

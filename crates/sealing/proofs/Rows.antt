@@ -21,7 +21,7 @@ use Rattle.rules.specs.Record.{recordLength, sceneOffset, headerBytes, unitByte
 use Rattle.rules.specs.Reading.{unitPlace}
 use Rattle.rules.specs.Seal.{over}
 use Rattle.rules.proofs.Laws.Lists.{endToEnd-append}
-use Rattle.rules.proofs.Laws.Record.{length-header, length-unit, length-scene, length-rows, parts-of}
+use Rattle.record_laws.proofs.Record.{length-header, length-unit, length-scene, length-rows, parts-of}
 use Rattle.words.specs.Written.{written}
 use Rattle.words.proofs.Laws.{written-append, length-written}
 use Rattle.units.specs.declared.Units.{Units}
@@ -31,7 +31,7 @@ use Rattle.luma_scenes.specs.Words.{Holds}
 use Rattle.luma_scenes.specs.Next.{nextStart, startAt, scenesFrom}
 use Rattle.luma_scenes.specs.Contract.{NextPost, RowPost}
 use Rattle.luma_scenes.proofs.Starts.{scene-at, scenes-rest}
-use Rattle.record.proofs.Buffers.{over-written}
+use Rattle.words.proofs.Behind.{over-written}
 use Rattle.sealing.specs.Contract.{UnitsWritten, IsScene, ScenesWritten, RecordWritten}
 
 abbrev noScene : SceneRow

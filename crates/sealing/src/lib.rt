@@ -12,8 +12,9 @@ fn write_units(buffer: &mut [u8], capture: &[u64; 3840], n: usize)
 {
     let mut j: usize = 0;
     while j < n {
+        let at = 64 + 32 * j;
         let row = units::row(capture, j);
-        record::write_unit(buffer, j, row);
+        record_writer::write_unit(buffer, at, row);
         j += 1;
     }
 }
@@ -33,9 +34,10 @@ fn write_scenes(
     let mut start: usize = 0;
     let mut j: usize = 0;
     while j < n {
+        let at = 64 + 32 * (units + j);
         let next = luma_scenes::next_start(luma, pictures, time, start);
         let row = luma_scenes::scene_row(luma, start, next);
-        record::write_scene(buffer, units, j, row);
+        record_writer::write_scene(buffer, at, row);
         start = next;
         j += 1;
     }
@@ -47,7 +49,7 @@ pub fn write_record(buffer: &mut [u8], capture: &[u64; 3840], luma: &[u64; 1600]
     ensures { λ _. ⌜ RecordWritten (now (capture .entry)) (now (luma .entry)) h (now (buffer .entry)) (now (buffer .exit)) ⌝ }
 {
     let units = h.units as usize;
-    record::write_header(buffer, h);
+    record_writer::write_header(buffer, h);
     write_units(buffer, capture, units);
     write_scenes(
         buffer,

@@ -6,7 +6,7 @@ ghost use lib.ListN.{length};
 ghost use Rattle.rules.specs.Bytes.{word32};
 use libc::STDIN_FILENO;
 use libc::STDOUT_FILENO;
-use record::Opened;
+use record_reader::Opened;
 
 fn show_units(bytes: &[u8], units: usize)
     requires { ⌜ 64 + 32 * units ≤ length (now bytes) ⌝ }
@@ -14,8 +14,8 @@ fn show_units(bytes: &[u8], units: usize)
     let mut text = [0u8; 200];
     let mut j = 0;
     while j < units {
-        let row = record::unit_row(bytes, j);
-        let n = lines::unit_line(&mut text, j as u64, row);
+        let row = record_reader::unit_row(bytes, j);
+        let n = record_text::unit_line(&mut text, j as u64, row);
         io::write_all(STDOUT_FILENO, &text[..n]);
         j += 1;
     }
@@ -27,8 +27,8 @@ fn show_scenes(bytes: &[u8], units: usize, scenes: usize)
     let mut text = [0u8; 200];
     let mut j = 0;
     while j < scenes {
-        let row = record::scene_row(bytes, units, j);
-        let n = lines::scene_line(&mut text, j as u64, row);
+        let row = record_reader::scene_row(bytes, units, j);
+        let n = record_text::scene_line(&mut text, j as u64, row);
         io::write_all(STDOUT_FILENO, &text[..n]);
         j += 1;
     }
@@ -36,15 +36,15 @@ fn show_scenes(bytes: &[u8], units: usize, scenes: usize)
 
 fn show(bytes: &[u8]) {
     let mut text = [0u8; 200];
-    match record::open(bytes) {
+    match record_reader::open(bytes) {
         Opened::Accepted { units, scenes } => {
-            let n = lines::sample_line(&mut text, record::header_figures(bytes));
+            let n = record_text::sample_line(&mut text, record_reader::header_figures(bytes));
             io::write_all(STDOUT_FILENO, &text[..n]);
             show_units(bytes, units);
             show_scenes(bytes, units, scenes);
         }
         Opened::Refused { number, place: _ } => {
-            let n = lines::refused_line(&mut text, number);
+            let n = record_text::refused_line(&mut text, number);
             io::write_all(STDOUT_FILENO, &text[..n]);
         }
     }

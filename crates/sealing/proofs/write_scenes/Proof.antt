@@ -1,14 +1,19 @@
 -- `write_scenes` meets its contract. The loop's invariant: the rows of the scenes before j are written, and scene j, if there is one, starts at `start`.
 -- The measure is the scenes that are left. Assumes nothing.
-use Prim.Native.Nat.{_≤_, _<_, _-_}
+use Prim.Native.Nat.{ℕ, _+_, _*_, _≤_, _<_, _-_}
 use native.Mathlib.Omega.{arith}
-use mathlib.Core.Path.{_≡_, refl, _∙_}
+use mathlib.Core.Path.{_≡_, refl, ap, _∙_}
 use lib.ListN.{length}
 use borrow.Author.Needs.{needs}
-use Rattle.rules.specs.Record.{recordLength, sceneOffset}
+use Rattle.rules.specs.Record.{recordLength, sceneOffset, sceneBytes}
+use Rattle.words.specs.Written.{written}
 use Rattle.sealing.proofs.Rows.{ScenesSoFar, scenes-none, scenes-more, scenes-all}
 use Rattle.sealing.proofs.write_scenes.Statement.{statement}
 use Rattle.sealing.proofs.write_scenes.Tie as tie
+
+place : (units j : ℕ) → 64 + 32 * (units + j) ≡ sceneOffset units + 32 * j
+unfolding sceneOffset
+place units j = omega arith
 
 abbrev Inv-loop : tie.InvT-loop
 Inv-loop buffer₀ luma units n pictures time start₀ j₀ buffer start j =
@@ -19,6 +24,18 @@ abbrev μ-loop : tie.MeasureT-loop
 
 loop-holds : tie.Need-loop-holds Inv-loop μ-loop
 loop-holds c = (omega arith, refl, scenes-none _ _ _ _ _)
+
+add-at : tie.Need-add-at Inv-loop μ-loop
+unfolding recordLength
+add-at c = omega arith
+
+mul-at : tie.Need-mul-at Inv-loop μ-loop
+unfolding recordLength
+mul-at c = omega arith
+
+add-at-2 : tie.Need-add-at-2 Inv-loop μ-loop
+unfolding recordLength
+add-at-2 c = omega arith
 
 next-start-requires : tie.Need-next-start-requires Inv-loop μ-loop
 next-start-requires c κs = search needs
@@ -51,7 +68,9 @@ loop-again c =
     let r = c .before .before .before .before .scene-row in (
       omega arith,
       w .kept .0 ∙ l .inv .1,
-      scenes-more (a .luma .now) (a .pictures) (a .time) (a .units) (a .buffer .now) (l .buffer) (l .start) (l .j) (l .inv .2) (x .result) (r .result) (x .ensures) (r .ensures) (omega (arith, p)) (w .ensures),
+      scenes-more (a .luma .now) (a .pictures) (a .time) (a .units) (a .buffer .now) (l .buffer) (l .start) (l .j)
+          (l .inv .2) (x .result) (r .result) (x .ensures) (r .ensures) (omega (arith, p))
+          (w .ensures ∙ ap (λ (k : ℕ). written k (sceneBytes (r .result)) (l .buffer)) (place (a .units) (l .j))),
     )
 
 same-length : tie.Need-same-length Inv-loop μ-loop
@@ -70,6 +89,9 @@ write-scenes-spec =
     Inv-loop
     μ-loop
     loop-holds
+    add-at
+    mul-at
+    add-at-2
     next-start-requires
     scene-row-requires
     write-scene-requires

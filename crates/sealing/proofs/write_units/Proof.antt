@@ -20,6 +20,14 @@ abbrev μ-loop : tie.MeasureT-loop
 loop-holds : tie.Need-loop-holds Inv-loop μ-loop
 loop-holds c = (omega arith, refl, units-none _ _)
 
+mul-at : tie.Need-mul-at Inv-loop μ-loop
+unfolding sceneOffset
+mul-at c = omega arith
+
+add-at : tie.Need-add-at Inv-loop μ-loop
+unfolding sceneOffset
+add-at c = omega arith
+
 row-requires : tie.Need-row-requires Inv-loop μ-loop
 row-requires c κs = search needs
 
@@ -41,8 +49,9 @@ loop-again c =
     let l = c .before .before .before .before .before .before .loop in
     let w = c .before .before .write-unit in
     let t = c .before .before .before .before .before .loop-test .taken in
-    let a = c .before .before .before .before .before .before .before .before .args in
-    let p = c .before .before .before .before .before .before .before .before .pre in (
+    let s = c .before .before .before .before .before .before .before .before in
+    let a = s .args in
+    let p = s .pre in (
       omega arith,
       w .kept .0 ∙ l .inv .1,
       units-more (a .capture .now) (l .j) (a .buffer .now) (l .buffer) (w .last .0) (omega (arith, p)) (c .before .before .before .before .row .result) (l .inv .2) (c .before .before .before .before .row .ensures) (w .ensures),
@@ -65,6 +74,8 @@ write-units-spec =
     Inv-loop
     μ-loop
     loop-holds
+    mul-at
+    add-at
     row-requires
     write-unit-requires
     add-j

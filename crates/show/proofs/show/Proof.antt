@@ -1,6 +1,6 @@
 use borrow.Author.Needs.{needs}
 use native.Mathlib.Omega.{arith}
-use Rattle.record.proofs.Answers.{accepted}
+use Rattle.record_reader.proofs.Answers.{accepted}
 use Rattle.show.proofs.Shown.{within-buffer, whole-line}
 use Rattle.show.proofs.show.Statement.{statement}
 use Rattle.show.proofs.show.Tie as tie

@@ -1,0 +1,2 @@
+-- The row at a string's front.
+pub mod RowIn

@@ -1,0 +1,85 @@
+use native.Mathlib.Omega.{arith}
+use Prim.Native.Nat.{_+_, _-_, _*_, _≤_}
+use mathlib.Core.Path.{_≡_}
+use lib.ListN.{drop, length-take, length-drop}
+use borrow.Author.Tests.{not-true, not-false}
+use native.Mathlib.Nat.{sub-zero}
+use Rattle.record_reader.proofs.Rows.{units-more, units-stop, units-end}
+use Rattle.rules.specs.Reading.{allowedUnits}
+use Rattle.record_reader.proofs.allowed_units.Statement.{statement}
+use Rattle.record_reader.proofs.allowed_units.Tie as tie
+
+abbrev Inv-loop : tie.InvT-loop
+Inv-loop bytes n j₀ j = (j ≤ n) × (allowedUnits n (drop 64 bytes) ≡ allowedUnits (n - j) (drop (64 + 32 * j) bytes))
+
+abbrev μ-loop : tie.MeasureT-loop
+μ-loop bytes n j₀ j = n - j
+
+loop-holds : tie.Need-loop-holds Inv-loop μ-loop
+loop-holds c = (omega arith, rw sub-zero)
+
+mul-at : tie.Need-mul-at Inv-loop μ-loop
+mul-at c = omega arith
+
+add-at : tie.Need-add-at Inv-loop μ-loop
+add-at c = omega arith
+
+sub-allowed-unit : tie.Need-sub-allowed-unit Inv-loop μ-loop
+sub-allowed-unit c = omega arith
+
+part-allowed-unit-start : tie.Need-part-allowed-unit-start Inv-loop μ-loop
+part-allowed-unit-start c = omega arith
+
+part-allowed-unit-end : tie.Need-part-allowed-unit-end Inv-loop μ-loop
+part-allowed-unit-end c = omega arith
+
+allowed-unit-requires : tie.Need-allowed-unit-requires Inv-loop μ-loop
+allowed-unit-requires c κs = simp (length-take, length-drop) (omega arith)
+
+returns : tie.Need-returns Inv-loop μ-loop
+returns c =
+    let c₃ = c .before .before .before in
+    let c₄ = c₃ .before in
+    let c₆ = c₄ .before .before in
+    units-stop (c₆ .args .bytes .now) (c₆ .args .n) (c₄ .loop .j) (c₃ .loop-test .taken) (c .before .allowed-unit .result) _ (c₄ .loop .inv .1)
+    (c .before .allowed-unit .ensures) (not-true _ (c .if1 .taken))
+
+add-j : tie.Need-add-j Inv-loop μ-loop
+add-j c = omega arith
+
+loop-less : tie.Need-loop-less Inv-loop μ-loop
+loop-less c = omega arith
+
+loop-again : tie.Need-loop-again Inv-loop μ-loop
+loop-again c =
+    let c₃ = c .before .before .before in
+    let c₄ = c₃ .before in
+    let c₆ = c₄ .before .before in (
+      omega arith,
+      units-more (c₆ .args .bytes .now) (c₆ .args .n) (c₄ .loop .j) (c₃ .loop-test .taken) (c .before .allowed-unit .result) _
+          (c₄ .loop .inv .1) (c .before .allowed-unit .ensures) (not-false _ (c .if1 .left)),
+    )
+
+returns-2 : tie.Need-returns-2 Inv-loop μ-loop
+returns-2 c =
+    let c₃ = c .before .before .before in
+    units-end (c₃ .args .n) (c .before .loop .j) _ _ (c .loop-test .left) (c .before .loop .inv .1)
+
+pub allowed-units-spec : {M : Type 1} → statement M
+allowed-units-spec =
+    tie.close
+    (tie.spec
+    Inv-loop
+    μ-loop
+    loop-holds
+    mul-at
+    add-at
+    sub-allowed-unit
+    part-allowed-unit-start
+    part-allowed-unit-end
+    allowed-unit-requires
+    returns
+    add-j
+    loop-less
+    loop-again
+    returns-2)

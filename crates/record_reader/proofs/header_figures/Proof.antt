@@ -1,0 +1,80 @@
+use borrow.Author.Needs.{needs}
+use Rattle.rules.specs.Reading.{headerOf}
+use Rattle.record_reader.proofs.header_figures.Statement.{statement}
+use Rattle.record_reader.proofs.header_figures.Tie as tie
+
+word32-requires : tie.Need-word32-requires
+word32-requires c κs = search needs
+
+word32-requires-2 : tie.Need-word32-requires-2
+word32-requires-2 c κs = search needs
+
+word32-requires-3 : tie.Need-word32-requires-3
+word32-requires-3 c κs = search needs
+
+word32-requires-4 : tie.Need-word32-requires-4
+word32-requires-4 c κs = search needs
+
+word32-requires-5 : tie.Need-word32-requires-5
+word32-requires-5 c κs = search needs
+
+word32-requires-6 : tie.Need-word32-requires-6
+word32-requires-6 c κs = search needs
+
+word32-requires-7 : tie.Need-word32-requires-7
+word32-requires-7 c κs = search needs
+
+word32-requires-8 : tie.Need-word32-requires-8
+word32-requires-8 c κs = search needs
+
+word32-requires-9 : tie.Need-word32-requires-9
+word32-requires-9 c κs = search needs
+
+word32-requires-10 : tie.Need-word32-requires-10
+word32-requires-10 c κs = search needs
+
+word64-requires : tie.Need-word64-requires
+word64-requires c κs = search needs
+
+returns : tie.Need-returns
+unfolding headerOf
+returns c =
+    let c₂ = c .before .before in
+    let c₃ = c₂ .before in
+    let c₄ = c₃ .before in
+    let c₅ = c₄ .before in
+    let c₆ = c₅ .before in
+    let c₇ = c₆ .before in
+    let c₈ = c₇ .before in
+    let c₉ = c₈ .before in
+    let c₁₀ = c₉ .before in
+    rw (
+      c₁₀ .word32 .ensures,
+      c₉ .word322 .ensures,
+      c₈ .word323 .ensures,
+      c₇ .word324 .ensures,
+      c₆ .word325 .ensures,
+      c₅ .word326 .ensures,
+      c₄ .word327 .ensures,
+      c₃ .word328 .ensures,
+      c₂ .word329 .ensures,
+      c .before .word3210 .ensures,
+      c .word64 .ensures,
+    )
+
+pub header-figures-spec : {M : Type 1} → statement M
+header-figures-spec =
+    tie.close
+    (tie.spec
+    word32-requires
+    word32-requires-2
+    word32-requires-3
+    word32-requires-4
+    word32-requires-5
+    word32-requires-6
+    word32-requires-7
+    word32-requires-8
+    word32-requires-9
+    word32-requires-10
+    word64-requires
+    returns)

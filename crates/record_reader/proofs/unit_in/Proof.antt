@@ -1,0 +1,38 @@
+use borrow.Author.Needs.{needs}
+use Rattle.record_laws.specs.RowIn.{unitIn}
+use Rattle.record_reader.proofs.unit_in.Statement.{statement}
+use Rattle.record_reader.proofs.unit_in.Tie as tie
+
+word64-requires : tie.Need-word64-requires
+word64-requires c κs = search needs
+
+word64-requires-2 : tie.Need-word64-requires-2
+word64-requires-2 c κs = search needs
+
+word32-requires : tie.Need-word32-requires
+word32-requires c κs = search needs
+
+word32-requires-2 : tie.Need-word32-requires-2
+word32-requires-2 c κs = search needs
+
+word32-requires-3 : tie.Need-word32-requires-3
+word32-requires-3 c κs = search needs
+
+returns : tie.Need-returns
+unfolding unitIn
+returns c =
+    let c₂ = c .before .before in
+    let c₃ = c₂ .before in
+    let c₄ = c₃ .before in
+    rw (c₄ .word64 .ensures, c₃ .word642 .ensures, c₂ .word32 .ensures, c .before .word322 .ensures, c .word323 .ensures)
+
+pub unit-in-spec : {M : Type 1} → statement M
+unit-in-spec =
+    tie.close
+    (tie.spec
+    word64-requires
+    word64-requires-2
+    word32-requires
+    word32-requires-2
+    word32-requires-3
+    returns)

@@ -1,0 +1,286 @@
+// Reading a record: whether document 01 allows it, its header's figures and its rows.
+ghost use mathlib.Core.Path.{_≡_};
+ghost use Prim.Native.Nat.{_+_, _*_, _≤_, _<_};
+ghost use lib.ListN.{length, drop};
+ghost use Rattle.rules.specs.Bytes.{word32 as rule32};
+ghost use Rattle.rules.specs.Record.{sceneOffset};
+ghost use Rattle.rules.specs.Reading.{headerOf, unitPlace, unitAt, sceneAt, allowedHeader, allowedUnit, allowedUnits, allowedScene, allowedScenes, allowed as ruleAllowed, headerAnswer, unitAnswer, sceneAnswer};
+ghost use Rattle.record_laws.specs.RowIn.{unitIn, sceneIn};
+ghost use Rattle.record_reader.specs.Opened.{openedAs};
+use figures::good_pid;
+use figures::good_size;
+use figures::good_time;
+use rules::Header;
+use rules::HeaderAnswer;
+use rules::SceneAnswer;
+use rules::SceneRow;
+use rules::UnitAnswer;
+use rules::UnitRow;
+
+// What opening a record answers: accepted, with its counts of units and scenes, or refused.
+pub enum Opened {
+    Accepted { units: usize, scenes: usize },
+    Refused { number: u64, place: u64 },
+}
+
+// A 32-bit word, as a number that sums of words fit in.
+fn word(bytes: &[u8], at: usize) -> u64
+    requires { ⌜ at + 4 ≤ length (now bytes) ⌝ }
+    ensures { λ r. ⌜ (r ≡ rule32 (now (bytes .entry)) at) × (r < 4294967296) ⌝ }
+{
+    words::word32(bytes, at) as u64
+}
+
+// The header's conditions.
+fn allowed_header(bytes: &[u8]) -> bool
+    requires { ⌜ 64 ≤ length (now bytes) ⌝ }
+    ensures { λ r. ⌜ r ≡ allowedHeader (length (now (bytes .entry))) (now (bytes .entry)) ⌝ }
+{
+    let size = word(bytes, 4);
+    let units = word(bytes, 8);
+    let scenes = word(bytes, 16);
+    let pictures = word(bytes, 40);
+    let whole = (word(bytes, 0) == 1)
+        & (size == bytes.len() as u64)
+        & (size == 64 + 32 * (units + scenes))
+        & (word(bytes, 12) == 64)
+        & (word(bytes, 20) == 64 + 32 * units);
+    let counts = whole
+        & ((1 <= units) & (units <= 750))
+        & ((1 <= scenes) & (scenes <= 250))
+        & ((1 <= pictures) & (pictures <= 750));
+    counts
+        & good_size(words::word32(bytes, 24), words::word32(bytes, 28))
+        & good_time(words::word32(bytes, 32))
+        & good_pid(words::word32(bytes, 36))
+        & (word(bytes, 48) <= word(bytes, 44))
+}
+
+// A unit row's conditions.
+fn allowed_unit(row: &[u8]) -> bool
+    requires { ⌜ 32 ≤ length (now row) ⌝ }
+    ensures { λ r. ⌜ r ≡ allowedUnit (now (row .entry)) ⌝ }
+{
+    let packets = word(row, 20);
+    (words::word64(row, 0) <= words::word64(row, 8))
+        & (1 <= packets)
+        & (word(row, 16) == 184 * packets)
+        & (word(row, 28) == 0)
+}
+
+// The conditions of n unit rows.
+fn allowed_units(bytes: &[u8], n: usize) -> bool
+    requires { ⌜ 64 + 32 * n ≤ length (now bytes) ⌝ }
+    ensures { λ r. ⌜ r ≡ allowedUnits n (drop 64 (now (bytes .entry))) ⌝ }
+{
+    let mut j = 0;
+    while j < n {
+        let at = 64 + 32 * j;
+        if !allowed_unit(&bytes[at..]) {
+            return false;
+        }
+        j += 1;
+    }
+    true
+}
+
+// A scene row's conditions, where the scene is to begin at picture `from`.
+fn allowed_scene(row: &[u8], from: u64) -> bool
+    requires { ⌜ 32 ≤ length (now row) ⌝ }
+    ensures { λ r. ⌜ r ≡ allowedScene from (now (row .entry)) ⌝ }
+{
+    (word(row, 0) == from) & (1 <= word(row, 4)) & (word(row, 28) == 0)
+}
+
+// The conditions of n scene rows from a place on, which are to total the pictures.
+fn allowed_scenes(bytes: &[u8], place: usize, n: usize, pictures: u64) -> bool
+    requires { ⌜ (place + 32 * n ≤ length (now bytes)) × (n ≤ 250) ⌝ }
+    ensures { λ r. ⌜ r ≡ allowedScenes pictures n 0 (drop place (now (bytes .entry))) ⌝ }
+{
+    let mut from: u64 = 0;
+    let mut j = 0;
+    while j < n {
+        let at = place + 32 * j;
+        let row = &bytes[at..];
+        if !allowed_scene(row, from) {
+            return false;
+        }
+        from += word(row, 4);
+        j += 1;
+    }
+    from == pictures
+}
+
+// Whether document 01 allows a record of 64 bytes or more.
+fn allowed(bytes: &[u8]) -> bool
+    requires { ⌜ 64 ≤ length (now bytes) ⌝ }
+    ensures { λ r. ⌜ r ≡ ruleAllowed (now (bytes .entry)) ⌝ }
+{
+    if !allowed_header(bytes) {
+        return false;
+    }
+    let units = words::word32(bytes, 8) as usize;
+    let scenes = words::word32(bytes, 16) as usize;
+    if !allowed_units(bytes, units) {
+        return false;
+    }
+    allowed_scenes(bytes, 64 + 32 * units, scenes, word(bytes, 40))
+}
+
+// Opens a record: accepted exactly if document 01 allows it, otherwise 16, 17 or 18, tried in this order.
+pub fn open(bytes: &[u8]) -> Opened
+    ensures { λ r. ⌜ r ≡ openedAs (now (bytes .entry)) ⌝ }
+{
+    if bytes.len() < 64 {
+        return Opened::Refused {
+            number: 16,
+            place: 0,
+        };
+    }
+    if word(bytes, 0) != 1 {
+        return Opened::Refused {
+            number: 17,
+            place: 0,
+        };
+    }
+    if !allowed(bytes) {
+        return Opened::Refused {
+            number: 18,
+            place: 0,
+        };
+    }
+    let units = words::word32(bytes, 8) as usize;
+    let scenes = words::word32(bytes, 16) as usize;
+    Opened::Accepted {
+        units: units,
+        scenes: scenes,
+    }
+}
+
+// The header's figures, of a record that was accepted.
+pub fn header_figures(bytes: &[u8]) -> Header
+    requires { ⌜ 64 ≤ length (now bytes) ⌝ }
+    ensures { λ r. ⌜ r ≡ headerOf (now (bytes .entry)) ⌝ }
+{
+    Header {
+        units: words::word32(bytes, 8),
+        scenes: words::word32(bytes, 16),
+        width: words::word32(bytes, 24),
+        height: words::word32(bytes, 28),
+        time: words::word32(bytes, 32),
+        pid: words::word32(bytes, 36),
+        pictures: words::word32(bytes, 40),
+        frames: words::word32(bytes, 44),
+        skipped: words::word32(bytes, 48),
+        bad: words::word32(bytes, 52),
+        index: words::word64(bytes, 56),
+    }
+}
+
+// The unit row at a string's front.
+fn unit_in(row: &[u8]) -> UnitRow
+    requires { ⌜ 32 ≤ length (now row) ⌝ }
+    ensures { λ r. ⌜ r ≡ unitIn (now (row .entry)) ⌝ }
+{
+    UnitRow {
+        least: words::word64(row, 0),
+        greatest: words::word64(row, 8),
+        size: words::word32(row, 16),
+        packets: words::word32(row, 20),
+        lost: words::word32(row, 24),
+    }
+}
+
+// The scene row at a string's front.
+fn scene_in(row: &[u8]) -> SceneRow
+    requires { ⌜ 32 ≤ length (now row) ⌝ }
+    ensures { λ r. ⌜ r ≡ sceneIn (now (row .entry)) ⌝ }
+{
+    SceneRow {
+        first: words::word32(row, 0),
+        pictures: words::word32(row, 4),
+        repeated: words::word32(row, 8),
+        longest: words::word32(row, 12),
+        score: words::word32(row, 16),
+        peak: words::word32(row, 20),
+        change: words::word32(row, 24),
+    }
+}
+
+// Unit row j, of a record that was accepted and has it.
+pub fn unit_row(bytes: &[u8], j: usize) -> UnitRow
+    requires { ⌜ unitPlace j + 32 ≤ length (now bytes) ⌝ }
+    ensures { λ r. ⌜ r ≡ unitAt (now (bytes .entry)) j ⌝ }
+{
+    let at = 64 + 32 * j;
+    unit_in(&bytes[at..])
+}
+
+// Scene row j, of a record that was accepted, has so many units and has the row.
+pub fn scene_row(bytes: &[u8], units: usize, j: usize) -> SceneRow
+    requires { ⌜ (units ≡ rule32 (now bytes) 8) × (sceneOffset units + 32 * j + 32 ≤ length (now bytes)) ⌝ }
+    ensures { λ r. ⌜ r ≡ sceneAt (now (bytes .entry)) j ⌝ }
+{
+    let at = 64 + 32 * units + 32 * j;
+    scene_in(&bytes[at..])
+}
+
+// The header's figures, or the refusal.
+pub fn header(bytes: &[u8]) -> HeaderAnswer
+    ensures { λ r. ⌜ r ≡ headerAnswer (now (bytes .entry)) ⌝ }
+{
+    match open(bytes) {
+        Opened::Accepted {
+            units: _,
+            scenes: _,
+        } => HeaderAnswer::Given(header_figures(bytes)),
+        Opened::Refused { number, place } => HeaderAnswer::Refused {
+            number: number,
+            place: place,
+        },
+    }
+}
+
+// Unit row j, or the refusal: 19 where the record has no such row.
+pub fn unit(bytes: &[u8], j: usize) -> UnitAnswer
+    ensures { λ r. ⌜ r ≡ unitAnswer (now (bytes .entry)) j ⌝ }
+{
+    match open(bytes) {
+        Opened::Accepted { units, scenes: _ } => {
+            if j < units {
+                UnitAnswer::Given(unit_row(bytes, j))
+            } else {
+                UnitAnswer::Refused {
+                    number: 19,
+                    place: 0,
+                }
+            }
+        }
+        Opened::Refused { number, place } => UnitAnswer::Refused {
+            number: number,
+            place: place,
+        },
+    }
+}
+
+// Scene row j, or the refusal.
+pub fn scene(bytes: &[u8], j: usize) -> SceneAnswer
+    ensures { λ r. ⌜ r ≡ sceneAnswer (now (bytes .entry)) j ⌝ }
+{
+    match open(bytes) {
+        Opened::Accepted { units, scenes } => {
+            if j < scenes {
+                SceneAnswer::Given(scene_row(bytes, units, j))
+            } else {
+                SceneAnswer::Refused {
+                    number: 19,
+                    place: 0,
+                }
+            }
+        }
+        Opened::Refused { number, place } => SceneAnswer::Refused {
+            number: number,
+            place: place,
+        },
+    }
+}
