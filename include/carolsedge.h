@@ -51,7 +51,10 @@ enum {
 /* ---- a sample */
 
 enum {
-    CAROLSEDGE_CAPTURE_WORDS = 3840,
+    CAROLSEDGE_WALK_WORDS = 16,
+    CAROLSEDGE_COLLECTED_BYTES = 64,
+    CAROLSEDGE_NUMBERS = 16,
+    CAROLSEDGE_TABLE_WORDS = 3750,
     CAROLSEDGE_LUMA_WORDS = 1600,
     CAROLSEDGE_SUMS = 240,
     CAROLSEDGE_BINS = 720,
@@ -61,8 +64,11 @@ enum {
 
 /* The whole state of a sample. Its contents are the library's own. */
 struct carolsedge_sample {
-    uint64_t capture[CAROLSEDGE_CAPTURE_WORDS];
-    uint64_t luma[CAROLSEDGE_LUMA_WORDS];
+    uint64_t walk[CAROLSEDGE_WALK_WORDS]; /* capture: the walk through its frames, collected bytes, counts, the table of units */
+    uint8_t kept[CAROLSEDGE_COLLECTED_BYTES];
+    uint64_t numbers[CAROLSEDGE_NUMBERS];
+    uint64_t table[CAROLSEDGE_TABLE_WORDS];
+    uint64_t luma[CAROLSEDGE_LUMA_WORDS]; /* luma: its words, block sums, bins, picture */
     uint32_t sums[CAROLSEDGE_SUMS];
     uint32_t bins[CAROLSEDGE_BINS];
     uint8_t picture[CAROLSEDGE_PICTURE_BYTES];
@@ -70,25 +76,28 @@ struct carolsedge_sample {
 CAROLSEDGE_ASSERT(sizeof(struct carolsedge_sample) <= 65536, "the state of a sample stays within 64 KiB");
 
 /* The functions of the library take the state's arrays apart. The carolsedge_sample_ functions below take the structure. */
-uint32_t carolsedge_open(uint64_t *capture, uint64_t *luma, uint32_t *sums, uint32_t *bins, uint8_t *picture,
+uint32_t carolsedge_open(uint64_t *walk, uint8_t *kept, uint64_t *numbers, uint64_t *table,
+                         uint64_t *luma, uint32_t *sums, uint32_t *bins, uint8_t *picture,
                          uint32_t width, uint32_t height, uint32_t time, uint32_t pid);
-uint32_t carolsedge_feed_capture(uint64_t *capture, const uint8_t *piece, size_t length, uint64_t *value);
+uint32_t carolsedge_feed_capture(uint64_t *walk, uint8_t *kept, uint64_t *numbers, uint64_t *table,
+                                 const uint8_t *piece, size_t length, uint64_t *value);
 uint32_t carolsedge_feed_luma(uint64_t *luma, uint32_t *sums, uint32_t *bins, uint8_t *picture,
                               const uint8_t *piece, size_t length, uint64_t *value);
-uint32_t carolsedge_seal(const uint64_t *capture, const uint64_t *luma, uint8_t *buffer, size_t length, uint64_t *value);
+uint32_t carolsedge_seal(const uint64_t *walk, const uint8_t *kept, const uint64_t *numbers, const uint64_t *table,
+                         const uint64_t *luma, uint8_t *buffer, size_t length, uint64_t *value);
 
 /* Opens a sample: width W and height H of a picture, its display time d in microseconds, packet identifier PID. Refused: 1, 2 or 3, which its feeds and
  * seals then repeat. */
 static inline uint32_t carolsedge_sample_open(struct carolsedge_sample *s, uint32_t width, uint32_t height, uint32_t time, uint32_t pid)
 {
-    return carolsedge_open(s->capture, s->luma, s->sums, s->bins, s->picture, width, height, time, pid);
+    return carolsedge_open(s->walk, s->kept, s->numbers, s->table, s->luma, s->sums, s->bins, s->picture, width, height, time, pid);
 }
 
 /* Feeds a piece of the capture, of any length. *value is the length, or the refusal's place (4 to 9, which later feeds of this side repeat). */
 static inline uint32_t carolsedge_sample_feed_capture(struct carolsedge_sample *s, const uint8_t *piece, size_t length, uint64_t *value)
 {
     const uint8_t none = 0;
-    return carolsedge_feed_capture(s->capture, length ? piece : &none, length, value);
+    return carolsedge_feed_capture(s->walk, s->kept, s->numbers, s->table, length ? piece : &none, length, value);
 }
 
 /* Feeds a piece of the luma, of any length. *value is the length, or the refusal's place (10). */
@@ -105,7 +114,7 @@ static inline uint32_t carolsedge_sample_feed_luma(struct carolsedge_sample *s, 
 static inline uint32_t carolsedge_sample_seal(const struct carolsedge_sample *s, uint8_t *buffer, size_t length, uint64_t *value)
 {
     uint8_t none = 0;
-    return carolsedge_seal(s->capture, s->luma, length ? buffer : &none, length, value);
+    return carolsedge_seal(s->walk, s->kept, s->numbers, s->table, s->luma, length ? buffer : &none, length, value);
 }
 
 /* A whole list of calls after one opening, coded in a script: five 32-bit little-endian words W, H, d, PID and a rule edition, which is ignored; then calls, each

@@ -5,24 +5,25 @@
 
 struct carolsedge_header;
 struct carolsedge_unit;
-uint32_t __real_carolsedge_feed_capture(uint64_t *, const uint8_t *, size_t, uint64_t *);
+uint32_t __real_carolsedge_feed_capture(uint64_t *, uint8_t *, uint64_t *, uint64_t *, const uint8_t *, size_t, uint64_t *);
 uint32_t __real_carolsedge_feed_luma(uint64_t *, uint32_t *, uint32_t *, uint8_t *, const uint8_t *, size_t, uint64_t *);
-uint32_t __real_carolsedge_seal(const uint64_t *, const uint64_t *, uint8_t *, size_t, uint64_t *);
+uint32_t __real_carolsedge_seal(const uint64_t *, const uint8_t *, const uint64_t *, const uint64_t *, const uint64_t *, uint8_t *, size_t, uint64_t *);
 uint32_t __real_carolsedge_read_header(const uint8_t *, size_t, struct carolsedge_header *);
 uint32_t __real_carolsedge_read_unit(const uint8_t *, size_t, size_t, struct carolsedge_unit *);
 
-uint32_t __wrap_carolsedge_feed_capture(uint64_t *capture, const uint8_t *piece, size_t length, uint64_t *value)
+uint32_t __wrap_carolsedge_feed_capture(uint64_t *walk, uint8_t *kept, uint64_t *numbers, uint64_t *table, const uint8_t *piece, size_t length,
+                                        uint64_t *value)
 {
     if (FAULT == 1) /* reads the byte behind a piece */
         (void)*(const volatile uint8_t *)(piece + length);
-    if (FAULT == 2) /* writes the word behind the state */
-        capture[3840] = 0;
+    if (FAULT == 2) /* writes the word behind an array */
+        table[3750] = 0;
     if (FAULT == 3 && length) /* writes to a piece */
         *(volatile uint8_t *)(uintptr_t)piece = 0;
     if (FAULT == 4) /* does not end */
         for (;;)
             *(volatile uint64_t *)value = 0;
-    return __real_carolsedge_feed_capture(capture, piece, length, value);
+    return __real_carolsedge_feed_capture(walk, kept, numbers, table, piece, length, value);
 }
 
 uint32_t __wrap_carolsedge_feed_luma(uint64_t *luma, uint32_t *sums, uint32_t *bins, uint8_t *picture, const uint8_t *piece, size_t length, uint64_t *value)
@@ -32,9 +33,10 @@ uint32_t __wrap_carolsedge_feed_luma(uint64_t *luma, uint32_t *sums, uint32_t *b
     return __real_carolsedge_feed_luma(luma, sums, bins, picture, piece, length, value);
 }
 
-uint32_t __wrap_carolsedge_seal(const uint64_t *capture, const uint64_t *luma, uint8_t *buffer, size_t length, uint64_t *value)
+uint32_t __wrap_carolsedge_seal(const uint64_t *walk, const uint8_t *kept, const uint64_t *numbers, const uint64_t *table, const uint64_t *luma,
+                                uint8_t *buffer, size_t length, uint64_t *value)
 {
-    uint32_t k = __real_carolsedge_seal(capture, luma, buffer, length, value);
+    uint32_t k = __real_carolsedge_seal(walk, kept, numbers, table, luma, buffer, length, value);
     if (FAULT == 6 && k && length) /* writes to a refused seal's buffer */
         buffer[length / 2] = 1;
     return FAULT == 7 && k ? 20 : k; /* a number that is not in the table */

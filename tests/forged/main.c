@@ -53,7 +53,7 @@ static uint64_t below(uint64_t n) { return chance() % n; }
 /* A number of any size, a small one, or one at an edge. */
 static uint64_t figure(void)
 {
-    static const uint64_t edges[] = {0, 1, 2, 4, 16, 18, 19, 20, 23, 24, 30, 42, 58, 64, 188, 249, 250, 251, 749, 750, 751, 1088, 1600, 1920, 3840, 8191,
+    static const uint64_t edges[] = {0, 1, 2, 4, 16, 18, 19, 20, 23, 24, 30, 42, 58, 64, 188, 249, 250, 251, 749, 750, 751, 1088, 1600, 1920, 3750, 8191,
                                      65535, 65536, 268435455, 268435456, 268435457, UINT32_MAX, (uint64_t)1 << 32, INT64_MAX, UINT64_MAX - 1, UINT64_MAX};
     switch (below(4)) {
     case 0: return chance();
@@ -204,7 +204,7 @@ static void make_true(int i)
 
 /* ---- forging */
 
-static struct room capture, luma, sums, bins, picture, out, header, lent, script;
+static struct room walk, kept, numbers, table, luma, sums, bins, picture, out, header, lent, script;
 
 /* The words of a lent array, by one way of forging. */
 static void forge(uint8_t *p, size_t size, const void *true_words, size_t word, int way)
@@ -229,7 +229,10 @@ static void forge_state(void)
 {
     const struct carolsedge_sample *t = &truth[below(TRUE_STATES)];
     int way = (int)below(8);
-    forge(lend(&capture, sizeof t->capture), sizeof t->capture, t->capture, 8, way);
+    forge(lend(&walk, sizeof t->walk), sizeof t->walk, t->walk, 8, way);
+    forge(lend(&kept, sizeof t->kept), sizeof t->kept, t->kept, 1, way);
+    forge(lend(&numbers, sizeof t->numbers), sizeof t->numbers, t->numbers, 8, way);
+    forge(lend(&table, sizeof t->table), sizeof t->table, t->table, 8, way);
     forge(lend(&luma, sizeof t->luma), sizeof t->luma, t->luma, 8, way);
     forge(lend(&sums, sizeof t->sums), sizeof t->sums, t->sums, 4, way);
     forge(lend(&bins, sizeof t->bins), sizeof t->bins, t->bins, 4, way);
@@ -239,19 +242,22 @@ static void forge_state(void)
 /* A status refuses at once, and wild numbers soon: between two calls the words that steer are often set so that the next one goes on. */
 static void alter_state(void)
 {
-    uint64_t *c = (uint64_t *)(void *)at(&capture), *l = (uint64_t *)(void *)at(&luma);
+    uint64_t *w = (uint64_t *)(void *)at(&walk), *c = (uint64_t *)(void *)at(&numbers), *l = (uint64_t *)(void *)at(&luma);
+    uint64_t *u = (uint64_t *)(void *)at(&table);
     switch (below(4)) {
     case 0: /* any way through the engines */
-        c[0] = 0, c[3] = 24 + below(1000), c[4] = below(80), c[6] = below(200);
+        c[0] = w[0] = 0, w[2] = 24 + below(1000), w[3] = below(80), w[5] = below(200);
         l[0] = 0, l[3] = below(752), l[5] = below(40), l[6] = below(8), l[7] = below(400), l[8] = below(4096);
         l[12] = 15 + below(400), l[13] = 30 + below(200), l[14] = 10000 + below(190001), l[15] = 256;
         break;
     case 1: /* ready for a seal, but for the counts */
-        c[0] = 0, c[3] = 1000, c[4] = 0, c[11] = below(800);
+        c[0] = w[0] = 0, w[2] = 1000, w[3] = 0, c[4] = below(800);
         l[0] = 0, l[3] = below(760), l[5] = l[6] = l[7] = 0;
         break;
     case 2:
-        c[below(2) ? below(16) : below(CAROLSEDGE_CAPTURE_WORDS)] = figure();
+        w[below(CAROLSEDGE_WALK_WORDS)] = figure();
+        c[below(CAROLSEDGE_NUMBERS)] = figure();
+        u[below(CAROLSEDGE_TABLE_WORDS)] = figure();
         l[below(2) ? below(16) : below(CAROLSEDGE_LUMA_WORDS)] = figure();
         break;
     default: break;
@@ -296,7 +302,7 @@ static const uint8_t *piece_of(size_t *length)
 
 static void check_state(void)
 {
-    check_slack(&capture), check_slack(&luma), check_slack(&sums), check_slack(&bins), check_slack(&picture), check_slack(&lent);
+    check_slack(&walk), check_slack(&kept), check_slack(&numbers), check_slack(&table), check_slack(&luma), check_slack(&sums), check_slack(&bins), check_slack(&picture), check_slack(&lent);
 }
 
 static uint32_t fault_of(uint32_t w, uint32_t h, uint32_t d, uint32_t pid)
@@ -311,8 +317,9 @@ static void call_open(void)
     uint32_t w = below(3) ? 15 + (uint32_t)below(1906) : (uint32_t)figure(), h = below(3) ? w / 4 + (uint32_t)below(1100) : (uint32_t)figure();
     uint32_t d = below(3) ? 10000 + (uint32_t)below(190001) : (uint32_t)figure(), pid = below(3) ? (uint32_t)below(8192) : (uint32_t)figure();
     begin(OPEN);
-    uint32_t k = end(carolsedge_open((uint64_t *)(void *)at(&capture), (uint64_t *)(void *)at(&luma), (uint32_t *)(void *)at(&sums),
-                                     (uint32_t *)(void *)at(&bins), at(&picture), w, h, d, pid));
+    uint32_t k = end(carolsedge_open((uint64_t *)(void *)at(&walk), at(&kept), (uint64_t *)(void *)at(&numbers), (uint64_t *)(void *)at(&table),
+                                     (uint64_t *)(void *)at(&luma), (uint32_t *)(void *)at(&sums), (uint32_t *)(void *)at(&bins), at(&picture),
+                                     w, h, d, pid));
     check_state();
     if (k != fault_of(w, h, d, pid))
         fail("another answer than document 01's");
@@ -324,7 +331,7 @@ static void call_feed_capture(void)
     const uint8_t *piece = piece_of(&n);
     uint64_t *value = (uint64_t *)(void *)lend(&lent, 8);
     begin(FEED_CAPTURE);
-    end(carolsedge_feed_capture((uint64_t *)(void *)at(&capture), piece, n, value));
+    end(carolsedge_feed_capture((uint64_t *)(void *)at(&walk), at(&kept), (uint64_t *)(void *)at(&numbers), (uint64_t *)(void *)at(&table), piece, n, value));
     check_state();
 }
 
@@ -338,6 +345,12 @@ static void call_feed_luma(void)
     check_state();
 }
 
+/* What a seal reads cannot be written meanwhile. */
+static void guard(int way)
+{
+    protect(&walk, way), protect(&kept, way), protect(&numbers, way), protect(&table, way), protect(&luma, way);
+}
+
 static void call_seal(void)
 {
     size_t n = below(3) ? below(700) : below(CAROLSEDGE_RECORD_MOST + 100), done = 0;
@@ -345,11 +358,12 @@ static void call_seal(void)
     uint64_t *value = (uint64_t *)(void *)lend(&lent, 8);
     int guarded = below(16) == 0;
     if (guarded)
-        protect(&capture, PROT_READ), protect(&luma, PROT_READ);
+        guard(PROT_READ);
     begin(SEAL);
-    uint32_t k = end(carolsedge_seal((const uint64_t *)(void *)at(&capture), (const uint64_t *)(void *)at(&luma), buffer, n, value));
+    uint32_t k = end(carolsedge_seal((const uint64_t *)(void *)at(&walk), at(&kept), (const uint64_t *)(void *)at(&numbers), (const uint64_t *)(void *)at(&table),
+                                     (const uint64_t *)(void *)at(&luma), buffer, n, value));
     if (guarded)
-        protect(&capture, PROT_READ | PROT_WRITE), protect(&luma, PROT_READ | PROT_WRITE);
+        guard(PROT_READ | PROT_WRITE);
     if (k == CAROLSEDGE_DONE && (*value > n || *value < 128))
         fail("a record's length that is none");
     if (k == CAROLSEDGE_DONE)
@@ -480,7 +494,8 @@ int main(int words, char **word)
     for (int i = 0; i < TRUE_STATES; i++)
         make_true(i);
     make_pools();
-    capture = room_of(sizeof truth->capture), luma = room_of(sizeof truth->luma), sums = room_of(sizeof truth->sums), bins = room_of(sizeof truth->bins);
+    walk = room_of(sizeof truth->walk), kept = room_of(sizeof truth->kept), numbers = room_of(sizeof truth->numbers), table = room_of(sizeof truth->table);
+    luma = room_of(sizeof truth->luma), sums = room_of(sizeof truth->sums), bins = room_of(sizeof truth->bins);
     picture = room_of(sizeof truth->picture), out = room_of(CAROLSEDGE_RECORD_MOST + 100), header = room_of(128), lent = room_of(128), script = room_of(4096);
     while (calls[SEAL] < most || calls[OPEN] < most || calls[READ_HEADER] < most || calls[REPLAY] < most / 20)
         round_of_calls(most);

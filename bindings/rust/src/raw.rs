@@ -3,7 +3,10 @@
 /// The memory that a sample lends to its calls. Every call is safe on any contents of it.
 #[derive(Clone)]
 pub struct State {
-    capture: [u64; 3840],
+    walk: [u64; 16],
+    kept: [u8; 64],
+    numbers: [u64; 16],
+    table: [u64; 3750],
     luma: [u64; 1600],
     sums: [u32; 240],
     bins: [u32; 720],
@@ -16,7 +19,10 @@ pub type SceneFigures = [u64; 7];
 
 extern "C" {
     fn carolsedge_open(
-        capture: &mut [u64; 3840],
+        walk: &mut [u64; 16],
+        kept: &mut [u8; 64],
+        numbers: &mut [u64; 16],
+        table: &mut [u64; 3750],
         luma: &mut [u64; 1600],
         sums: &mut [u32; 240],
         bins: &mut [u32; 720],
@@ -27,7 +33,10 @@ extern "C" {
         pid: u32,
     ) -> u32;
     fn carolsedge_feed_capture(
-        capture: &mut [u64; 3840],
+        walk: &mut [u64; 16],
+        kept: &mut [u8; 64],
+        numbers: &mut [u64; 16],
+        table: &mut [u64; 3750],
         piece: *const u8,
         length: usize,
         value: &mut u64,
@@ -42,7 +51,10 @@ extern "C" {
         value: &mut u64,
     ) -> u32;
     fn carolsedge_seal(
-        capture: &[u64; 3840],
+        walk: &[u64; 16],
+        kept: &[u8; 64],
+        numbers: &[u64; 16],
+        table: &[u64; 3750],
         luma: &[u64; 1600],
         buffer: *mut u8,
         length: usize,
@@ -66,7 +78,10 @@ extern "C" {
 impl State {
     pub fn new() -> Box<State> {
         Box::new(State {
-            capture: [0; 3840],
+            walk: [0; 16],
+            kept: [0; 64],
+            numbers: [0; 16],
+            table: [0; 3750],
             luma: [0; 1600],
             sums: [0; 240],
             bins: [0; 720],
@@ -79,7 +94,10 @@ impl State {
         // SAFETY: the arrays have the sizes that the function writes to, and are borrowed apart.
         unsafe {
             carolsedge_open(
-                &mut self.capture,
+                &mut self.walk,
+                &mut self.kept,
+                &mut self.numbers,
+                &mut self.table,
                 &mut self.luma,
                 &mut self.sums,
                 &mut self.bins,
@@ -95,9 +113,17 @@ impl State {
     /// The refusal's number, or 0, and the value.
     pub fn feed_capture(&mut self, piece: &[u8]) -> (u32, u64) {
         let mut value = 0;
-        // SAFETY: the array has the size that the function uses; pointer and length are a slice's; all are borrowed apart.
+        // SAFETY: the arrays have the sizes that the function uses; pointer and length are a slice's; all are borrowed apart.
         let number = unsafe {
-            carolsedge_feed_capture(&mut self.capture, piece.as_ptr(), piece.len(), &mut value)
+            carolsedge_feed_capture(
+                &mut self.walk,
+                &mut self.kept,
+                &mut self.numbers,
+                &mut self.table,
+                piece.as_ptr(),
+                piece.len(),
+                &mut value,
+            )
         };
         (number, value)
     }
@@ -126,7 +152,10 @@ impl State {
         // SAFETY: the arrays have the sizes that the function reads; pointer and length are those of a slice that is borrowed alone.
         let number = unsafe {
             carolsedge_seal(
-                &self.capture,
+                &self.walk,
+                &self.kept,
+                &self.numbers,
+                &self.table,
                 &self.luma,
                 buffer.as_mut_ptr(),
                 buffer.len(),

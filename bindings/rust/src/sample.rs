@@ -17,7 +17,7 @@ pub struct Opening {
 
 /// A sample: opened, fed on two sides in pieces of any length and in any order, sealed as often as wanted.
 ///
-/// Its state is 61,464 bytes on the heap; no call allocates. A clone goes on by itself.
+/// Its state is 61,064 bytes on the heap; no call allocates. A clone goes on by itself.
 #[derive(Clone)]
 pub struct Sample {
     state: Box<State>,

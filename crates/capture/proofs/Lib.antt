@@ -1,8 +1,3 @@
-pub mod Fits
-pub mod Steps
-pub mod Ends
-pub mod Body
-pub mod Files
+pub mod Taking
 pub mod Pieces
-pub mod Parts
-pub mod Whole
+pub mod Sums

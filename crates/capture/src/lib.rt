@@ -1,79 +1,167 @@
-// The capture side's engine over its lent words. Bytes come in pieces, cut anywhere. Of a frame (document 01: record) the header and the first 42
-// bytes are collected, of a packet (document 01: cell) the first four; all other bytes are skipped at once, as many as there are.
-// A frame that lies whole in a piece is read where it lies.
-// Collected bytes are taken up to the end of a field at once. A packet is accounted when its last byte is there; refusal 9 stands when its byte 3 is.
-ghost use Rattle.capture.specs.Contract.{Opened, FeedPost, Goes, Replies};
+// The capture side of a sample: the walk finds frames and cells in pieces that are cut anywhere, and the cells of PID make units. Its state is four
+// lent arrays: the walk's words and collected bytes, the side's own numbers, and the table of units. Every call is safe on any contents of them.
+ghost use Rattle.capture_walk.specs.Contract.{Fits};
+ghost use Rattle.capture.specs.Contract.{Opened, FeedPost, SumsUp, Takes, Goes, Replies, summaryOf};
+ghost use mathlib.Core.Path.{_≡_};
 
-mod ahead;
-mod meter;
-mod spans;
-mod taking;
+mod numbers;
 
-use crate::ahead::on_frame;
-use crate::ahead::whole_size;
-use crate::meter::refused;
-use crate::meter::store;
-use crate::spans::span;
-use crate::taking::step;
-pub use meter::Meter;
-pub use meter::load;
+use crate::numbers::load;
+use crate::numbers::store;
+use capture_counts::Tally;
+use capture_units::Table;
+use capture_walk::Collected;
+use capture_walk::Event;
+use capture_walk::Walk;
+use capture_walk::WalkWords;
+pub use numbers::NUMBERS;
+pub use numbers::Numbers;
 use rules::Answer;
 
-// A whole piece.
-fn run(words: &mut [u64; 3840], start: Meter, piece: &[u8]) -> Meter
-    ensures { λ r. ⌜ Goes (now (words .entry)) start (now (piece .entry)) (now (words .exit)) r ⌝ }
+// What is kept of the walk and of the counts while a piece is taken in.
+pub struct Meter {
+    pub walk: Walk,
+    pub tally: Tally,
+}
+
+// What a seal needs. The refusal that stands (number 0: none) and its place; if none stands: the bytes fed, whether they end inside the file header or
+// a frame, the frames, skipped frames, bad cells, units, and over all units the cells and those lost.
+pub struct Summary {
+    pub number: u64,
+    pub place: u64,
+    pub fed: u64,
+    pub inside: bool,
+    pub frames: u32,
+    pub skipped: u32,
+    pub bad: u32,
+    pub units: u32,
+    pub packets: u64,
+    pub lost: u64,
+}
+
+// Opens the arrays: with the number that the opening is refused with, or 0, and its PID.
+pub fn open(
+    walk: &mut WalkWords,
+    kept: &mut Collected,
+    numbers: &mut Numbers,
+    table: &mut Table,
+    number: u64,
+    pid: u64,
+)
+    ensures { λ _. ⌜ Opened number pid (record { walk = now (walk .exit); kept = now (kept .exit); numbers = now (numbers .exit); table = now (table .exit) }) ⌝ }
 {
-    let mut s = start;
-    let mut i: usize = 0;
-    while i < piece.len() {
-        if s.status != 0 {
-            return s;
+    capture_walk::open(walk, kept);
+    *numbers = [0u64; NUMBERS];
+    *table = [0u64; capture_units::TABLE_WORDS];
+    numbers[0] = number;
+    numbers[2] = pid;
+}
+
+// What the next bytes of a piece brought: the event, and the walk behind them.
+fn take(table: &mut Table, t: Tally, piece: &[u8], w: Walk, e: Event) -> Tally
+    requires { ⌜ Fits e (now piece) ⌝ }
+    ensures { λ r. ⌜ Takes (now (table .entry)) t (now (piece .entry)) w e (now (table .exit)) r ⌝ }
+{
+    match e {
+        Event::Nothing => {
+            return t;
         }
-        if 268435456 <= s.fed {
-            return refused(s, 4, 268435456);
+        Event::Shown(c) => {
+            return capture_counts::check(t, c);
         }
-        let whole = whole_size(s, &piece[i..]);
-        if 0 < whole {
-            s = on_frame(words, s, &piece[i..], whole);
-            i += whole as usize;
-        } else {
-            let left = (piece.len() - i) as u64;
-            let n = span(s, left);
-            s = step(words, s, left, piece, i, n);
-            i += n as usize;
+        Event::Whole(c) => {
+            return capture_counts::account(table, t, c);
+        }
+        Event::Cells(r) => {
+            return capture_counts::add_run(table, t, piece, r);
+        }
+        Event::Refused => {
+            let mut r = t;
+            r.status = w.status;
+            r.place = w.place;
+            return r;
         }
     }
-    s
+}
+
+// A whole piece, or as much of it as comes before a refusal.
+fn run(kept: &mut Collected, table: &mut Table, start: Meter, piece: &[u8]) -> Meter
+    ensures { λ r. ⌜ Goes (now (kept .entry)) (now (table .entry)) start (now (piece .entry)) (now (kept .exit)) (now (table .exit)) r ⌝ }
+{
+    let mut w = start.walk;
+    let mut t = start.tally;
+    let mut i: usize = 0;
+    while i < piece.len() {
+        if t.status != 0 {
+            return Meter { walk: w, tally: t };
+        }
+        let r = capture_walk::next(kept, w, piece, i);
+        let e = r.event;
+        let v = r.walk;
+        t = take(table, t, piece, v, e);
+        w = v;
+        i += r.taken;
+    }
+    Meter { walk: w, tally: t }
 }
 
 // What a feed of n bytes answers, when it has been taken in.
-fn reply(s: Meter, n: u64) -> Answer
-    ensures { λ r. ⌜ Replies s n r ⌝ }
+fn reply(t: Tally, n: u64) -> Answer
+    ensures { λ r. ⌜ Replies t n r ⌝ }
 {
-    if s.status != 0 {
+    if t.status != 0 {
         return Answer::Refused {
-            number: s.status,
-            place: s.place,
+            number: t.status,
+            place: t.place,
         };
     }
     Answer::Done(n)
 }
 
-// Opens the words: with the number that the opening is refused with, or 0, and its PID.
-pub fn open(words: &mut [u64; 3840], number: u64, pid: u64)
-    ensures { λ _. ⌜ Opened number pid (now (words .exit)) ⌝ }
+// Feeds a piece.
+pub fn feed(
+    walk: &mut WalkWords,
+    kept: &mut Collected,
+    numbers: &mut Numbers,
+    table: &mut Table,
+    piece: &[u8],
+) -> Answer
+    ensures { λ r. ⌜ FeedPost (record { walk = now (walk .entry); kept = now (kept .entry); numbers = now (numbers .entry); table = now (table .entry) }) (now (piece .entry)) r (record { walk = now (walk .exit); kept = now (kept .exit); numbers = now (numbers .exit); table = now (table .exit) }) ⌝ }
 {
-    *words = [0u64; 3840];
-    words[0] = number;
-    words[2] = pid;
+    let w = capture_walk::load(walk);
+    let t = load(numbers);
+    let m = run(kept, table, Meter { walk: w, tally: t }, piece);
+    let v = m.walk;
+    let u = m.tally;
+    capture_walk::store(walk, v);
+    store(numbers, u);
+    reply(u, piece.len() as u64)
 }
 
-// Feeds a piece.
-pub fn feed(words: &mut [u64; 3840], piece: &[u8]) -> Answer
-    ensures { λ r. ⌜ FeedPost (now (words .entry)) (now (piece .entry)) r (now (words .exit)) ⌝ }
+fn summary_of(w: Walk, t: Tally, inside: bool) -> Summary
+    ensures { λ r. ⌜ r ≡ summaryOf w t inside ⌝ }
 {
-    let old = load(words);
-    let s = run(words, old, piece);
-    store(words, s);
-    reply(s, piece.len() as u64)
+    let u = t.units;
+    Summary {
+        number: t.status,
+        place: t.place,
+        fed: w.fed,
+        inside: inside,
+        frames: figures::low(w.frames),
+        skipped: figures::low(w.skipped),
+        bad: figures::low(t.bad),
+        units: figures::low(u.count),
+        packets: u.packets,
+        lost: u.lost,
+    }
+}
+
+// What was fed, summed up.
+pub fn sum_up(walk: &WalkWords, numbers: &Numbers) -> Summary
+    ensures { λ r. ⌜ SumsUp (now (walk .entry)) (now (numbers .entry)) r ⌝ }
+{
+    let w = capture_walk::load(walk);
+    let t = load(numbers);
+    let inside = capture_walk::inside(w);
+    summary_of(w, t, inside)
 }

@@ -8,6 +8,7 @@ use Rattle.rules.specs.declared.Opening.{Opening}
 use Rattle.rules.specs.Opening.{openAnswer}
 use Rattle.rules.specs.Calls.{Question, lentAfter, Call, feedCapture, feedLuma, ask, Outcome, fed, replied, expected}
 use Rattle.rules.specs.Calls.{lumaFed}
+use Rattle.capture.specs.State.{Arrays}
 use Rattle.sample.specs.State.{State, wordsOf}
 use Rattle.sample.specs.Calls.{InHistograms}
 use Rattle.carolsedge.specs.Numbers.{numberOf, valueOf, replyNumber, replyValue}
@@ -25,20 +26,20 @@ leftOf (replied r) = record { number = replyNumber r; value = replyValue r; lent
 
 -- one call of a C function on a state, which leaves another: no more and no less than the function's own contract
 pub data Made : State → Call → Left → State → Type 0 where
-  feedsCapture : {words words′ luma sums bins picture piece : List ℕ} {n v : ℕ} →
-      FedCapture words piece n v words′ →
+  feedsCapture : {side side′ : Arrays} {luma sums bins picture piece : List ℕ} {n v : ℕ} →
+      FedCapture side piece n v side′ →
       Made
-      (record { capture = words; luma = luma; sums = sums; bins = bins; picture = picture })
+      (record { capture = side; luma = luma; sums = sums; bins = bins; picture = picture })
       (feedCapture piece)
       (record { number = n; value = v; lent = [] })
-      (record { capture = words′; luma = luma; sums = sums; bins = bins; picture = picture })
-  feedsLuma : {words luma sums bins picture luma′ sums′ bins′ picture′ piece : List ℕ} {n v : ℕ} →
+      (record { capture = side′; luma = luma; sums = sums; bins = bins; picture = picture })
+  feedsLuma : {side : Arrays} {luma sums bins picture luma′ sums′ bins′ picture′ piece : List ℕ} {n v : ℕ} →
       FedLuma luma sums bins picture piece n v luma′ sums′ bins′ picture′ →
       Made
-      (record { capture = words; luma = luma; sums = sums; bins = bins; picture = picture })
+      (record { capture = side; luma = luma; sums = sums; bins = bins; picture = picture })
       (feedLuma piece)
       (record { number = n; value = v; lent = [] })
-      (record { capture = words; luma = luma′; sums = sums′; bins = bins′; picture = picture′ })
+      (record { capture = side; luma = luma′; sums = sums′; bins = bins′; picture = picture′ })
   asks : {st : State} {q : Question} {n v : ℕ} {after : List ℕ} →
       Told (wordsOf st) q n v after → Made st (ask q) (record { number = n; value = v; lent = after }) st
 

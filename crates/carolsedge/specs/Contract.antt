@@ -6,6 +6,7 @@ use Rattle.rules.specs.declared.Opening.{Opening}
 use Rattle.rules.specs.declared.Answer.{Answer}
 use Rattle.rules.specs.Reading.{headerAnswer, unitAnswer, sceneAnswer}
 use Rattle.rules.specs.Calls.{Question, Reply, lentAfter}
+use Rattle.capture.specs.State.{Arrays}
 use Rattle.capture.specs.Contract as side-capture
 use Rattle.luma.specs.Contract as side-luma
 use Rattle.sample.specs.State.{State, Words}
@@ -20,8 +21,8 @@ pub record Opened (o : Opening) (number : ℕ) (after : State) : Type 0 where
   pub made : OpenPost o answer after
   pub numbered : number ≡ numberOf answer
 
--- the capture's words before, the piece, the number, the value, the words after
-pub record FedCapture (before piece : List ℕ) (number value : ℕ) (after : List ℕ) : Type 0 where
+-- the capture's arrays before, the piece, the number, the value, the arrays after
+pub record FedCapture (before : Arrays) (piece : List ℕ) (number value : ℕ) (after : Arrays) : Type 0 where
   pub answer : Answer
   pub made : side-capture.FeedPost before piece answer after
   pub numbered : number ≡ numberOf answer

@@ -9,6 +9,10 @@ ghost use Rattle.rules.specs.Calls.{seal};
 ghost use Rattle.carolsedge.specs.Numbers.{numberOf, valueOf};
 ghost use Rattle.carolsedge.specs.Figures.{figuresOf, unitFigures, sceneFigures};
 ghost use Rattle.carolsedge.specs.Contract.{Opened, FedCapture, FedLuma, Told, HeaderRead, UnitRead, SceneRead};
+use capture::Numbers;
+use capture_units::Table;
+use capture_walk::Collected;
+use capture_walk::WalkWords;
 use rules::Answer;
 use rules::Header;
 use rules::HeaderAnswer;
@@ -48,7 +52,10 @@ fn value_of(a: Answer) -> u64
 // Opens a sample. The place of 1, 2 and 3 is 0.
 #[no_mangle]
 pub extern "C" fn carolsedge_open(
-    capture: &mut [u64; 3840],
+    walk: &mut WalkWords,
+    kept: &mut Collected,
+    numbers: &mut Numbers,
+    table: &mut Table,
     luma: &mut [u64; 1600],
     sums: &mut [u32; 240],
     bins: &mut [u32; 720],
@@ -58,7 +65,7 @@ pub extern "C" fn carolsedge_open(
     time: u32,
     pid: u32,
 ) -> u32
-    ensures { λ r. ⌜ Opened (record { width = width; height = height; time = time; pid = pid }) r (record { capture = now (capture .exit); luma = now (luma .exit); sums = now (sums .exit); bins = now (bins .exit); picture = now (picture .exit) }) ⌝ }
+    ensures { λ r. ⌜ Opened (record { width = width; height = height; time = time; pid = pid }) r (record { capture = record { walk = now (walk .exit); kept = now (kept .exit); numbers = now (numbers .exit); table = now (table .exit) }; luma = now (luma .exit); sums = now (sums .exit); bins = now (bins .exit); picture = now (picture .exit) }) ⌝ }
 {
     let o = Opening {
         width: width,
@@ -66,20 +73,23 @@ pub extern "C" fn carolsedge_open(
         time: time,
         pid: pid,
     };
-    let a = sample::open(capture, luma, sums, bins, picture, o);
+    let a = sample::open(walk, kept, numbers, table, luma, sums, bins, picture, o);
     number_of(a)
 }
 
 // Feeds a piece of the capture. The value is the piece's length, or the refusal's place.
 #[no_mangle]
 pub extern "C" fn carolsedge_feed_capture(
-    capture: &mut [u64; 3840],
+    walk: &mut WalkWords,
+    kept: &mut Collected,
+    numbers: &mut Numbers,
+    table: &mut Table,
     piece: &[u8],
     value: &mut u64,
 ) -> u32
-    ensures { λ r. ⌜ FedCapture (now (capture .entry)) (now (piece .entry)) r (now (value .exit)) (now (capture .exit)) ⌝ }
+    ensures { λ r. ⌜ FedCapture (record { walk = now (walk .entry); kept = now (kept .entry); numbers = now (numbers .entry); table = now (table .entry) }) (now (piece .entry)) r (now (value .exit)) (record { walk = now (walk .exit); kept = now (kept .exit); numbers = now (numbers .exit); table = now (table .exit) }) ⌝ }
 {
-    let a = sample::feed_capture(capture, piece);
+    let a = sample::feed_capture(walk, kept, numbers, table, piece);
     *value = value_of(a);
     number_of(a)
 }
@@ -104,15 +114,18 @@ pub extern "C" fn carolsedge_feed_luma(
 // Seals what was fed into the buffer. The value is the record's length, or the refusal's place; of 15 that is the length needed.
 #[no_mangle]
 pub extern "C" fn carolsedge_seal(
-    capture: &[u64; 3840],
+    walk: &WalkWords,
+    kept: &Collected,
+    numbers: &Numbers,
+    table: &Table,
     luma: &[u64; 1600],
     buffer: &mut [u8],
     value: &mut u64,
 ) -> u32
-    ensures { λ r. ⌜ Told (record { capture = now (capture .entry); luma = now (luma .entry) })
+    ensures { λ r. ⌜ Told (record { capture = record { walk = now (walk .entry); kept = now (kept .entry); numbers = now (numbers .entry); table = now (table .entry) }; luma = now (luma .entry) })
         (seal (now (buffer .entry))) r (now (value .exit)) (now (buffer .exit)) ⌝ }
 {
-    let a = sample::seal(capture, luma, buffer);
+    let a = sample::seal(walk, kept, numbers, table, luma, buffer);
     *value = value_of(a);
     number_of(a)
 }

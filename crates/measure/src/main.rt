@@ -7,6 +7,10 @@ mod side;
 mod write;
 
 use arguments::Asked;
+use capture::Numbers;
+use capture_units::Table;
+use capture_walk::Collected;
+use capture_walk::WalkWords;
 use libc::STDERR_FILENO;
 use rules::Answer;
 use rules::Opening;
@@ -44,9 +48,16 @@ fn hint(number: u64) {
 }
 
 // Seals, and writes the record or says why there is none. No record is longer than the buffer: 64 bytes, and 32 for each of 750 units and 250 scenes.
-fn seal(capture: &[u64; 3840], luma: &[u64; 1600], name: &[u8]) {
+fn seal(
+    walk: &WalkWords,
+    kept: &Collected,
+    numbers: &Numbers,
+    table: &Table,
+    luma: &[u64; 1600],
+    name: &[u8],
+) {
     let mut buffer = [0u8; 32064];
-    let a = sample::seal(capture, luma, &mut buffer);
+    let a = sample::seal(walk, kept, numbers, table, luma, &mut buffer);
     match a {
         Answer::Done(length) => {
             if 32064 < length {
@@ -69,26 +80,32 @@ fn measure(o: Opening, capture_name: &[u8], luma_name: &[u8], record_name: &[u8]
     if !write::is_free(record_name) {
         return;
     }
-    let mut capture = [0u64; 3840];
+    let mut walk = [0u64; capture_walk::WALK_WORDS];
+    let mut kept = [0u8; capture_walk::COLLECTED_BYTES];
+    let mut numbers = [0u64; capture::NUMBERS];
+    let mut table = [0u64; capture_units::TABLE_WORDS];
     let mut luma = [0u64; 1600];
     let mut sums = [0u32; 240];
     let mut bins = [0u32; 720];
     let mut picture = [0u8; 14104];
     sample::open(
-        &mut capture,
+        &mut walk,
+        &mut kept,
+        &mut numbers,
+        &mut table,
         &mut luma,
         &mut sums,
         &mut bins,
         &mut picture,
         o,
     );
-    if !side::feed_capture(capture_name, &mut capture) {
+    if !side::feed_capture(capture_name, &mut walk, &mut kept, &mut numbers, &mut table) {
         return;
     }
     if !side::feed_luma(luma_name, &mut luma, &mut sums, &mut bins, &mut picture) {
         return;
     }
-    seal(&capture, &luma, record_name);
+    seal(&walk, &kept, &numbers, &table, &luma, record_name);
 }
 
 fn main() {

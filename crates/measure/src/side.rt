@@ -1,5 +1,9 @@
 // Feeding a side from a file or from standard input, until its end or until it is refused: what comes later is ignored.
 use crate::arguments::is_dash;
+use capture::Numbers;
+use capture_units::Table;
+use capture_walk::Collected;
+use capture_walk::WalkWords;
 use libc::STDIN_FILENO;
 use rules::Answer;
 
@@ -30,7 +34,14 @@ fn open_side(name: &[u8]) -> i32 {
 }
 
 // One piece of the capture.
-fn capture_turn(fd: i32, name: &[u8], capture: &mut [u64; 3840]) -> u8 {
+fn capture_turn(
+    fd: i32,
+    name: &[u8],
+    walk: &mut WalkWords,
+    kept: &mut Collected,
+    numbers: &mut Numbers,
+    table: &mut Table,
+) -> u8 {
     let mut piece = io::large_buffer();
     let got = libc::read(fd, &mut piece);
     if got < 0 {
@@ -41,7 +52,7 @@ fn capture_turn(fd: i32, name: &[u8], capture: &mut [u64; 3840]) -> u8 {
         return LAST;
     }
     let n = io::count(got, &piece);
-    turn_of(sample::feed_capture(capture, &piece[..n]))
+    turn_of(sample::feed_capture(walk, kept, numbers, table, &piece[..n]))
 }
 
 // One piece of the luma.
@@ -68,7 +79,13 @@ fn luma_turn(
 
 // Feeds the whole capture; answers whether it could be read. A proved loop has to end, and nothing says that a file does: the turns are counted down
 // from a number that no run uses up.
-pub fn feed_capture(name: &[u8], capture: &mut [u64; 3840]) -> bool {
+pub fn feed_capture(
+    name: &[u8],
+    walk: &mut WalkWords,
+    kept: &mut Collected,
+    numbers: &mut Numbers,
+    table: &mut Table,
+) -> bool {
     let fd = open_side(name);
     if fd < 0 {
         return false;
@@ -76,7 +93,7 @@ pub fn feed_capture(name: &[u8], capture: &mut [u64; 3840]) -> bool {
     let mut turn = MORE;
     let mut turns = u64::MAX;
     while turns > 0 && turn == MORE {
-        turn = capture_turn(fd, name, capture);
+        turn = capture_turn(fd, name, walk, kept, numbers, table);
         turns -= 1;
     }
     libc::close(fd);

@@ -12,6 +12,7 @@ use Rattle.rules.specs.Bytes.{bytesOf}
 use Rattle.rules.specs.Calls.{Question, seal, sealedInto, Call, feedCapture, feedLuma, ask, fed, replied}
 use Rattle.words.specs.Written.{written}
 use Rattle.words.proofs.Laws.{written-sets, written-append}
+use Rattle.capture.specs.State.{Arrays}
 use Rattle.sample.specs.State.{State, Words, wordsOf}
 use Rattle.sample.specs.Contract.{SealPost}
 use Rattle.sample.specs.Calls.{feedsCapture, feedsLuma, asks}
@@ -69,7 +70,7 @@ sealed-law v out filled buffer out′ a m h f z p w lo hi =
 
 -- ---- feeds and questions
 
-pub after-capture : (capture luma sums bins picture capture′ script out′ : List ℕ) (at n from end : ℕ) (h : Head) → h ≡ Capture n → from ≡ at + 5 → end ≡ from + n →
+pub after-capture : (capture : Arrays) (luma sums bins picture : List ℕ) (capture′ : Arrays) (script out′ : List ℕ) (at n from end : ℕ) (h : Head) → h ≡ Capture n → from ≡ at + 5 → end ≡ from + n →
     FedCapture capture (take (end - from) (drop from script)) capture′ out′ →
     CallPost
     (record { capture = capture; luma = luma; sums = sums; bins = bins; picture = picture })
@@ -91,7 +92,7 @@ after-capture capture luma sums bins picture capture′ script out′ at n from 
       on = omega arith;
     }
 
-pub after-luma : (capture luma sums bins picture luma′ sums′ bins′ picture′ script out′ : List ℕ) (at n from end : ℕ) (h : Head) → h ≡ Luma n → from ≡ at + 5 → end ≡ from + n →
+pub after-luma : (capture : Arrays) (luma sums bins picture luma′ sums′ bins′ picture′ script out′ : List ℕ) (at n from end : ℕ) (h : Head) → h ≡ Luma n → from ≡ at + 5 → end ≡ from + n →
     FedLuma luma sums bins picture (take (end - from) (drop from script)) luma′ sums′ bins′ picture′ out′ →
     CallPost
     (record { capture = capture; luma = luma; sums = sums; bins = bins; picture = picture })

@@ -12,6 +12,7 @@ use Rattle.rules.specs.Bytes.{pick, byte, word32, bytesOf}
 use Rattle.rules.specs.Opening.{openAnswer}
 use Rattle.rules.specs.Calls.{Question, seal, Reply, sealedInto, Call, feedCapture, feedLuma, ask, Outcome, fed}
 use Rattle.rules.specs.Calls.{replied, expected}
+use Rattle.capture.specs.State.{Arrays}
 use Rattle.capture.specs.Contract as side-capture
 use Rattle.luma.specs.Contract as side-luma
 use Rattle.sample.specs.State.{State, Words}
@@ -135,7 +136,7 @@ sizeOf (Luma n) = 17
 sizeOf (Seal n) = 17 + n
 
 -- a feed of the capture side, and its code
-pub record FedCapture (capture piece capture′ out′ : List ℕ) : Type 0 where
+pub record FedCapture (capture : Arrays) (piece : List ℕ) (capture′ : Arrays) (out′ : List ℕ) : Type 0 where
   pub answer : Answer
   pub post : side-capture.FeedPost capture piece answer capture′
   pub wrote : out′ ≡ code answer

@@ -18,14 +18,25 @@ use crate::reading::size;
 use crate::reading::wide;
 use crate::writing::fill;
 use crate::writing::put;
+use capture::Numbers;
+use capture_units::Table;
+use capture_walk::Collected;
+use capture_walk::WalkWords;
 
 // ---- one call, whose outcome takes all of out
 
-fn call_capture(capture: &mut [u64; 3840], piece: &[u8], out: &mut [u8])
+fn call_capture(
+    walk: &mut WalkWords,
+    kept: &mut Collected,
+    numbers: &mut Numbers,
+    table: &mut Table,
+    piece: &[u8],
+    out: &mut [u8],
+)
     requires { ⌜ length (now out) ≡ 17 ⌝ }
-    ensures { λ _. ⌜ FedCapture (now (capture .entry)) (now (piece .entry)) (now (capture .exit)) (now (out .exit)) ⌝ }
+    ensures { λ _. ⌜ FedCapture (record { walk = now (walk .entry); kept = now (kept .entry); numbers = now (numbers .entry); table = now (table .entry) }) (now (piece .entry)) (record { walk = now (walk .exit); kept = now (kept .exit); numbers = now (numbers .exit); table = now (table .exit) }) (now (out .exit)) ⌝ }
 {
-    let a = sample::feed_capture(capture, piece);
+    let a = sample::feed_capture(walk, kept, numbers, table, piece);
     put(out, a);
 }
 
@@ -44,19 +55,29 @@ fn call_luma(
     put(out, a);
 }
 
-fn call_seal(capture: &[u64; 3840], luma: &[u64; 1600], out: &mut [u8])
+fn call_seal(
+    walk: &WalkWords,
+    kept: &Collected,
+    numbers: &Numbers,
+    table: &Table,
+    luma: &[u64; 1600],
+    out: &mut [u8],
+)
     requires { ⌜ 17 ≤ length (now out) ⌝ }
-    ensures { λ _. ⌜ Replied (record { capture = now (capture .entry); luma = now (luma .entry) })
+    ensures { λ _. ⌜ Replied (record { capture = record { walk = now (walk .entry); kept = now (kept .entry); numbers = now (numbers .entry); table = now (table .entry) }; luma = now (luma .entry) })
         (seal (replicate (length (now (out .entry)) - 17) 0xA5)) (now (out .exit)) ⌝ }
 {
     fill(&mut out[17..]);
-    let a = sample::seal(capture, luma, &mut out[17..]);
+    let a = sample::seal(walk, kept, numbers, table, luma, &mut out[17..]);
     put(out, a);
 }
 
 // The call whose head h stands at `at`: where the next one stands.
 fn call(
-    capture: &mut [u64; 3840],
+    walk: &mut WalkWords,
+    kept: &mut Collected,
+    numbers: &mut Numbers,
+    table: &mut Table,
     luma: &mut [u64; 1600],
     sums: &mut [u32; 240],
     bins: &mut [u32; 720],
@@ -67,18 +88,18 @@ fn call(
     out: &mut [u8],
 ) -> usize
     requires { ⌜ Called (now script) at h (length (now out)) ⌝ }
-    ensures { λ r. ⌜ CallPost (record { capture = now (capture .entry); luma = now (luma .entry); sums = now (sums .entry); bins = now (bins .entry); picture = now (picture .entry) }) (now (script .entry)) at h r (record { capture = now (capture .exit); luma = now (luma .exit); sums = now (sums .exit); bins = now (bins .exit); picture = now (picture .exit) }) (now (out .exit)) ⌝ }
+    ensures { λ r. ⌜ CallPost (record { capture = record { walk = now (walk .entry); kept = now (kept .entry); numbers = now (numbers .entry); table = now (table .entry) }; luma = now (luma .entry); sums = now (sums .entry); bins = now (bins .entry); picture = now (picture .entry) }) (now (script .entry)) at h r (record { capture = record { walk = now (walk .exit); kept = now (kept .exit); numbers = now (numbers .exit); table = now (table .exit) }; luma = now (luma .exit); sums = now (sums .exit); bins = now (bins .exit); picture = now (picture .exit) }) (now (out .exit)) ⌝ }
 {
     let from = at + 5;
     match h {
         Head::Stop => from,
         Head::Seal(_) => {
-            call_seal(capture, luma, out);
+            call_seal(walk, kept, numbers, table, luma, out);
             from
         }
         Head::Capture(n) => {
             let next = from + wide(n);
-            call_capture(capture, &script[from..next], out);
+            call_capture(walk, kept, numbers, table, &script[from..next], out);
             next
         }
         Head::Luma(n) => {
@@ -91,7 +112,10 @@ fn call(
 
 // All calls of the script, as far as there is room.
 fn all(
-    capture: &mut [u64; 3840],
+    walk: &mut WalkWords,
+    kept: &mut Collected,
+    numbers: &mut Numbers,
+    table: &mut Table,
     luma: &mut [u64; 1600],
     sums: &mut [u32; 240],
     bins: &mut [u32; 720],
@@ -99,7 +123,7 @@ fn all(
     script: &[u8],
     out: &mut [u8],
 )
-    ensures { λ _. ⌜ All (record { capture = now (capture .entry); luma = now (luma .entry); sums = now (sums .entry); bins = now (bins .entry); picture = now (picture .entry) }) (now (script .entry)) (now (out .entry)) (now (out .exit)) ⌝ }
+    ensures { λ _. ⌜ All (record { capture = record { walk = now (walk .entry); kept = now (kept .entry); numbers = now (numbers .entry); table = now (table .entry) }; luma = now (luma .entry); sums = now (sums .entry); bins = now (bins .entry); picture = now (picture .entry) }) (now (script .entry)) (now (out .entry)) (now (out .exit)) ⌝ }
 {
     let mut at: usize = 20;
     let mut to: usize = 0;
@@ -114,7 +138,10 @@ fn all(
         }
         let end = to + n;
         at = call(
-            capture,
+            walk,
+            kept,
+            numbers,
+            table,
             luma,
             sums,
             bins,
@@ -136,14 +163,20 @@ pub fn replay(script: &[u8], out: &mut [u8]) -> bool
     if !has_room(script, out.len()) {
         return false;
     }
-    let mut capture = [0u64; 3840];
+    let mut walk = [0u64; capture_walk::WALK_WORDS];
+    let mut kept = [0u8; capture_walk::COLLECTED_BYTES];
+    let mut numbers = [0u64; capture::NUMBERS];
+    let mut table = [0u64; capture_units::TABLE_WORDS];
     let mut luma = [0u64; 1600];
     let mut sums = [0u32; 240];
     let mut bins = [0u32; 720];
     let mut picture = [0u8; 14104];
     let o = opening(script);
     let a = sample::open(
-        &mut capture,
+        &mut walk,
+        &mut kept,
+        &mut numbers,
+        &mut table,
         &mut luma,
         &mut sums,
         &mut bins,
@@ -152,7 +185,10 @@ pub fn replay(script: &[u8], out: &mut [u8]) -> bool
     );
     put(out, a);
     all(
-        &mut capture,
+        &mut walk,
+        &mut kept,
+        &mut numbers,
+        &mut table,
         &mut luma,
         &mut sums,
         &mut bins,

@@ -2,6 +2,10 @@
 //
 // The script: five 32-bit little-endian words W, H, d, PID and the rule edition, then calls. `C` or `L`, a 32-bit length and as many bytes: a feed of that side.
 // `S` and a 32-bit length: a seal into a buffer of so many bytes, each 0xA5 before. Anything else, or the end of the script inside a call, ends the run.
+use capture::Numbers;
+use capture_units::Table;
+use capture_walk::Collected;
+use capture_walk::WalkWords;
 use libc::STDIN_FILENO;
 use libc::STDOUT_FILENO;
 use rules::Answer;
@@ -9,7 +13,10 @@ use rules::Opening;
 
 // The opening; answers whether its words were there.
 fn run_opening(
-    capture: &mut [u64; 3840],
+    walk: &mut WalkWords,
+    kept: &mut Collected,
+    numbers: &mut Numbers,
+    table: &mut Table,
     luma: &mut [u64; 1600],
     sums: &mut [u32; 240],
     bins: &mut [u32; 720],
@@ -25,7 +32,7 @@ fn run_opening(
         time: words::word32(&words, 8),
         pid: words::word32(&words, 12),
     };
-    let a = sample::open(capture, luma, sums, bins, picture, o);
+    let a = sample::open(walk, kept, numbers, table, luma, sums, bins, picture, o);
     match a {
         Answer::Done(_) => {
             io::write_all(STDOUT_FILENO, b"open ok\n");
@@ -36,14 +43,21 @@ fn run_opening(
 }
 
 // A seal, where its buffer is not too long.
-fn run_seal(capture: &[u64; 3840], luma: &[u64; 1600], length: u32) -> bool {
+fn run_seal(
+    walk: &WalkWords,
+    kept: &Collected,
+    numbers: &Numbers,
+    table: &Table,
+    luma: &[u64; 1600],
+    length: u32,
+) -> bool {
     if 65536 < length {
         return false;
     }
     let mut space = [0xA5u8; 65536];
     let n = io::count(length as isize, &space);
     let buffer = &mut space[..n];
-    let a = sample::seal(capture, luma, buffer);
+    let a = sample::seal(walk, kept, numbers, table, luma, buffer);
     program_text::print_answer(b"seal", b"seal refused", a, b" ");
     program_text::print_hex(buffer);
     io::write_all(STDOUT_FILENO, b"\n");
@@ -59,12 +73,19 @@ fn read_piece(piece: &mut [u8], length: u32) -> bool {
     io::read_full(STDIN_FILENO, &mut piece[..n]) == n
 }
 
-fn feed_capture(capture: &mut [u64; 3840], piece: &mut [u8], length: u32) -> bool {
+fn feed_capture(
+    walk: &mut WalkWords,
+    kept: &mut Collected,
+    numbers: &mut Numbers,
+    table: &mut Table,
+    piece: &mut [u8],
+    length: u32,
+) -> bool {
     if !read_piece(piece, length) {
         return false;
     }
     let n = io::count(length as isize, piece);
-    let a = sample::feed_capture(capture, &piece[..n]);
+    let a = sample::feed_capture(walk, kept, numbers, table, &piece[..n]);
     program_text::print_answer(b"capture", b"capture refused", a, b"\n");
     true
 }
@@ -88,7 +109,10 @@ fn feed_luma(
 
 // The next call; answers whether there was one.
 fn run_call(
-    capture: &mut [u64; 3840],
+    walk: &mut WalkWords,
+    kept: &mut Collected,
+    numbers: &mut Numbers,
+    table: &mut Table,
     luma: &mut [u64; 1600],
     sums: &mut [u32; 240],
     bins: &mut [u32; 720],
@@ -102,28 +126,43 @@ fn run_call(
     let length = words::word32(&head, 1);
     let kind = head[0];
     match kind {
-        67 => feed_capture(capture, piece, length),
+        67 => feed_capture(walk, kept, numbers, table, piece, length),
         76 => feed_luma(luma, sums, bins, picture, piece, length),
-        83 => run_seal(capture, luma, length),
+        83 => run_seal(walk, kept, numbers, table, luma, length),
         _ => false,
     }
 }
 
 // A proved loop has to end, and nothing says that a script does: the turns are counted down from a number that no run uses up.
 fn main() {
-    let mut capture = [0u64; 3840];
+    let mut walk = [0u64; capture_walk::WALK_WORDS];
+    let mut kept = [0u8; capture_walk::COLLECTED_BYTES];
+    let mut numbers = [0u64; capture::NUMBERS];
+    let mut table = [0u64; capture_units::TABLE_WORDS];
     let mut luma = [0u64; 1600];
     let mut sums = [0u32; 240];
     let mut bins = [0u32; 720];
     let mut picture = [0u8; 14104];
     let mut piece = [0u8; 1048576];
-    if !run_opening(&mut capture, &mut luma, &mut sums, &mut bins, &mut picture) {
+    if !run_opening(
+        &mut walk,
+        &mut kept,
+        &mut numbers,
+        &mut table,
+        &mut luma,
+        &mut sums,
+        &mut bins,
+        &mut picture,
+    ) {
         return;
     }
     let mut turns = u64::MAX;
     while turns > 0
         && run_call(
-            &mut capture,
+            &mut walk,
+            &mut kept,
+            &mut numbers,
+            &mut table,
             &mut luma,
             &mut sums,
             &mut bins,

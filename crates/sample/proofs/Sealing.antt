@@ -14,13 +14,14 @@ use Rattle.rules.specs.declared.UnitRow.{UnitRow}
 use Rattle.rules.specs.Bytes.{pick, total}
 use Rattle.rules.specs.Refusals.{Fault, none, fault, _orElse_, answer, listed}
 use Rattle.rules.specs.Opening.{openingFault}
-use Rattle.rules.specs.Capture.{units, wholeWanted, captureFault, captureInside}
+use Rattle.rules.specs.Capture.{units, captureFault, captureInside}
 use Rattle.rules.specs.Pictures.{pictureCount, lumaFault}
 use Rattle.rules.specs.Seal.{captureUnfinished, noPacket, lumaUnfinished, noPicture, noRoom, sealFault, sealAnswer, ifDone, over, sealed, sealedLength, sealedBuffer}
 use Rattle.rules.specs.Calls.{seal, sealedInto, answerTo}
 use Rattle.rules.proofs.Laws.Listed.{listed-in, seal as in-the-table}
-use Rattle.counts.specs.declared.Summary.{Summary}
-use Rattle.counts.specs.Summary.{SumsUp, SumOf, Figures, standing}
+use Rattle.capture.specs.declared.Summary.{Summary}
+use Rattle.capture.specs.State.{Arrays}
+use Rattle.capture.specs.Contract.{SumsUp, SumOf, Figures, standing}
 use Rattle.luma.specs.declared.Summary as of-luma
 use Rattle.luma.specs.Contract.{SummaryPost, Summarised, Known}
 use Rattle.luma_state.specs.State.{openingIn}
@@ -45,9 +46,9 @@ some-units (u ∷ us) h = refl
 
 -- what a seal finds on its way, from the summaries of the two sides
 module _ (st : State) (o : Opening) (fedCapture fedLuma : List ℕ) (m : Means st o fedCapture fedLuma)
-    (c : Summary) (l : of-luma.Summary) (cp : SumsUp (st .capture) c) (lp : SummaryPost (st .luma) l) where
-  sum : SumOf (st .capture) o fedCapture c
-  sum = cp o fedCapture (m .captured)
+    (c : Summary) (l : of-luma.Summary) (cp : SumsUp (st .capture .walk) (st .capture .numbers) c) (lp : SummaryPost (st .luma) l) where
+  sum : SumOf (st .capture .table) o fedCapture c
+  sum = cp (st .capture .kept) (st .capture .table) o fedCapture (m .captured)
 
   seen : Summarised (st .luma) o fedLuma l
   seen = lp (st .sums) (st .bins) (st .picture) o fedLuma (m .drawn)
@@ -59,7 +60,7 @@ module _ (st : State) (o : Opening) (fedCapture fedLuma : List ℕ) (m : Means s
       either (openingFault o) (captureFault o fedCapture) _ ∙ rw e
 
   module _ (h₁ : c .number ≡ 0) where
-    fig : Figures (st .capture) o fedCapture c
+    fig : Figures (st .capture .table) o fedCapture c
     fig = sum .figures h₁
 
     pub of-luma-side : (n : ℕ) → (l .status ≡ 0 → ⊥) → sealFault o fedCapture fedLuma n ≡ fault (l .status) (l .place)
@@ -106,7 +107,7 @@ module _ (st : State) (o : Opening) (fedCapture fedLuma : List ℕ) (m : Means s
             unfolding noPicture
             no-picture n h = behind n ∙ rw (closed, packet, ended, eq-eqb (pictureCount o fedLuma) 0 (sym (known .pictures) ∙ h))
 
-            pub ready : (l .pictures ≡ 0 → ⊥) → Ready (st .capture) (st .luma) o fedCapture fedLuma c l
+            pub ready : (l .pictures ≡ 0 → ⊥) → Ready (st .capture .table) (st .luma) o fedCapture fedLuma c l
             unfolding noPicture
             ready h =
                 record {
@@ -154,10 +155,10 @@ refuse-post w before a k p e f =
     same : {b : Answer} → a ≡ b → sealedInto a before ≡ sealedInto b before
     same x = cc
 
-module _ (w : Words) (before : List ℕ) (c : Summary) (l : of-luma.Summary) (cp : SumsUp (w .capture) c)
-    (lp : SummaryPost (w .luma) l) (a : Answer) where
-  cp-of : (v : Words) → v ≡ w → SumsUp (v .capture) c
-  cp-of v x = subst⁻¹ (λ (v : Words). SumsUp (v .capture) c) x cp
+module _ (w : Words) (before : List ℕ) (c : Summary) (l : of-luma.Summary)
+    (cp : SumsUp (w .capture .walk) (w .capture .numbers) c) (lp : SummaryPost (w .luma) l) (a : Answer) where
+  cp-of : (v : Words) → v ≡ w → SumsUp (v .capture .walk) (v .capture .numbers) c
+  cp-of v x = subst⁻¹ (λ (v : Words). SumsUp (v .capture .walk) (v .capture .numbers) c) x cp
 
   lp-of : (v : Words) → v ≡ w → SummaryPost (v .luma) l
   lp-of v x = subst⁻¹ (λ (v : Words). SummaryPost (v .luma) l) x lp
@@ -203,7 +204,7 @@ module _ (w : Words) (before : List ℕ) (c : Summary) (l : of-luma.Summary) (cp
                 h₄ h₅ (length before) h)
 
             pub post-written : (after : List ℕ) (o : Opening) → o ≡ openingIn (w .luma) → (l .pictures ≡ 0 → ⊥) →
-                WritePost w o c l before a after →
+                WritePost (w .capture .table) (w .luma) o c l before a after →
                 SealPost w before a after
             post-written after o e h x = record { rule = wrote; refusals = x .refusals }
               where
@@ -214,5 +215,6 @@ module _ (w : Words) (before : List ℕ) (c : Summary) (l : of-luma.Summary) (cp
                     sealedInto a after ≡ answerTo p fc fl (seal before)
                 wrote st p fc fl y m =
                     let r = ready st p fc fl m c l (cp-of (wordsOf st) y) (lp-of (wordsOf st) y) h₁ h₂ h₃ h₄ h₅ h in
-                    let r′ = subst (λ (v : Words). Ready (v .capture) (v .luma) p fc fl c l) y r in
-                    subst (λ (q : Opening). WritePost w q c l before a after) (same st p fc fl y m) x .rule fc fl r′
+                    let r′ = subst (λ (v : Words). Ready (v .capture .table) (v .luma) p fc fl c l) y r in
+                    subst (λ (q : Opening). WritePost (w .capture .table) (w .luma) q c l before a after) (same st p fc fl y m) x
+                    .rule fc fl r′

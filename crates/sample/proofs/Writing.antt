@@ -15,10 +15,8 @@ use Rattle.rules.specs.declared.Index.{Index}
 use Rattle.rules.specs.declared.UnitRow.{UnitRow}
 use Rattle.rules.specs.declared.SceneRow.{SceneRow}
 use Rattle.rules.specs.Bytes.{count}
-use Rattle.rules.specs.Packets.{Packet}
-use Rattle.rules.specs.Units.{unitsOf}
 use Rattle.rules.specs.Refusals.{none, fault}
-use Rattle.rules.specs.Capture.{units, wholeWanted}
+use Rattle.rules.specs.Capture.{units}
 use Rattle.rules.specs.Pictures.{pictureCount}
 use Rattle.rules.specs.Histograms.{histograms}
 use Rattle.rules.specs.Cuts.{cutScores}
@@ -32,7 +30,6 @@ use Rattle.rules.proofs.Laws.Lists.{count-few}
 use Rattle.luma_laws.proofs.Counted.{reduced-length}
 use Rattle.luma_laws.proofs.Sizes.{good}
 use Rattle.luma_laws.proofs.Scenes.{pictures-most}
-use Rattle.rules.proofs.Laws.UnitsMore.{allPackets, allLost, packets-total, lost-small, units-none}
 use Rattle.index.specs.Counts.{Counts, IndexFrom}
 use Rattle.index.proofs.Taken.{index-is}
 use Rattle.luma_scenes.specs.Words.{Holds}
@@ -40,8 +37,13 @@ use Rattle.luma_scenes.specs.Contract.{CountPost}
 use Rattle.luma_scenes.proofs.Sample.{sample-holds}
 use Rattle.sealing.specs.Contract.{RecordWritten}
 use Rattle.luma_laws.proofs.Past.{length-repeats}
-use Rattle.counts.specs.declared.Summary.{Summary}
-use Rattle.counts.specs.Summary.{Figures}
+use Rattle.capture_cells.specs.declared.Cell.{Cell}
+use Rattle.capture_walk.specs.Format.{wholeCells}
+use Rattle.capture_units.specs.Units.{ofPid, unitsOf, unitsIn}
+use Rattle.capture_units.proofs.More.{allPackets, allLost, packets-total, lost-small, units-none}
+use Rattle.capture_units.proofs.Laws.{units-cells}
+use Rattle.capture.specs.declared.Summary.{Summary}
+use Rattle.capture.specs.Contract.{Figures}
 use Rattle.luma.specs.declared.Summary as of-luma
 use Rattle.luma.specs.Contract.{Known}
 use Rattle.sample.specs.Contract.{IndexIn, headerBy, Ready}
@@ -49,7 +51,7 @@ use Rattle.sample.specs.Contract.{IndexIn, headerBy, Ready}
 both : {a b : Answer} {x y : List ℕ} → a ≡ b → x ≡ y → sealedInto a x ≡ sealedInto b y
 both e f = cc
 
-some-packet : (ps : List Packet) → 1 ≤ length (unitsOf ps) → 1 ≤ length ps
+some-packet : (ps : List Cell) → 1 ≤ length (unitsOf ps) → 1 ≤ length ps
 some-packet [] h = absurd (omega (arith, rw units-none at h))
 some-packet (p ∷ ps) h = omega arith
 
@@ -71,13 +73,14 @@ pub index-by : {u u′ n n′ p p′ l l′ : ℕ} {i : Index} → u ≡ u′ �
 index-by a b c d h = rw (← a, ← b, ← c, ← d) h
 
 -- where no refusal stands, and there is a packet and a picture, it is the rule's
-pub index-is-rule : (capture luma : List ℕ) (o : Opening) (fedCapture fedLuma : List ℕ) (c : Summary)
+pub index-is-rule : (table luma : List ℕ) (o : Opening) (fedCapture fedLuma : List ℕ) (c : Summary)
     (l : of-luma.Summary) →
-    Figures capture o fedCapture c → Known luma o fedLuma l → 1 ≤ c .units → 1 ≤ l .pictures →
+    Figures table o fedCapture c → Known luma o fedLuma l → 1 ≤ c .units → 1 ≤ l .pictures →
     (i : Index) → IndexIn c l i → i ≡ index o fedCapture fedLuma
-unfolding index indexFrom unrepeated units
-index-is-rule capture luma o fedCapture fedLuma c l fig k some-units some-pictures i e =
-    let ps = wholeWanted o fedCapture in
+unfolding index indexFrom unrepeated
+index-is-rule table luma o fedCapture fedLuma c l fig k some-units some-pictures i e =
+    let ps = ofPid (o .pid) (wholeCells fedCapture) in
+    let us : units o fedCapture ≡ unitsOf ps = units-cells o fedCapture ∙ unfold unitsIn in refl in
     let few = fig .few in
     let fm : l .pictures ≤ 750 = omega (arith, k .pictures, pictures-most o fedLuma) in
     let few-fresh : l .fresh ≤ l .pictures =
@@ -90,25 +93,26 @@ index-is-rule capture luma o fedCapture fedLuma c l fig k some-units some-pictur
           fedLuma,
       k .pictures,
     ) in
-    let packets : c .packets ≡ length ps = fig .packets ∙ packets-total ps in
+    let packets : c .packets ≡ length ps = fig .packets ∙ ap allPackets us ∙ packets-total ps in
+    let lost : c .lost ≡ allLost (unitsOf ps) = fig .lost ∙ ap allLost us in
     let lo = lost-small ps in
     let g₁ : l .fresh % 2 ^ 32 ≡ l .fresh = mod-eq-of-lt (omega arith) in
     let g₂ : l .pictures % 2 ^ 32 ≡ l .pictures = mod-eq-of-lt (omega arith) in
     let g₃ : c .packets % 2 ^ 32 ≡ c .packets = mod-eq-of-lt (omega arith) in
-    let g₄ : c .lost % 2 ^ 32 ≡ c .lost = mod-eq-of-lt (omega (arith, fig .lost)) in
+    let g₄ : c .lost % 2 ^ 32 ≡ c .lost = mod-eq-of-lt (omega arith) in
     let e′ = rw (g₁, g₂, g₃, g₄) at e in
-    let some = some-packet ps (omega (arith, fig .units)) in
+    let some = some-packet ps (omega (arith, fig .units, ap length us)) in
     let counts : Counts (l .fresh) (l .pictures) (c .packets) (c .lost) = record {
       some-pictures = some-pictures;
       of-them = few-fresh;
       some-packets = omega arith;
       few-pictures = omega arith;
       few-packets = omega arith;
-      few-lost = omega (arith, fig .lost);
+      few-lost = omega arith;
     } in
     index-is counts e′ ∙ rw (k .fresh, k .pictures, fig .packets, fig .lost)
 
-module _ (capture luma : List ℕ) (o : Opening) (fedCapture fedLuma : List ℕ) (c : Summary) (l : of-luma.Summary) (r : Ready capture luma o fedCapture fedLuma c l) where
+module _ (table luma : List ℕ) (o : Opening) (fedCapture fedLuma : List ℕ) (c : Summary) (l : of-luma.Summary) (r : Ready table luma o fedCapture fedLuma c l) where
   abbrev pictures : ℕ
   pictures = l .pictures
 
@@ -127,9 +131,11 @@ module _ (capture luma : List ℕ) (o : Opening) (fedCapture fedLuma : List ℕ)
   unfolding scenes scenesIn
   scenes-are = refl
 
-  units-are : units o fedCapture ≡ unitsOf (wholeWanted o fedCapture)
-  unfolding units
-  units-are = refl
+  abbrev cells : List Cell
+  cells = ofPid (o .pid) (wholeCells fedCapture)
+
+  units-are : units o fedCapture ≡ unitsOf cells
+  units-are = units-cells o fedCapture ∙ unfold unitsIn in refl
 
   pub few-units : c .units ≤ 750
   few-units =
@@ -160,27 +166,27 @@ module _ (capture luma : List ℕ) (o : Opening) (fedCapture fedLuma : List ℕ)
         h ≡ header o fedCapture fedLuma
     unfolding header
     header-is h i e g =
-        let x = index-is-rule capture luma o fedCapture fedLuma c l (r .figures) (r .known) (r .units) (r .some) i e in
+        let x = index-is-rule table luma o fedCapture fedLuma c l (r .figures) (r .known) (r .units) (r .some) i e in
         g ∙ rw (x, r .figures .units, count-is, pictures-are, r .figures .frames, r .figures .skipped, r .figures .bad)
 
-    record-is : (before after : List ℕ) → RecordWritten capture luma (header o fedCapture fedLuma) before after →
+    record-is : (before after : List ℕ) → RecordWritten table luma (header o fedCapture fedLuma) before after →
         after ≡ over (recordBytes (header o fedCapture fedLuma) (units o fedCapture) (scenes o fedLuma)) before
     unfolding header
     record-is before after w =
         let there = subst (λ (x : ℕ). Holds luma x (scoresOf o fedLuma) (repeatsOf o fedLuma) (changesOf o fedLuma)) pictures-are holds in
         let hd = header o fedCapture fedLuma in
-        w (r .figures .beside) (wholeWanted o fedCapture) (scoresOf o fedLuma) (repeatsOf o fedLuma) (changesOf o fedLuma) (r .figures .table) (r .figures .few) there opened-well (ap length units-are) (ap length scenes-are)
+        w (r .figures .beside) cells (scoresOf o fedLuma) (repeatsOf o fedLuma) (changesOf o fedLuma) (r .figures .table) (r .figures .few) there opened-well (ap length units-are) (ap length scenes-are)
         ∙ ap (λ (us : List UnitRow). over (recordBytes hd us (scenesOf (o .time) (scoresOf o fedLuma) (repeatsOf o fedLuma) (changesOf o fedLuma))) before) (sym units-are)
         ∙ ap (λ (xs : List SceneRow). over (recordBytes hd (units o fedCapture) xs) before) (sym scenes-are)
 
     pub written-post : (before after : List ℕ) (h : Header) (i : Index) (a : Answer) → IndexIn c l i →
-        h ≡ headerBy o c pictures n (indexBits i) → RecordWritten capture luma h before after →
+        h ≡ headerBy o c pictures n (indexBits i) → RecordWritten table luma h before after →
         64 + 32 * (c .units + n) ≤ length before → a ≡ Done (64 + 32 * (c .units + n)) →
         sealedInto a after ≡ answerTo o fedCapture fedLuma (seal before)
     unfolding sealAnswer sealedBuffer noRoom sealed
     written-post before after h i a e g w room d =
         let f : sealFault o fedCapture fedLuma (length before) ≡ none = r .free (length before) ∙ rw (sym size-is, le-ltb (length before) (64 + 32 * (c .units + n)) room) in
         let x = header-is h i e g in
-        let w′ : RecordWritten capture luma (header o fedCapture fedLuma) before after = rw x at w in
+        let w′ : RecordWritten table luma (header o fedCapture fedLuma) before after = rw x at w in
         let b = record-is before after w′ in
         rw f (both (d ∙ ap Done size-is) b)

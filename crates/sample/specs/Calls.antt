@@ -16,6 +16,7 @@ use Rattle.rules.specs.Calls.{Question, Reply, Call, feedCapture, feedLuma, ask
 use Rattle.rules.specs.Calls.{captureFed, lumaFed}
 use Rattle.rules.specs.Bytes.{Bytes}
 use Rattle.rules.specs.Counted.{Whole, Counted}
+use Rattle.capture.specs.State.{Arrays}
 use Rattle.capture.specs.Contract as side-capture
 use Rattle.luma.specs.Contract as side-luma
 use Rattle.luma_cuts.specs.Counts.{tilesAt}
@@ -26,20 +27,20 @@ use Rattle.sample.specs.Contract.{OpenPost, Asked}
 -- one call on a state, which leaves another: no more and no less than the function's own contract. A feed changes its
 -- own side alone, a question nothing
 pub data Ran : State → Call → Outcome → State → Type 0 where
-  feedsCapture : {words words′ luma sums bins picture piece : List ℕ} {a : Answer} →
-      side-capture.FeedPost words piece a words′ →
+  feedsCapture : {side side′ : Arrays} {luma sums bins picture piece : List ℕ} {a : Answer} →
+      side-capture.FeedPost side piece a side′ →
       Ran
-      (record { capture = words; luma = luma; sums = sums; bins = bins; picture = picture })
+      (record { capture = side; luma = luma; sums = sums; bins = bins; picture = picture })
       (feedCapture piece)
       (fed a)
-      (record { capture = words′; luma = luma; sums = sums; bins = bins; picture = picture })
-  feedsLuma : {words luma sums bins picture luma′ sums′ bins′ picture′ piece : List ℕ} {a : Answer} →
+      (record { capture = side′; luma = luma; sums = sums; bins = bins; picture = picture })
+  feedsLuma : {side : Arrays} {luma sums bins picture luma′ sums′ bins′ picture′ piece : List ℕ} {a : Answer} →
       side-luma.FeedPost luma sums bins picture piece a luma′ sums′ bins′ picture′ →
       Ran
-      (record { capture = words; luma = luma; sums = sums; bins = bins; picture = picture })
+      (record { capture = side; luma = luma; sums = sums; bins = bins; picture = picture })
       (feedLuma piece)
       (fed a)
-      (record { capture = words; luma = luma′; sums = sums′; bins = bins′; picture = picture′ })
+      (record { capture = side; luma = luma′; sums = sums′; bins = bins′; picture = picture′ })
   asks : {st : State} {q : Question} {r : Reply} → Asked (wordsOf st) q r → Ran st (ask q) (replied r) st
 
 -- calls that are made one after the other, the first on the state st; what they come to; and the state that the last leaves

@@ -12,8 +12,8 @@ use Rattle.rules.specs.Refusals.{fault, InTable}
 use Rattle.rules.specs.Seal.{sealedLength, noRoom, sealFault}
 use Rattle.rules.specs.Calls.{Question, seal, Reply, sealedInto, answerTo, lentTo, lentAfter, refusalIn}
 use Rattle.index.specs.Counts.{IndexFrom}
-use Rattle.counts.specs.declared.Summary.{Summary}
-use Rattle.counts.specs.Summary.{Figures}
+use Rattle.capture.specs.declared.Summary.{Summary}
+use Rattle.capture.specs.Contract.{Figures}
 use Rattle.luma.specs.declared.Summary as of-luma
 use Rattle.luma.specs.Contract.{Known}
 use Rattle.sample.specs.State.{State, Words, wordsOf, Means}
@@ -65,15 +65,15 @@ headerBy o c pictures scenes index =
     }
 
 -- nothing but a short buffer refuses a seal of what the words stand for
-pub record Ready (capture luma : List ℕ) (o : Opening) (fedCapture fedLuma : List ℕ) (c : Summary) (l : of-luma.Summary) : Type 0 where
-  pub figures : Figures capture o fedCapture c
+pub record Ready (table luma : List ℕ) (o : Opening) (fedCapture fedLuma : List ℕ) (c : Summary) (l : of-luma.Summary) : Type 0 where
+  pub figures : Figures table o fedCapture c
   pub known : Known luma o fedLuma l
   pub units : 1 ≤ c .units
   pub some : 1 ≤ l .pictures
   pub free : (n : ℕ) → sealFault o fedCapture fedLuma n ≡ noRoom n (sealedLength o fedCapture fedLuma)
 
-pub record WritePost (w : Words) (o : Opening) (c : Summary) (l : of-luma.Summary) (before : List ℕ) (a : Answer)
+pub record WritePost (table luma : List ℕ) (o : Opening) (c : Summary) (l : of-luma.Summary) (before : List ℕ) (a : Answer)
     (after : List ℕ) : Type 0 where
-  pub rule : (fedCapture fedLuma : List ℕ) → Ready (w .capture) (w .luma) o fedCapture fedLuma c l →
+  pub rule : (fedCapture fedLuma : List ℕ) → Ready table luma o fedCapture fedLuma c l →
       sealedInto a after ≡ answerTo o fedCapture fedLuma (seal before)
   pub refusals : Leaves (seal before) (sealedInto a after)

@@ -1,20 +1,21 @@
--- What a sample's lent arrays stand for: the capture side's words, and the luma side's words, sums, bins and picture.
+-- What a sample's lent arrays stand for: the capture side's four, and the luma side's words, sums, bins and picture.
 use Prim.Native.Nat.{ℕ}
 use mathlib.Core.List.{List}
 use Rattle.rules.specs.declared.Opening.{Opening}
 use Rattle.capture.specs.State as side-capture
+use Rattle.capture.specs.State.{Arrays}
 use Rattle.luma_state.specs.State as side-luma
 
 pub record State : Type 0 where
-  pub capture : List ℕ
+  pub capture : Arrays
   pub luma : List ℕ
   pub sums : List ℕ
   pub bins : List ℕ
   pub picture : List ℕ
 
--- what a question looks at: the words of both sides
+-- what a question looks at: the capture side's arrays and the luma words
 pub record Words : Type 0 where
-  pub capture : List ℕ
+  pub capture : Arrays
   pub luma : List ℕ
 
 abbrev pub wordsOf : State → Words

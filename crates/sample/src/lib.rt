@@ -1,5 +1,5 @@
-// A stream sample: opened, fed on two sides, sealed. Its state is memory that the caller lends, in arrays of fixed sizes: the capture side's words, and the luma
-// side's words, block sums, bins and picture. Every call is safe and ends on any contents of them, and expects no checking by its caller.
+// A stream sample: opened, fed on two sides, sealed. Its state is memory that the caller lends, in arrays of fixed sizes: the capture side's walk words,
+// collected bytes, numbers and table of units, and the luma side's words, block sums, bins and picture. Every call is safe and ends on any contents of them, and expects no checking by its caller.
 ghost use mathlib.Core.Path.{_≡_};
 ghost use mathlib.Core.Bool.{not};
 ghost use lib.Dec.{T};
@@ -9,7 +9,11 @@ ghost use Rattle.rules.specs.Index.{indexBits};
 ghost use Rattle.capture.specs.Contract as side-capture;
 ghost use Rattle.luma.specs.Contract as side-luma;
 ghost use Rattle.sample.specs.Contract.{OpenPost, SealPost, IndexIn, headerBy, WritePost};
-use counts::Summary;
+use capture::Numbers;
+use capture::Summary;
+use capture_units::Table;
+use capture_walk::Collected;
+use capture_walk::WalkWords;
 use rules::Answer;
 use rules::Header;
 use rules::Index;
@@ -17,25 +21,34 @@ use rules::Opening;
 
 // Opens a sample, and answers Done with 0, or refusal 1, 2 or 3, which its feeds and seals then repeat.
 pub fn open(
-    capture: &mut [u64; 3840],
+    walk: &mut WalkWords,
+    kept: &mut Collected,
+    numbers: &mut Numbers,
+    table: &mut Table,
     luma: &mut [u64; 1600],
     sums: &mut [u32; 240],
     bins: &mut [u32; 720],
     picture: &mut [u8; 14104],
     o: Opening,
 ) -> Answer
-    ensures { λ r. ⌜ OpenPost o r (record { capture = now (capture .exit); luma = now (luma .exit); sums = now (sums .exit); bins = now (bins .exit); picture = now (picture .exit) }) ⌝ }
+    ensures { λ r. ⌜ OpenPost o r (record { capture = record { walk = now (walk .exit); kept = now (kept .exit); numbers = now (numbers .exit); table = now (table .exit) }; luma = now (luma .exit); sums = now (sums .exit); bins = now (bins .exit); picture = now (picture .exit) }) ⌝ }
 {
     let number = figures::opening_fault(o);
-    capture::open(capture, number, o.pid as u64);
+    capture::open(walk, kept, numbers, table, number, o.pid as u64);
     luma::open(luma, sums, bins, picture, o)
 }
 
 // Feeds a piece of the capture.
-pub fn feed_capture(capture: &mut [u64; 3840], piece: &[u8]) -> Answer
-    ensures { λ r. ⌜ side-capture.FeedPost (now (capture .entry)) (now (piece .entry)) r (now (capture .exit)) ⌝ }
+pub fn feed_capture(
+    walk: &mut WalkWords,
+    kept: &mut Collected,
+    numbers: &mut Numbers,
+    table: &mut Table,
+    piece: &[u8],
+) -> Answer
+    ensures { λ r. ⌜ side-capture.FeedPost (record { walk = now (walk .entry); kept = now (kept .entry); numbers = now (numbers .entry); table = now (table .entry) }) (now (piece .entry)) r (record { walk = now (walk .exit); kept = now (kept .exit); numbers = now (numbers .exit); table = now (table .exit) }) ⌝ }
 {
-    capture::feed(capture, piece)
+    capture::feed(walk, kept, numbers, table, piece)
 }
 
 // Feeds a piece of the luma.
@@ -109,14 +122,14 @@ fn header_of(o: Opening, c: Summary, pictures: u32, scenes: u32, i: Index) -> He
 // Writes the record, if the buffer has room for it. Its counts are in range, but where somebody else wrote on the state.
 fn write(
     buffer: &mut [u8],
-    capture: &[u64; 3840],
+    table: &Table,
     luma: &[u64; 1600],
     o: Opening,
     c: Summary,
     l: luma::Summary,
 ) -> Answer
-    ensures { λ r. ⌜ WritePost (record { capture = now (capture .entry); luma = now (luma .entry) }) o c l
-        (now (buffer .entry)) r (now (buffer .exit)) ⌝ }
+    ensures { λ r. ⌜ WritePost (now (table .entry)) (now (luma .entry)) o c l (now (buffer .entry)) r
+        (now (buffer .exit)) ⌝ }
 {
     if 750 < c.units {
         return refused(12, 0);
@@ -132,16 +145,23 @@ fn write(
     }
     let i = index_in(c, l);
     let h = header_of(o, c, n as u32, scenes as u32, i);
-    sealing::write_record(buffer, capture, luma, h);
+    sealing::write_record(buffer, table, luma, h);
     Answer::Done(size as u64)
 }
 
 // Seals what was fed: the record goes into the buffer, and the answer is its length; or the buffer stands as it was, and the answer is the refusal.
-pub fn seal(capture: &[u64; 3840], luma: &[u64; 1600], buffer: &mut [u8]) -> Answer
-    ensures { λ r. ⌜ SealPost (record { capture = now (capture .entry); luma = now (luma .entry) })
+pub fn seal(
+    walk: &WalkWords,
+    kept: &Collected,
+    numbers: &Numbers,
+    table: &Table,
+    luma: &[u64; 1600],
+    buffer: &mut [u8],
+) -> Answer
+    ensures { λ r. ⌜ SealPost (record { capture = record { walk = now (walk .entry); kept = now (kept .entry); numbers = now (numbers .entry); table = now (table .entry) }; luma = now (luma .entry) })
         (now (buffer .entry)) r (now (buffer .exit)) ⌝ }
 {
-    let c = counts::sum_up(capture);
+    let c = capture::sum_up(walk, numbers);
     let l = luma::summarise(luma);
     if c.number != 0 {
         return refused(c.number, c.place);
@@ -162,5 +182,5 @@ pub fn seal(capture: &[u64; 3840], luma: &[u64; 1600], buffer: &mut [u8]) -> Ans
         return refused(14, 0);
     }
     let o = luma::opening_in(luma);
-    write(buffer, capture, luma, o, c, l)
+    write(buffer, table, luma, o, c, l)
 }

@@ -1,19 +1,20 @@
-// The record of what was fed, written into a lent buffer from the lent words of both sides.
+// The record of what was fed, written into a lent buffer from the table of units and the luma words.
 ghost use Prim.Native.Nat.{_≤_, _<_};
 ghost use lib.ListN.{length};
 ghost use Rattle.rules.specs.Record.{recordLength, sceneOffset};
 ghost use Rattle.sealing.specs.Contract.{UnitsWritten, ScenesWritten, RecordWritten};
+use capture_units::Table;
 use rules::Header;
 
 // The rows of n units, behind the header.
-fn write_units(buffer: &mut [u8], capture: &[u64; 3840], n: usize)
+fn write_units(buffer: &mut [u8], table: &Table, n: usize)
     requires { ⌜ sceneOffset n ≤ length (now buffer) ⌝ }
-    ensures { λ _. ⌜ UnitsWritten (now (capture .entry)) n (now (buffer .entry)) (now (buffer .exit)) ⌝ }
+    ensures { λ _. ⌜ UnitsWritten (now (table .entry)) n (now (buffer .entry)) (now (buffer .exit)) ⌝ }
 {
     let mut j: usize = 0;
     while j < n {
         let at = 64 + 32 * j;
-        let row = units::row(capture, j);
+        let row = capture_units::row(table, j);
         record_writer::write_unit(buffer, at, row);
         j += 1;
     }
@@ -44,13 +45,13 @@ fn write_scenes(
 }
 
 // The whole record with the header h, whose counts say how many rows there are.
-pub fn write_record(buffer: &mut [u8], capture: &[u64; 3840], luma: &[u64; 1600], h: Header)
+pub fn write_record(buffer: &mut [u8], table: &Table, luma: &[u64; 1600], h: Header)
     requires { ⌜ (recordLength (h .units) (h .scenes) ≤ length (now buffer)) × (recordLength (h .units) (h .scenes) < 4294967296) ⌝ }
-    ensures { λ _. ⌜ RecordWritten (now (capture .entry)) (now (luma .entry)) h (now (buffer .entry)) (now (buffer .exit)) ⌝ }
+    ensures { λ _. ⌜ RecordWritten (now (table .entry)) (now (luma .entry)) h (now (buffer .entry)) (now (buffer .exit)) ⌝ }
 {
     let units = h.units as usize;
     record_writer::write_header(buffer, h);
-    write_units(buffer, capture, units);
+    write_units(buffer, table, units);
     write_scenes(
         buffer,
         luma,

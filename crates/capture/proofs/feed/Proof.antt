@@ -1,16 +1,14 @@
+-- `feed` meets its contract.
 use Rattle.capture.proofs.Pieces.{feed-post}
 use borrow.Author.Needs.{needs}
 use Rattle.capture.proofs.feed.Statement.{statement}
 use Rattle.capture.proofs.feed.Tie as tie
-use Rattle.capture.proofs.feed.Reads as reads
-use Rattle.capture.proofs.feed.Lts as lts
-use Rattle.capture.proofs.meter.load.Reads as load-reads
-use Rattle.capture.proofs.reply.Reads as reply-reads
-use Rattle.capture.proofs.run.Reads as run-reads
-use Rattle.capture.proofs.meter.store.Reads as store-reads
 
 load-requires : tie.Need-load-requires
 load-requires c κs = search needs
+
+load-requires-2 : tie.Need-load-requires-2
+load-requires-2 c κs = search needs
 
 run-requires : tie.Need-run-requires
 run-requires c κs = search needs
@@ -18,12 +16,24 @@ run-requires c κs = search needs
 store-requires : tie.Need-store-requires
 store-requires c κs = search needs
 
+store-requires-2 : tie.Need-store-requires-2
+store-requires-2 c κs = search needs
+
 reply-requires : tie.Need-reply-requires
 reply-requires c κs = search needs
 
 returns : tie.Need-returns
 returns c =
-    feed-post _ _ _ _ _ _ _ (c .before .before .before .before .before .load .ensures) (c .before .before .before .run .ensures) (c .before .store .ensures) (c .reply .ensures)
+    feed-post _ _ _ _ _ _ _ (c .before .before .before .before .before .before .before .before .before .before .before .before .load .ensures) (c .before .before .before .before .before .before .before .before .before .before .load2 .ensures) (c .before .before .before .before .before .before .before .run .ensures) (c .before .before .before .store .ensures) (c .before .store2 .ensures) (c .reply .ensures)
 
 pub feed-spec : {M : Type 1} → statement M
-feed-spec = tie.close (tie.spec load-requires run-requires store-requires reply-requires returns)
+feed-spec =
+    tie.close
+    (tie.spec
+    load-requires
+    load-requires-2
+    run-requires
+    store-requires
+    store-requires-2
+    reply-requires
+    returns)

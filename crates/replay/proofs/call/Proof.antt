@@ -18,7 +18,7 @@ enum-told-2 : tie.Need-enum-told-2
 enum-told-2 c = search needs
 
 call-seal-requires : tie.Need-call-seal-requires
-call-seal-requires c κs = omega (arith, c .before .before .before .before .before .before .before .pre .size ∙ ap sizeOf (c .before .before .before .enum-told2 .given .1))
+call-seal-requires c κs = omega (arith, c .before .before .before .before .before .before .before .before .before .before .pre .size ∙ ap sizeOf (c .before .before .before .before .before .before .enum-told2 .given .1))
 
 enum-known-h : tie.Need-enum-known-h
 enum-known-h c = search needs
@@ -36,10 +36,10 @@ part-call-capture-start : tie.Need-part-call-capture-start
 part-call-capture-start c = search needs
 
 part-call-capture-end : tie.Need-part-call-capture-end
-part-call-capture-end c = omega (arith, fits-capture (c .before .before .before .before .before .before .before .args .script .now) (c .before .before .before .before .before .before .before .args .at) _ (sym (c .before .before .before .h .given .1) ∙ c .before .before .before .before .before .before .before .pre .here))
+part-call-capture-end c = omega (arith, fits-capture (c .before .before .before .before .before .before .before .before .before .before .args .script .now) (c .before .before .before .before .before .before .before .before .before .before .args .at) _ (sym (c .before .before .before .before .before .before .h .given .1) ∙ c .before .before .before .before .before .before .before .before .before .before .pre .here))
 
 call-capture-requires : tie.Need-call-capture-requires
-call-capture-requires c κs = c .before .before .before .before .before .before .before .before .before .pre .size ∙ ap sizeOf (c .before .before .before .before .before .h .given .1)
+call-capture-requires c κs = c .before .before .before .before .before .before .before .before .before .before .before .before .pre .size ∙ ap sizeOf (c .before .before .before .before .before .before .before .before .h .given .1)
 
 enum-known-h-2 : tie.Need-enum-known-h-2
 enum-known-h-2 c = search needs
@@ -70,15 +70,15 @@ same-length c = search needs
 
 returns-2 : tie.Need-returns-2
 returns-2 c =
-    let is = c .before .before .before .before .before .before .enum-told2 .given .1 in
-    after-seal _ _ _ _ _ _ _ _ is refl (c .before .before .before .before .before .before .before .before .before .before .pre .size ∙ ap sizeOf is) (c .before .before .call-seal .ensures)
+    let is = c .before .before .before .before .before .before .before .before .before .enum-told2 .given .1 in
+    after-seal _ _ _ _ _ _ _ _ is refl (c .before .before .before .before .before .before .before .before .before .before .before .before .before .pre .size ∙ ap sizeOf is) (c .before .before .call-seal .ensures)
 
 same-length-2 : tie.Need-same-length-2
 same-length-2 c = search needs
 
 returns-3 : tie.Need-returns-3
 returns-3 c =
-    after-capture _ _ _ _ _ _ _ _ _ _ _ _ _ (c .before .before .before .before .before .before .before .before .h .given .1) refl (rw (c .before .before .before .before .before .before .wide .ensures)) (c .before .before .call-capture .ensures)
+    after-capture _ _ _ _ _ _ _ _ _ _ _ _ _ (c .before .before .before .before .before .before .before .before .before .before .before .h .given .1) refl (rw (c .before .before .before .before .before .before .before .before .before .wide .ensures)) (c .before .before .call-capture .ensures)
 
 same-length-3 : tie.Need-same-length-3
 same-length-3 c = search needs

@@ -4,7 +4,6 @@ use Rattle.sample.proofs.Opened.{number-none, number-some}
 use borrow.Author.Needs.{needs}
 use Rattle.sample.proofs.open.Statement.{statement}
 use Rattle.sample.proofs.open.Tie as tie
-use Rattle.luma.proofs.open.Reads as open-reads′
 
 opening-fault-requires : tie.Need-opening-fault-requires
 opening-fault-requires c κs = search needs
@@ -20,15 +19,21 @@ open-requires-2 c κs = search needs
 
 returns : tie.Need-returns
 returns c =
-    let f = c .before .before .before .before .before .before .before .before .opening-fault .ensures in
+    let f = c .before .before .before .before .before .before .before .before .before .before .before .opening-fault .ensures in
     record {
       answer = c .open2 .ensures .answer;
       means = record {
-        captured = c .before .before .before .before .before .«open» .ensures (c .before .before .before .before .before .before .before .before .before .args .o) (number-none (f .shown)) (number-some (f .shown)) refl;
+        captured = c .before .before .before .before .before .«open» .ensures (c .before .before .before .before .before .before .before .before .before .before .before .before .args .o) (number-none (f .shown)) (number-some (f .shown)) refl;
         drawn = c .open2 .ensures .means;
       };
     }
 
 pub open-spec : {M : Type 1} → statement M
 open-spec =
-    tie.close (tie.spec opening-fault-requires cast-open open-requires open-requires-2 returns)
+    tie.close
+    (tie.spec
+    opening-fault-requires
+    cast-open
+    open-requires
+    open-requires-2
+    returns)

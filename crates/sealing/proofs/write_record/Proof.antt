@@ -36,7 +36,7 @@ returns : tie.Need-returns
 returns c =
     let s = c .before .before .before .before .before .before .before .before .before .before .before .before .before .before .before .before .before in
     let a = s .args in
-    record-written (a .capture .now) (a .luma .now) (a .h) (a .buffer .now) _ _ _ (s .pre .0) (c .before .before .before .before .before .before .before .before .before .before .before .before .before .write-header .ensures) (c .before .before .before .before .before .before .before .before .before .write-units .ensures) (c .before .before .write-scenes .ensures)
+    record-written (a .table .now) (a .luma .now) (a .h) (a .buffer .now) _ _ _ (s .pre .0) (c .before .before .before .before .before .before .before .before .before .before .before .before .before .write-header .ensures) (c .before .before .before .before .before .before .before .before .before .write-units .ensures) (c .before .before .write-scenes .ensures)
 
 pub write-record-spec : {M : Type 1} → statement M
 write-record-spec =

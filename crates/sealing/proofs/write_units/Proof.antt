@@ -12,10 +12,10 @@ use Rattle.sealing.proofs.write_units.Statement.{statement}
 use Rattle.sealing.proofs.write_units.Tie as tie
 
 abbrev Inv-loop : tie.InvT-loop
-Inv-loop buffer₀ capture n j₀ buffer j = (j ≤ n) × (length buffer ≡ length buffer₀) × UnitsWritten capture j buffer₀ buffer
+Inv-loop buffer₀ table n j₀ buffer j = (j ≤ n) × (length buffer ≡ length buffer₀) × UnitsWritten table j buffer₀ buffer
 
 abbrev μ-loop : tie.MeasureT-loop
-μ-loop buffer₀ capture n j₀ buffer j = n - j
+μ-loop buffer₀ table n j₀ buffer j = n - j
 
 loop-holds : tie.Need-loop-holds Inv-loop μ-loop
 loop-holds c = (omega arith, refl, units-none _ _)
@@ -54,7 +54,7 @@ loop-again c =
     let p = s .pre in (
       omega arith,
       w .kept .0 ∙ l .inv .1,
-      units-more (a .capture .now) (l .j) (a .buffer .now) (l .buffer) (w .last .0) (omega (arith, p)) (c .before .before .before .before .row .result) (l .inv .2) (c .before .before .before .before .row .ensures) (w .ensures),
+      units-more (a .table .now) (l .j) (a .buffer .now) (l .buffer) (w .last .0) (omega (arith, p)) (c .before .before .before .before .row .result) (l .inv .2) (c .before .before .before .before .row .ensures) (w .ensures),
     )
 
 same-length : tie.Need-same-length Inv-loop μ-loop
@@ -65,7 +65,7 @@ unfolding sceneOffset unitPlace
 returns c =
     let l = c .before .loop in
     let e : l .j ≡ c .before .before .before .args .n = omega arith in
-    subst (λ (k : ℕ). UnitsWritten (c .before .before .before .args .capture .now) k (c .before .before .before .args .buffer .now) (l .buffer)) e (l .inv .2)
+    subst (λ (k : ℕ). UnitsWritten (c .before .before .before .args .table .now) k (c .before .before .before .args .buffer .now) (l .buffer)) e (l .inv .2)
 
 pub write-units-spec : {M : Type 1} → statement M
 write-units-spec =

@@ -4,10 +4,10 @@ use Rattle.measure.proofs.side.feed_capture.Statement.{statement}
 use Rattle.measure.proofs.side.feed_capture.Tie as tie
 
 abbrev Inv-loop : tie.InvT-loop
-Inv-loop name capture₀ fd turn₀ turns₀ capture turn turns = Unit {0}
+Inv-loop name walk₀ kept₀ numbers₀ table₀ fd turn₀ turns₀ walk kept numbers table turn turns = Unit {0}
 
 abbrev μ-loop : tie.MeasureT-loop
-μ-loop name capture₀ fd turn₀ turns₀ capture turn turns = turns
+μ-loop name walk₀ kept₀ numbers₀ table₀ fd turn₀ turns₀ walk kept numbers table turn turns = turns
 
 open-side-requires : tie.Need-open-side-requires Inv-loop μ-loop
 open-side-requires c κs = search needs

@@ -1,0 +1,106 @@
+// Counts of one identifier, cell by cell: the table of units, bad cells, and refusal 9. A draft of what drives the table by the walk's events.
+ghost use mathlib.Core.Path.{_≡_};
+ghost use mathlib.Core.List.{[], _∷_};
+ghost use mathlib.Core.Bool.{_&&_};
+ghost use Prim.Native.Nat.{_+_, _*_, _≤_};
+ghost use lib.ListN.{length};
+ghost use lib.Dec.{eqb};
+ghost use Rattle.capture_units.specs.Units.{isCell};
+ghost use Rattle.capture_walk.specs.Contract.{cellsOf};
+ghost use Rattle.capture_counts.specs.Counts.{Checks, Accounts, Runs};
+use capture_cells::Cell;
+use capture_cells::Condition;
+use capture_units::Table;
+use capture_units::Units;
+use capture_walk::Run;
+
+// status, place: refusal 9, or 0. pid: the identifier. bad: bad cells. units: the state of the table.
+pub struct Tally {
+    pub status: u64,
+    pub place: u64,
+    pub pid: u64,
+    pub bad: u64,
+    pub units: Units,
+}
+
+fn is_cell(k: Condition) -> bool
+    ensures { λ r. ⌜ r ≡ isCell k ⌝ }
+{
+    match k {
+        Condition::Good => true,
+        Condition::Damaged => true,
+        Condition::Bad => false,
+    }
+}
+
+// Whether a cell is of the identifier.
+fn wanted(c: Cell, pid: u64) -> bool
+    ensures { λ r. ⌜ r ≡ isCell (c .condition) && eqb (c .identifier) pid ⌝ }
+{
+    let k = c.condition;
+    if is_cell(k) {
+        return c.identifier == pid;
+    }
+    false
+}
+
+// A cell is shown: refusal 9, if it would begin a 751st unit.
+pub fn check(t: Tally, c: Cell) -> Tally
+    ensures { λ r. ⌜ Checks t c r ⌝ }
+{
+    if wanted(c, t.pid) {
+        let u = t.units;
+        if capture_units::is_full(u, c.start) {
+            let mut r = t;
+            r.status = 9;
+            r.place = std::num::wrapping_add_u64(c.place, 3);
+            return r;
+        }
+        return t;
+    }
+    t
+}
+
+// A cell is whole.
+pub fn account(table: &mut Table, t: Tally, c: Cell) -> Tally
+    ensures { λ r. ⌜ Accounts (now (table .entry)) t c (now (table .exit)) r ⌝ }
+{
+    let mut r = t;
+    if wanted(c, t.pid) {
+        let u = t.units;
+        let v = capture_units::add_cell(table, u, c);
+        r.units = v;
+        return r;
+    }
+    let k = c.condition;
+    if is_cell(k) {
+        return r;
+    }
+    r.bad = std::num::wrapping_add_u64(t.bad, 1);
+    r
+}
+
+// A run of cells, up to the first that shows refusal 9.
+pub fn add_run(table: &mut Table, start: Tally, piece: &[u8], r: Run) -> Tally
+    requires { ⌜ (r .at + 188 * r .many ≤ length (now piece)) × (r .place + 188 * r .many ≤ 268435456) ⌝ }
+    ensures { λ t. ⌜ Runs (now (table .entry)) start (cellsOf r (now (piece .entry))) (now (table .exit)) t ⌝ }
+{
+    let time = r.time;
+    let many = r.many;
+    let mut at = r.at;
+    let mut place = r.place;
+    let mut t = start;
+    let mut k: u64 = 0;
+    while k < many {
+        let c = capture_cells::cell_at(piece, at, time, place);
+        let d = check(t, c);
+        if d.status != 0 {
+            return d;
+        }
+        t = account(table, d, c);
+        at += 188;
+        place += 188;
+        k += 1;
+    }
+    t
+}

@@ -1,0 +1,159 @@
+-- Bytes of the file header: what the walk stands for behind them.
+use Prim.Native.Nat.{ℕ, _+_, _≤_, _<_}
+use native.Mathlib.Omega.{arith}
+use native.Mathlib.Decide.{decLt}
+use mathlib.Core.Path.{_≡_, refl, sym, ap, _∙_}
+use mathlib.Core.List.{List, [], _∷_, _++_}
+use mathlib.Core.Bool.{Bool, true, false}
+use lib.ListN.{length, length-append}
+use lib.Dec.{eqb}
+use borrow.Author.Tests.{eq-eqb, ne-eqb}
+use Rattle.rules.specs.Bytes.{pick, byte, word32, count}
+use Rattle.rules.specs.Refusals.{none, fault}
+use Rattle.rules.specs.Packets.{skipped}
+use Rattle.rules.specs.Capture.{earlier, wrongMagic, wrongLink}
+use Rattle.rules.proofs.Laws.Onward.{header-alone}
+use Rattle.rules.proofs.Laws.Flow.{reached}
+use Rattle.rules.proofs.Laws.Clear.{magic-more, magic-early, link-early, magic-shown, link-shown, reached-none}
+use Rattle.capture_cells.specs.Cells.{isMagic}
+use Rattle.capture_cells.proofs.Agree.{magic-agree, link-agree}
+use Rattle.capture_walk.specs.declared.types.Walk.{Walk}
+use Rattle.capture_walk.specs.declared.types.Event.the-variants.{Nothing, Refused}
+use Rattle.capture_walk.specs.Format.{formatFault}
+use Rattle.capture_walk.specs.State.{Head, Core, Stands, head, live}
+use Rattle.capture_walk.specs.Contract.{silent, Stood}
+use Rattle.capture_walk.proofs.Format.{Sound, sound-of, header-shows}
+use Rattle.capture_walk.proofs.Lists.{shown-same, gains-none}
+use Rattle.capture_walk.proofs.Front.{Placed, Held, held-agree, held-more}
+use Rattle.capture_walk.proofs.Pieces.{refuse}
+
+none-skipped : skipped [] ≡ 0
+unfolding skipped count
+none-skipped = refl
+
+module _ {k : List ℕ} {s : Walk} {joined : List ℕ} (u : Head k s joined) (k′ : List ℕ) (r : Walk) (t : List ℕ) (n : ℕ) (piece : List ℕ) (some : 0 < length t)
+    (pl : Placed k (s .fed) t k′) (upto : s .fed < 4 → s .fed + length t ≤ 4) (most : s .fed + length t ≤ 24) where
+  a : List ℕ
+  a = joined ++ t
+
+  size : length a ≡ s .fed + length t
+  unfolding a
+  size = let l = length-append joined t in let f = u .fed in omega arith
+
+  held : Held k′ a
+  unfolding a
+  held = held-more {k = k} {r = joined} {t = t} (record { held = λ i x y. u .bytes i x }) (rw (← u .fed) pl)
+
+  sound : Sound joined
+  sound = sound-of joined (u .clear)
+
+  stood : length k′ ≡ 64
+  stood = pl .size ∙ u .room
+
+  shows : formatFault a ≡ earlier (wrongMagic a) (wrongLink a)
+  shows = header-shows a (omega (arith, size))
+
+  magic-kept : 4 ≤ s .fed → wrongMagic a ≡ none
+  unfolding a
+  magic-kept h = magic-more joined t (omega (arith, u .fed)) ∙ sound .magic
+
+  no-link : s .fed + length t < 24 → wrongLink a ≡ none
+  no-link h = link-early a (omega (arith, size))
+
+  nothing : (d : ℕ) → 0 < d → d ≤ 188 → reached d a ≡ reached d joined
+  nothing d p q = reached-none a (omega (arith, size)) d p q ∙ sym (reached-none joined (omega (arith, u .short)) d p q)
+
+  module _ (rs : r .status ≡ s .status) (rf : r .fed ≡ s .fed + length t) (ra : r .at ≡ s .at) (rn : r .frames ≡ s .frames) (rk : r .skipped ≡ s .skipped) where
+    head-on : formatFault a ≡ none → s .fed + length t < 24 → Stood k′ (record { taken = n; walk = r; event = Nothing }) piece joined a
+    head-on c l =
+        record {
+          stands =
+              head
+              (record {
+                room = stood;
+                status = rs ∙ u .status;
+                clear = c;
+                fed = rf ∙ sym size;
+                short = omega (arith, size);
+                frames = rn ∙ u .frames;
+                skipped = rk ∙ u .skipped;
+                many = ra ∙ u .many;
+                bytes = λ i h. held .held i h (omega (arith, size));
+              });
+          tells = gains-none c (nothing 4 (omega arith) (omega arith)) (nothing 188 (omega arith) (omega arith));
+        }
+
+    -- the header is whole
+    head-done : formatFault a ≡ none → s .fed + length t ≡ 24 → Stood k′ (record { taken = n; walk = r; event = Nothing }) piece joined a
+    head-done c l =
+        record {
+          stands =
+              live (omega (arith, size))
+              (rw (header-alone a (omega (arith, size)) .0, header-alone a (omega (arith, size)) .1)
+              (record {
+                room = stood;
+                status = rs ∙ u .status;
+                clear = c;
+                fed = rf ∙ sym size;
+                frames = rn ∙ u .frames;
+                skipped = rk ∙ u .skipped ∙ sym none-skipped;
+                many = ra ∙ u .many;
+                size = λ x. absurd (omega arith);
+                bytes = λ i x y. absurd (omega arith);
+                under = λ x. absurd (omega arith);
+              }));
+          tells = gains-none c (nothing 4 (omega arith) (omega arith)) (nothing 188 (omega arith) (omega arith));
+        }
+
+    pub file-plain : (s .fed + length t ≡ 4 → ⊥) → (s .fed + length t ≡ 24 → ⊥) → Stood k′ (record { taken = n; walk = r; event = Nothing }) piece joined (joined ++ t)
+    unfolding a
+    file-plain x y = go (decLt (s .fed) 4)
+      where
+        l : s .fed + length t < 24
+        l = omega (arith, y)
+
+        go : Dec (s .fed < 4) → Stood k′ (record { taken = n; walk = r; event = Nothing }) piece joined a
+        go (yes d) = let f = upto d in head-on (shows ∙ rw (magic-early a (omega (arith, size, x)), no-link l)) l
+        go (no d) = head-on (shows ∙ rw (magic-kept (omega arith), no-link l)) l
+
+    pub file-magic : {b : Bool} → s .fed + length t ≡ 4 → b ≡ isMagic k′ → b ≡ true → Stood k′ (record { taken = n; walk = r; event = Nothing }) piece joined (joined ++ t)
+    unfolding a
+    file-magic l e f =
+        let m : isMagic a ≡ true = sym (magic-agree (held-agree 4 held (omega (arith, size)) (omega arith)) (omega arith)) ∙ sym e ∙ f in
+        head-on (shows ∙ rw (magic-shown a (omega (arith, size)), m, no-link (omega arith))) (omega arith)
+
+    pub file-link : s .fed + length t ≡ 24 → word32 k′ 20 ≡ 1 → Stood k′ (record { taken = n; walk = r; event = Nothing }) piece joined (joined ++ t)
+    unfolding a
+    file-link l e =
+        let g = link-agree (held-agree 24 held (omega (arith, size)) (omega arith)) (omega arith) in
+        let m = eq-eqb (word32 a 20) 1 (sym g ∙ e) in
+        head-done (shows ∙ rw (magic-kept later, link-shown a (omega (arith, size)), m)) l
+      where
+        later : 4 ≤ s .fed
+        later = go (decLt (s .fed) 4)
+          where
+            go : Dec (s .fed < 4) → 4 ≤ s .fed
+            go (yes d) = let f = upto d in absurd (omega arith)
+            go (no d) = omega arith
+
+  pub file-bad-magic : {b : Bool} → s .fed + length t ≡ 4 → b ≡ isMagic k′ → b ≡ false → r .status ≡ 5 → r .place ≡ 3 →
+      Stood k′ (record { taken = n; walk = r; event = Refused }) piece joined (joined ++ t)
+  unfolding a
+  file-bad-magic l e f rs rp =
+      let m : isMagic a ≡ false = sym (magic-agree (held-agree 4 held (omega (arith, size)) (omega arith)) (omega arith)) ∙ sym e ∙ f in
+      refuse n 5 3 stood (shows ∙ rw (magic-shown a (omega (arith, size)), m, no-link (omega arith))) (omega arith) rs rp (silent (shown-same joined a (nothing 4 (omega arith) (omega arith))))
+
+  pub file-bad-link : s .fed + length t ≡ 24 → (word32 k′ 20 ≡ 1 → ⊥) → r .status ≡ 6 → r .place ≡ 23 →
+      Stood k′ (record { taken = n; walk = r; event = Refused }) piece joined (joined ++ t)
+  unfolding a
+  file-bad-link l e rs rp =
+      let g = link-agree (held-agree 24 held (omega (arith, size)) (omega arith)) (omega arith) in
+      let m = ne-eqb (word32 a 20) 1 (λ x. e (g ∙ x)) in
+      refuse n 6 23 stood (shows ∙ rw (magic-kept later, link-shown a (omega (arith, size)), m)) (omega arith) rs rp (silent (shown-same joined a (nothing 4 (omega arith) (omega arith))))
+    where
+      later : 4 ≤ s .fed
+      later = go (decLt (s .fed) 4)
+        where
+          go : Dec (s .fed < 4) → 4 ≤ s .fed
+          go (yes d) = let f = upto d in absurd (omega arith)
+          go (no d) = omega arith

@@ -1,0 +1,149 @@
+-- For whoever counts cells on top of the walk.
+use Prim.Native.Nat.{ℕ, zero, suc, _+_, _*_, _≤_, _<_}
+use native.Mathlib.Omega.{arith}
+use native.Mathlib.Decide.{decLe}
+use mathlib.Core.Path.{_≡_, refl, sym, ap, _∙_}
+use mathlib.Core.List.{List, [], _∷_, _++_, append-nil, map}
+use lib.ListN.{length, take, drop, length-append, length-take, length-drop}
+use borrow.Author.Tests.{le-leb, lt-leb}
+use lib.Dec.{leb}
+use Rattle.rules.specs.Bytes.{pick, count, endToEnd, only}
+use Rattle.rules.specs.Refusals.{Fault, none, fault}
+use Rattle.rules.specs.Frames.{frameTime, behindHeader, frames, rest}
+use Rattle.rules.specs.Packets.{Packet, skipped, packetsFrom, packetsOf, packets}
+use Rattle.rules.specs.Capture.{wholeFrames, unfinished, allFrames, frameCount, skippedCount}
+use Rattle.rules.proofs.Laws.Lists.{only-append, endToEnd-append}
+use Rattle.rules.proofs.Laws.Frames.{frames-all}
+use Rattle.rules.proofs.Laws.Onward.{header-alone, countOf, of-from, reaching}
+use Rattle.rules.proofs.Laws.Flow.{reached}
+use Rattle.rules.proofs.Laws.Clear.{long-of, reached-none}
+use Rattle.capture_cells.specs.declared.Cell.{Cell}
+use Rattle.capture_cells.specs.Cells.{cellOf}
+use Rattle.capture_walk.specs.declared.types.Walk.{Walk}
+use Rattle.capture_walk.specs.declared.types.Event.{Event}
+use Rattle.capture_walk.specs.declared.types.Event.the-variants.{Nothing, Shown, Whole, Cells, Refused}
+use Rattle.capture_walk.specs.Format.{formatFault, wholeCells}
+use Rattle.capture_walk.specs.State.{Stands, refused, head, live}
+use Rattle.capture_walk.specs.Contract.{Tells, wholeOf}
+use Rattle.capture_walk.proofs.Format.{format-kept, sound-of}
+use Rattle.capture_walk.proofs.Lists.{whole-of}
+
+never : {k p : ℕ} → fault k p ≡ none → ⊥
+never e = let z : _≡_ {A = ℕ} 0 1 = cc in omega arith
+
+-- ---- what a walk says
+
+pub says-fault : {kept : List ℕ} {s : Walk} {joined : List ℕ} → (s .status ≡ 0 → ⊥) → Stands kept s joined → formatFault joined ≡ fault (s .status) (s .place)
+says-fault h (refused l e k) = e
+says-fault h (head v) = absurd (h (v .status))
+says-fault h (live g v) = absurd (h (v .status))
+
+pub says-clear : {kept : List ℕ} {s : Walk} {joined : List ℕ} → s .status ≡ 0 → Stands kept s joined → formatFault joined ≡ none
+says-clear h (refused l e k) = absurd (omega arith)
+says-clear h (head v) = v .clear
+says-clear h (live g v) = v .clear
+
+pub says-fed : {kept : List ℕ} {s : Walk} {joined : List ℕ} → s .status ≡ 0 → Stands kept s joined → s .fed ≡ length joined
+says-fed h (refused l e k) = absurd (omega arith)
+says-fed h (head v) = v .fed
+says-fed h (live g v) = v .fed
+
+pub says-none : {kept : List ℕ} {s : Walk} {joined : List ℕ} → formatFault joined ≡ none → Stands kept s joined → s .status ≡ 0
+says-none c (refused l e k) = absurd (never (sym e ∙ c))
+says-none c (head v) = v .status
+says-none c (live g v) = v .status
+
+pub says-frames : {kept : List ℕ} {s : Walk} {joined : List ℕ} → s .status ≡ 0 → Stands kept s joined → s .frames ≡ frameCount joined
+unfolding frameCount
+says-frames h (refused l e k) = absurd (omega arith)
+says-frames {joined = joined} h (head v) = let k = v .short in rw (header-alone joined (omega arith) .0) (v .frames)
+says-frames h (live g v) = v .frames
+
+pub says-skipped : {kept : List ℕ} {s : Walk} {joined : List ℕ} → s .status ≡ 0 → Stands kept s joined → s .skipped ≡ skippedCount joined
+unfolding skippedCount
+says-skipped h (refused l e k) = absurd (omega arith)
+says-skipped {joined = joined} h (head v) = let k = v .short in rw (header-alone joined (omega arith) .0) (v .skipped ∙ unfold skipped count in refl)
+says-skipped h (live g v) = v .skipped
+
+-- ---- a refusal stays, so that none was there before either
+
+pub clear-before : (s t : List ℕ) → formatFault (s ++ t) ≡ none → formatFault s ≡ none
+clear-before s t h = go (formatFault s) refl
+  where
+    go : (f : Fault) → formatFault s ≡ f → formatFault s ≡ none
+    go none e = e
+    go (fault k p) e = absurd (never (sym (format-kept s t k p e) ∙ h))
+
+pub clear-long : (s : List ℕ) → formatFault s ≡ none → length s ≤ 268435456
+clear-long s h = long-of s (sound-of s h .long)
+
+-- ---- the whole cells that an event brings
+
+pub tells-whole : (e : Event) (s : Walk) (piece before after : List ℕ) → Tells e s piece before after → formatFault after ≡ none →
+    wholeCells after ≡ wholeCells before ++ wholeOf e piece
+tells-whole Nothing s piece before after t c = t .whole
+tells-whole (Shown x) s piece before after t c = t .0 .whole
+tells-whole (Whole x) s piece before after t c = t .0 .whole
+tells-whole (Cells r) s piece before after t c = t .0 .whole
+tells-whole Refused s piece before after t c = absurd (never (sym (t .0) ∙ c))
+
+pub none-whole : wholeCells [] ≡ []
+none-whole = whole-of [] ∙ ap (map cellOf) (reached-none [] (omega arith) 188 (omega arith) (omega arith))
+
+-- ---- no more cells than the bytes allow
+
+from-few : (m τ q : ℕ) (y : List ℕ) → 188 * length (reaching 188 (packetsFrom m τ q y)) ≤ length y
+unfolding packetsFrom only
+from-few zero τ q y = omega arith
+from-few (suc m) τ q y = go (decLe 188 (length y)) (from-few m τ (q + 188) (drop 188 y))
+  where
+    more : List Packet
+    more = reaching 188 (packetsFrom m τ (q + 188) (drop 188 y))
+
+    go : Dec (188 ≤ length y) → 188 * length more ≤ length (drop 188 y) →
+        188 * length (pick (leb 188 (length (take 188 y))) (record { time = τ; place = q; bytes = take 188 y } ∷ more) more) ≤ length y
+    go (yes g) h =
+        rw (le-leb 188 (length (take 188 y)) (simp length-take (omega arith))) (let d = length-drop 188 y in omega arith)
+    go (no g) h =
+        rw (lt-leb 188 (length (take 188 y)) (simp length-take (omega arith))) (let d = length-drop 188 y in omega arith)
+
+of-few : (place : ℕ) (f : List ℕ) → 188 * length (reaching 188 (packetsOf place f)) ≤ length f
+of-few place f =
+    rw (of-from place f) (let h = from-few (countOf f) (frameTime f) (place + 58) (drop 58 f) in let d = length-drop 58 f in omega arith)
+
+packets-few : (place : ℕ) (fs : List (List ℕ)) → 188 * length (reaching 188 (packets place fs)) ≤ length (endToEnd fs)
+unfolding packets endToEnd
+packets-few place [] = unfold only in omega arith
+packets-few place (f ∷ fs) =
+    let e = only-append (λ (p : Packet). leb 188 (length (p .bytes))) (packetsOf place f) (packets (place + length f) fs) in
+    rw e
+    (let l = length-append (reaching 188 (packetsOf place f)) (reaching 188 (packets (place + length f) fs)) in
+    let a = of-few place f in
+    let b = packets-few (place + length f) fs in
+    let j = length-append f (endToEnd fs) in
+    omega arith)
+
+all-bytes : (s : List ℕ) → length (endToEnd (wholeFrames s)) + length (unfinished s) ≤ length s
+unfolding wholeFrames unfinished behindHeader
+all-bytes s =
+    let e = ap length (frames-all (drop 24 s)) in
+    let l = length-append (endToEnd (frames (drop 24 s))) (rest (drop 24 s)) in
+    let d = length-drop 24 s in
+    omega arith
+
+reached-few : (s : List ℕ) → 188 * length (reached 188 s) ≤ length s
+unfolding allFrames
+reached-few s =
+    let h = packets-few 24 (wholeFrames s ++ unfinished s ∷ []) in
+    let j = ap length (endToEnd-append (wholeFrames s) (unfinished s ∷ [])) in
+    let l = length-append (endToEnd (wholeFrames s)) (endToEnd (unfinished s ∷ [])) in
+    let a = all-bytes s in
+    let e : length (endToEnd (unfinished s ∷ [])) ≡ length (unfinished s) = unfold endToEnd in length-append (unfinished s) [] ∙ omega arith in
+    omega arith
+
+length-map : {A B : Type 0} (f : A → B) (xs : List A) → length (map f xs) ≡ length xs
+length-map f [] = refl
+length-map f (x ∷ xs) = ap suc (length-map f xs)
+
+pub whole-few : (s : List ℕ) → 188 * length (wholeCells s) ≤ length s
+whole-few s = let h = reached-few s in let l = ap length (whole-of s) ∙ length-map cellOf (reached 188 s) in omega arith
