@@ -13,8 +13,14 @@ int fsync(int fd) { (void)fd; write(2, "writing\\n", 8); sleep(1); return 0; }
 """
 
 
+def heed_signals():
+    """What was started in the background ignores interrupts, and its children would."""
+    for number in (signal.SIGINT, signal.SIGTERM, signal.SIGHUP):
+        signal.signal(number, signal.SIG_DFL)
+
+
 def started(*words, **how):
-    return subprocess.Popen([PROGRAMS["carolsedge"], *words], stderr=subprocess.PIPE, **how)
+    return subprocess.Popen([PROGRAMS["carolsedge"], *words], stderr=subprocess.PIPE, preexec_fn=heed_signals, **how)
 
 
 def full(cap, luma):
