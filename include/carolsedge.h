@@ -41,7 +41,7 @@ enum {
     CAROLSEDGE_REFUSED_NO_PACKET = 12,      /* seal: no packet of PID */
     CAROLSEDGE_REFUSED_LUMA_INSIDE = 13,    /* seal: the luma ends inside a picture; place: its bytes fed */
     CAROLSEDGE_REFUSED_NO_PICTURE = 14,     /* seal: no picture */
-    CAROLSEDGE_REFUSED_BUFFER = 15,         /* seal: the buffer is shorter than the record; place: the length needed */
+    CAROLSEDGE_REFUSED_BUFFER = 15,         /* seal, sheet: the buffer is too short; place: the length needed */
     CAROLSEDGE_REFUSED_SHORT = 16,          /* reading: under 64 bytes */
     CAROLSEDGE_REFUSED_EDITION = 17,        /* reading: the edition is not 1 */
     CAROLSEDGE_REFUSED_RECORD = 18,         /* reading: not allowed */
@@ -59,7 +59,8 @@ enum {
     CAROLSEDGE_SUMS = 240,
     CAROLSEDGE_BINS = 720,
     CAROLSEDGE_PICTURE_BYTES = 14104,
-    CAROLSEDGE_RECORD_MOST = 32064 /* no record is longer: 64 bytes, and 32 for each of 750 units and 250 scenes */
+    CAROLSEDGE_RECORD_MOST = 32064, /* no record is longer: 64 bytes, and 32 for each of 750 units and 250 scenes */
+    CAROLSEDGE_SHEET_MOST = 103020  /* no sheet is longer: 17 pages of 60 lines of 101 bytes */
 };
 
 /* The whole state of a sample. Its contents are the library's own. */
@@ -157,6 +158,11 @@ uint32_t carolsedge_read_header(const uint8_t *record, size_t length, struct car
  * is at or past the count, and *row stands. */
 uint32_t carolsedge_read_unit(const uint8_t *record, size_t length, size_t j, struct carolsedge_unit *row);
 uint32_t carolsedge_read_scene(const uint8_t *record, size_t length, size_t j, struct carolsedge_scene *row);
+
+/* A printed sheet of a record: lines of 100 columns and a line feed, on pages of 60 lines (docs/RULE.md, 17). The pages
+ * go to the front of the buffer, and *value is their length; bytes behind them stand. Refused: 16, 17 or 18 with place
+ * 0, then 15; the buffer stands, and *value is the place, so that a room of 0 asks how long the sheet is. */
+uint32_t carolsedge_sheet(const uint8_t *record, size_t length, uint8_t *buffer, size_t room, uint64_t *value);
 
 #ifdef __cplusplus
 }

@@ -9,6 +9,7 @@ mod input;
 mod measure;
 mod output;
 mod record_file;
+mod sheet;
 mod show;
 mod signals;
 mod stop;
@@ -26,7 +27,7 @@ pub struct Subcommand {
     run: fn(Vec<OsString>) -> Result<(), Stop>,
 }
 
-const SUBCOMMANDS: &[Subcommand] = &[measure::SUBCOMMAND, show::SUBCOMMAND, explain::SUBCOMMAND];
+const SUBCOMMANDS: &[Subcommand] = &[measure::SUBCOMMAND, show::SUBCOMMAND, sheet::SUBCOMMAND, explain::SUBCOMMAND];
 
 const VERSION: &str = concat!("carolsedge ", env!("CARGO_PKG_VERSION"), "\n");
 

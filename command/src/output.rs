@@ -4,8 +4,13 @@ use std::io::{self, Write};
 
 /// Writes a text to standard output, all of it.
 pub fn print(text: &str) -> Result<(), Stop> {
+    write(text.as_bytes())
+}
+
+/// Writes bytes to standard output, all of them.
+pub fn write(bytes: &[u8]) -> Result<(), Stop> {
     let mut out = io::stdout().lock();
-    let written = out.write_all(text.as_bytes()).and_then(|()| out.flush());
+    let written = out.write_all(bytes).and_then(|()| out.flush());
     written.map_err(|error| Stop::file("standard output", &error))
 }
 

@@ -53,7 +53,7 @@ fn run(words: Vec<OsString>) -> Result<(), Stop> {
 }
 
 /// All bytes, but no more than it takes to see that they are too many for a record.
-fn read(input: &mut Input) -> Result<Vec<u8>, Stop> {
+pub fn read(input: &mut Input) -> Result<Vec<u8>, Stop> {
     let mut bytes = vec![0; RECORD_MOST + 1];
     let mut length = 0;
     while length < bytes.len() {

@@ -2,22 +2,30 @@
 //!
 //!     compare replay AGAIN REPLAY FIRST COUNT    scripts of every kind: `AGAIN replay` beside REPLAY
 //!     compare limit AGAIN REPLAY                 the scripts about the 256 MiB of a capture
-//!     compare show AGAIN SHOW FIRST COUNT        records: `AGAIN show` beside SHOW
+//!     compare VERB AGAIN OURS FIRST COUNT        inputs of a verb of FILTERS: `AGAIN VERB` beside OURS
 //!
-//! AGAIN is the independent program, which also makes the inputs. Two threads run at once. The last lines say how much was compared and
-//! how often each refusal was given; the exit status is 1 if any output differs.
+//! AGAIN is the independent program, which also makes the inputs. VERB and OURS may have arguments, parted by spaces
+//! (`sheet-into 6060`, for one); when OURS prints a refusal and nothing else, it may end with status 1. Two threads
+//! run at once. The last lines say how much was compared and how often each refusal was given; the exit status is 1
+//! if any output differs.
 #![forbid(unsafe_code)]
 
 use std::collections::BTreeMap;
 use std::io::{self, Write};
+use std::iter;
 use std::process::{Command, ExitCode, Stdio};
 use std::sync::atomic::{AtomicU64, Ordering};
 use std::sync::Mutex;
 use std::thread;
 
+/// Verbs of the independent program that read standard input, each with what makes its inputs.
+const FILTERS: [(&str, &str); 3] = [("show", "records"), ("sheet", "records"), ("sheet-into", "records")];
+
 /// What was compared so far.
 #[derive(Default)]
 struct Tally {
+    /// Whether trailing blanks count.
+    exact: bool,
     runs: u64,
     lines: u64,
     refusals: BTreeMap<u64, u64>,
@@ -28,8 +36,9 @@ impl Tally {
     /// Takes in one run: its name, and what each of the two programs printed.
     fn take(&mut self, name: String, again: &[u8], ours: &[u8]) {
         self.runs += 1;
-        if trimmed(again) != trimmed(ours) {
-            self.different.push(format!("{name}: {}", first_difference(again, ours)));
+        let (a, b) = (self.lines_of(again), self.lines_of(ours));
+        if a != b {
+            self.different.push(format!("{name}: {}", first_difference(&a, &b)));
             return;
         }
         for line in lines(ours) {
@@ -39,24 +48,24 @@ impl Tally {
             }
         }
     }
+
+    /// The lines as they are compared.
+    fn lines_of<'t>(&self, text: &'t [u8]) -> Vec<&'t [u8]> {
+        let lines = text.split(|&byte| byte == b'\n');
+        lines.map(|line| if self.exact { line } else { line.trim_ascii_end() }).collect()
+    }
 }
 
 fn lines(text: &[u8]) -> impl Iterator<Item = &[u8]> {
     text.split(|&byte| byte == b'\n').filter(|line| !line.is_empty())
 }
 
-/// The lines without trailing blanks.
-fn trimmed(text: &[u8]) -> Vec<&[u8]> {
-    text.split(|&byte| byte == b'\n').map(<[u8]>::trim_ascii_end).collect()
-}
-
-fn first_difference(again: &[u8], ours: &[u8]) -> String {
+fn first_difference(again: &[&[u8]], ours: &[&[u8]]) -> String {
     let short = |line: Option<&&[u8]>| match line {
         Some(line) => String::from_utf8_lossy(&line[..line.len().min(80)]).into_owned(),
         None => "nothing".to_string(),
     };
-    let (again, ours) = (trimmed(again), trimmed(ours));
-    let place = again.iter().zip(&ours).take_while(|(a, b)| a == b).count();
+    let place = again.iter().zip(ours).take_while(|(a, b)| a == b).count();
     format!("line {}: `{}` beside our `{}`", place + 1, short(again.get(place)), short(ours.get(place)))
 }
 
@@ -77,7 +86,8 @@ fn output(program: &str, arguments: &[&str], input: &[u8]) -> io::Result<Vec<u8>
         scope.spawn(move || pipe.write_all(input));
         child.wait_with_output()
     })?;
-    if !result.status.success() {
+    let refused = result.status.code() == Some(1) && result.stdout.starts_with(b"refused ");
+    if !result.status.success() && !refused {
         return Err(io::Error::other(format!("{program} ended with {}", result.status)));
     }
     Ok(result.stdout)
@@ -88,13 +98,14 @@ fn compare(make: [&str; 3], again: &[&str], ours: &str) -> io::Result<(Vec<u8>, 
     let program = again[0];
     let wanted: Vec<&str> = make.into_iter().filter(|word| !word.is_empty()).collect();
     let input = output(program, &wanted, b"")?;
-    Ok((output(program, &again[1..], &input)?, output(ours, &[], &input)?))
+    let ours: Vec<&str> = ours.split(' ').collect();
+    Ok((output(program, &again[1..], &input)?, output(ours[0], &ours[1..], &input)?))
 }
 
 /// Runs every case on two threads, and tallies.
-fn run_all(cases: u64, case: impl Fn(u64) -> io::Result<(String, Vec<u8>, Vec<u8>)> + Sync) -> Tally {
+fn run_all(exact: bool, cases: u64, case: impl Fn(u64) -> io::Result<(String, Vec<u8>, Vec<u8>)> + Sync) -> Tally {
     let next = AtomicU64::new(0);
-    let tally = Mutex::new(Tally::default());
+    let tally = Mutex::new(Tally { exact, ..Tally::default() });
     thread::scope(|scope| {
         for _ in 0..2 {
             scope.spawn(|| loop {
@@ -140,7 +151,7 @@ fn run(arguments: &[&str]) -> io::Result<ExitCode> {
         ["replay", again, ours, first, count] => {
             let (first, count) = (number(first)?, number(count)?);
             let kinds = kinds(again)?;
-            let tally = run_all(count, |case| {
+            let tally = run_all(false, count, |case| {
                 let kind = &kinds[(case % kinds.len() as u64) as usize];
                 let seed = (first + case / kinds.len() as u64).to_string();
                 let (a, b) = compare(["make", &seed, kind], &[again, "replay"], ours)?;
@@ -151,24 +162,27 @@ fn run(arguments: &[&str]) -> io::Result<ExitCode> {
             Ok(report("scripts", "calls", &tally))
         }
         ["limit", again, ours] => {
-            let tally = run_all(4, |case| {
+            let tally = run_all(false, 4, |case| {
                 let seed = case.to_string();
                 let (a, b) = compare(["make", &seed, "limit"], &[again, "replay"], ours)?;
                 Ok((format!("seed {seed} kind limit"), a, b))
             });
             Ok(report("limit", "calls", &tally))
         }
-        ["show", again, ours, first, count] => {
+        [verb, again, ours, first, count] => {
+            let filter = FILTERS.iter().find(|(name, _)| verb.split(' ').next() == Some(*name));
+            let (_, maker) = filter.ok_or_else(|| io::Error::other(format!("{verb} is nothing to compare")))?;
             let (first, count) = (number(first)?, number(count)?);
-            let tally = run_all(count, |case| {
+            let tally = run_all(true, count, |case| {
                 let seed = (first + case).to_string();
-                let (a, b) = compare(["records", &seed, ""], &[again, "show"], ours)?;
-                Ok((format!("record of seed {seed}"), a, b))
+                let again: Vec<&str> = iter::once(again).chain(verb.split(' ')).collect();
+                let (a, b) = compare([maker, &seed, ""], &again, ours)?;
+                Ok((format!("{maker} of seed {seed}"), a, b))
             });
-            println!("records: seeds {first} to {}", first + count.saturating_sub(1));
-            Ok(report("records", "lines", &tally))
+            println!("{verb}: {maker} of seeds {first} to {}", first + count.saturating_sub(1));
+            Ok(report(verb, "lines", &tally))
         }
-        _ => Err(io::Error::other("compare replay|limit|show AGAIN OURS [FIRST COUNT]")),
+        _ => Err(io::Error::other("compare replay|limit|VERB AGAIN OURS [FIRST COUNT]")),
     }
 }
 

@@ -1,4 +1,4 @@
-/* Functions with one fault each (FAULT, 1 to 9) in the place of the library's own, by the linker's --wrap: the forged
+/* Functions with one fault each (FAULT, 1 to 11) in the place of the library's own, by the linker's --wrap: the forged
  * calls have to notice every one. */
 #include <stddef.h>
 #include <stdint.h>
@@ -8,6 +8,7 @@ struct carolsedge_unit;
 uint32_t __real_carolsedge_feed_capture(uint64_t *, uint8_t *, uint64_t *, uint64_t *, const uint8_t *, size_t, uint64_t *);
 uint32_t __real_carolsedge_feed_luma(uint64_t *, uint32_t *, uint32_t *, uint8_t *, const uint8_t *, size_t, uint64_t *);
 uint32_t __real_carolsedge_seal(const uint64_t *, const uint8_t *, const uint64_t *, const uint64_t *, const uint64_t *, uint8_t *, size_t, uint64_t *);
+uint32_t __real_carolsedge_sheet(const uint8_t *, size_t, uint8_t *, size_t, uint64_t *);
 uint32_t __real_carolsedge_read_header(const uint8_t *, size_t, struct carolsedge_header *);
 uint32_t __real_carolsedge_read_unit(const uint8_t *, size_t, size_t, struct carolsedge_unit *);
 
@@ -53,4 +54,14 @@ uint32_t __wrap_carolsedge_read_unit(const uint8_t *record, size_t length, size_
 {
     uint32_t k = __real_carolsedge_read_unit(record, length, j, row);
     return FAULT == 9 && k == 17 ? 0 : k; /* a row of a record of another edition */
+}
+
+uint32_t __wrap_carolsedge_sheet(const uint8_t *record, size_t length, uint8_t *buffer, size_t room, uint64_t *value)
+{
+    uint32_t k = __real_carolsedge_sheet(record, length, buffer, room, value);
+    if (FAULT == 10 && !k && *value < room) /* writes behind the pages */
+        buffer[*value] = 0;
+    if (FAULT == 11 && k == 15) /* forgets the length needed */
+        *value = 1;
+    return k;
 }

@@ -3,7 +3,7 @@
  * in some of the calls, and what is left of a page is compared afterwards. A call that takes longer than LIMIT seconds, an answer that is not 0 to 19, a
  * refusal that wrote to its buffer, and an opening that answers something else than document 01 says end the run too.
  *
- * Usage: forged CALLS SEED. Makes so many calls of each function (of replay, which makes several, a twentieth), and prints what they answered.
+ * Usage: forged CALLS SEED. Makes so many calls of each function (of sheet a tenth, of replay, which makes several, a twentieth), and prints what they answered.
  */
 #define _GNU_SOURCE
 #include <inttypes.h>
@@ -22,8 +22,8 @@
 #define LIMIT 5 /* seconds that a call may take */
 #endif
 
-enum { OPEN, FEED_CAPTURE, FEED_LUMA, SEAL, READ_HEADER, READ_UNIT, READ_SCENE, REPLAY, FUNCTIONS };
-static const char *const name[FUNCTIONS] = {"open", "feed_capture", "feed_luma", "seal", "read_header", "read_unit", "read_scene", "replay"};
+enum { OPEN, FEED_CAPTURE, FEED_LUMA, SEAL, READ_HEADER, READ_UNIT, READ_SCENE, SHEET, REPLAY, FUNCTIONS };
+static const char *const name[FUNCTIONS] = {"open", "feed_capture", "feed_luma", "seal", "read_header", "read_unit", "read_scene", "sheet", "replay"};
 static uint64_t answers[FUNCTIONS][20], calls[FUNCTIONS], longest, seed;
 static volatile int under_way;
 static volatile sig_atomic_t ticks;
@@ -204,7 +204,7 @@ static void make_true(int i)
 
 /* ---- forging */
 
-static struct room walk, kept, numbers, table, luma, sums, bins, picture, out, header, lent, script;
+static struct room walk, kept, numbers, table, luma, sums, bins, picture, out, header, lent, script, pages;
 
 /* The words of a lent array, by one way of forging. */
 static void forge(uint8_t *p, size_t size, const void *true_words, size_t word, int way)
@@ -437,6 +437,36 @@ static void call_readings(void)
         protect(&out, PROT_READ | PROT_WRITE);
 }
 
+/* The sheet of a record, allowed or not, into a buffer of some pages, a byte less or a byte more, or of any length. The
+ * bytes behind the pages, and all of a refused sheet's buffer, have to stand; a line feed ends every line. */
+static void call_sheet(void)
+{
+    size_t length, some = 1 + below(below(4) ? 4 : 17), done = 0;
+    size_t room = below(4) ? 6060 * some - 1 + below(3) : below(CAROLSEDGE_SHEET_MOST + 100);
+    const uint8_t *p = forge_record(&length);
+    uint8_t *buffer = lend(&pages, room);
+    uint64_t *value = (uint64_t *)(void *)lend(&lent, 8);
+    int guarded = below(4) == 0;
+    if (guarded)
+        protect(&out, PROT_READ);
+    begin(SHEET);
+    uint32_t k = end(carolsedge_sheet(p, length, buffer, room, value));
+    if (guarded)
+        protect(&out, PROT_READ | PROT_WRITE);
+    if (k != CAROLSEDGE_DONE && (k < CAROLSEDGE_REFUSED_BUFFER || k > CAROLSEDGE_REFUSED_RECORD))
+        fail("a refusal that is none of a sheet's");
+    if ((k == CAROLSEDGE_DONE) != (*value != 0 && *value <= room) || *value % 6060 || *value > CAROLSEDGE_SHEET_MOST)
+        fail("a sheet's length that is none");
+    if (k == CAROLSEDGE_DONE)
+        done = (size_t)*value;
+    for (size_t i = 100; i < done; i += 101)
+        if (buffer[i] != '\n')
+            fail("a sheet's line that has not 100 columns");
+    if (!untouched(buffer + done, room - done))
+        fail("a byte behind the pages, or of a refused sheet's buffer, was written");
+    check_slack(&pages), check_slack(&out), check_slack(&lent);
+}
+
 /* A script of up to 12 calls, now and then wild or cut: whether it has room, and what stands where it has not. */
 static void call_replay(void)
 {
@@ -481,6 +511,8 @@ static void round_of_calls(uint64_t most)
         call_open();
     for (int i = 0; i < 8 && calls[READ_HEADER] < most; i++)
         call_readings();
+    if (calls[SHEET] < most / 10)
+        call_sheet();
     if (calls[REPLAY] < most / 20)
         call_replay();
 }
@@ -497,7 +529,8 @@ int main(int words, char **word)
     walk = room_of(sizeof truth->walk), kept = room_of(sizeof truth->kept), numbers = room_of(sizeof truth->numbers), table = room_of(sizeof truth->table);
     luma = room_of(sizeof truth->luma), sums = room_of(sizeof truth->sums), bins = room_of(sizeof truth->bins);
     picture = room_of(sizeof truth->picture), out = room_of(CAROLSEDGE_RECORD_MOST + 100), header = room_of(128), lent = room_of(128), script = room_of(4096);
-    while (calls[SEAL] < most || calls[OPEN] < most || calls[READ_HEADER] < most || calls[REPLAY] < most / 20)
+    pages = room_of(CAROLSEDGE_SHEET_MOST + 100);
+    while (calls[SEAL] < most || calls[OPEN] < most || calls[READ_HEADER] < most || calls[SHEET] < most / 10 || calls[REPLAY] < most / 20)
         round_of_calls(most);
     for (int f = 0; f < FUNCTIONS; f++) {
         printf("forged: %-12s %" PRIu64 " calls; answers", name[f], calls[f]);

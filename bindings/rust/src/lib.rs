@@ -44,9 +44,12 @@ mod record;
 mod refusal;
 mod sample;
 
-pub use record::{Header, Record, Scene, Unit};
+pub use record::{sheet, Header, Record, Scene, Unit};
 pub use refusal::Refusal;
 pub use sample::{Opening, Sample};
 
 /// No record is longer: 64 bytes, and 32 for each of 750 units and 250 scenes.
 pub const RECORD_MOST: usize = 32_064;
+
+/// No sheet is longer: 17 pages of 60 lines of 101 bytes.
+pub const SHEET_MOST: usize = 103_020;

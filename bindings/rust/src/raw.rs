@@ -73,6 +73,13 @@ extern "C" {
         j: usize,
         row: &mut SceneFigures,
     ) -> u32;
+    fn carolsedge_sheet(
+        record: *const u8,
+        length: usize,
+        buffer: *mut u8,
+        room: usize,
+        value: &mut u64,
+    ) -> u32;
 }
 
 impl State {
@@ -188,6 +195,22 @@ pub fn read_scene(record: &[u8], j: usize) -> Result<SceneFigures, u32> {
     // SAFETY: pointer and length are a slice's; the array has the size that the function writes to.
     let number = unsafe { carolsedge_read_scene(record.as_ptr(), record.len(), j, &mut row) };
     given(number, row)
+}
+
+/// The refusal's number, or 0, and the value.
+pub fn sheet(record: &[u8], buffer: &mut [u8]) -> (u32, u64) {
+    let mut value = 0;
+    // SAFETY: pointers and lengths are those of two slices, of which the one that is written to is borrowed alone.
+    let number = unsafe {
+        carolsedge_sheet(
+            record.as_ptr(),
+            record.len(),
+            buffer.as_mut_ptr(),
+            buffer.len(),
+            &mut value,
+        )
+    };
+    (number, value)
 }
 
 fn given<T>(number: u32, figures: T) -> Result<T, u32> {

@@ -139,6 +139,15 @@ impl<'a> Record<'a> {
     }
 }
 
+/// Prints a record's sheet to the front of the buffer, in lines of 100 columns and a line feed, on pages of 60 lines, and
+/// gives its length. Refused: 16, 17 or 18, then 15, whose place is the length needed; the buffer then stands.
+pub fn sheet(record: &[u8], buffer: &mut [u8]) -> Result<usize, Refusal> {
+    match raw::sheet(record, buffer) {
+        (0, length) => Ok(length as usize),
+        (number, place) => Err(Refusal { number, place }),
+    }
+}
+
 // No refusal of reading has a place.
 fn unplaced(number: u32) -> Refusal {
     Refusal { number, place: 0 }

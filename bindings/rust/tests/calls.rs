@@ -1,5 +1,5 @@
 //! The calls from Rust: document 01's worked sample, cuts, every refusal with its place, and that a refusal leaves lent memory as it was.
-use carolsedge::{Opening, Record, Refusal, Sample, Scene, Unit, RECORD_MOST};
+use carolsedge::{sheet, Opening, Record, Refusal, Sample, Scene, Unit, RECORD_MOST, SHEET_MOST};
 
 const BLACK: Opening = Opening {
     width: 30,
@@ -114,6 +114,53 @@ fn worked_sample() {
     assert_eq!(record.scenes().collect::<Vec<_>>(), [scene]);
     assert_eq!((record.unit(0), record.scene(0)), (Ok(unit), Ok(scene)));
     assert_eq!((record.units().len(), record.scenes().len()), (1, 1));
+}
+
+#[test]
+fn worked_sheet() {
+    let bytes = sealed(&fed(&worked_capture(), &[0; 2 * PICTURE])).unwrap();
+    let mut buffer = vec![0xAA; SHEET_MOST];
+    assert_eq!(sheet(&bytes, &mut buffer), Ok(6_060));
+    assert!(buffer[6_060..].iter().all(|&b| b == 0xAA));
+    let text = std::str::from_utf8(&buffer[..6_060]).unwrap();
+    let lines: Vec<_> = text.split_terminator('\n').collect();
+    assert!(lines.len() == 60 && lines.iter().all(|line| line.len() == 100));
+    assert_eq!(
+        lines[0].trim_end(),
+        format!(" {:>11}{:>11}{:>11}{:>21}", 30, 30, 2, "4008000000000000")
+    );
+    let unit = format!(
+        "U{:>11}{:>21}{:>21}{:>11}{:>11}{:>11}",
+        0, 10_000_005, 10_000_005, 184, 1, 0
+    );
+    assert_eq!(lines[1].trim_end(), unit);
+    let scene = [0, 0, 2, 1, 1, 0, 0, 0]
+        .map(|figure| format!("{figure:>11}"))
+        .concat();
+    assert_eq!(lines[2].trim_end(), format!("S{scene}"));
+    assert!(lines[3..].iter().all(|line| line.trim_end().is_empty()));
+}
+
+#[test]
+fn refused_sheets() {
+    let bytes = sealed(&fed(&worked_capture(), &[0; 2 * PICTURE])).unwrap();
+    let mut other = bytes.clone();
+    other[0] = 2;
+    let mut wrong = bytes.clone();
+    wrong[92] = 1;
+    let cases = [
+        (&bytes[..63], 16, 0),
+        (&other, 17, 0),
+        (&wrong, 18, 0),
+        (&bytes, 15, 6_060),
+    ];
+    for (record, number, place) in cases {
+        for room in [0, 1, 6_059] {
+            let mut buffer = vec![0xAA; room];
+            assert_eq!(sheet(record, &mut buffer), Err(refusal(number, place)));
+            assert!(buffer.iter().all(|&b| b == 0xAA));
+        }
+    }
 }
 
 #[test]
@@ -301,7 +348,7 @@ fn words() {
     }
     assert_eq!(
         refusal(15, 128).to_string(),
-        "refused 15: the buffer is shorter than the record (128 bytes needed)"
+        "refused 15: the buffer is too short (128 bytes needed)"
     );
     assert_eq!(
         refusal(6, 23).to_string(),

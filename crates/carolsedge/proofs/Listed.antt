@@ -10,11 +10,16 @@ use Rattle.rules.specs.Refusals.{Fault, none, fault, _orElse_, answer}
 use Rattle.rules.specs.Opening.{openingFault, openAnswer}
 use Rattle.rules.specs.Capture.{captureFault}
 use Rattle.rules.specs.Pictures.{lumaFault}
-use Rattle.rules.specs.Seal.{sealedLength, sealFault, captureAnswer, lumaAnswer, sealAnswer}
+use Rattle.rules.specs.Seal.{sealedLength, noRoom, sealFault, captureAnswer, lumaAnswer, sealAnswer}
 use Rattle.rules.specs.Reading.{readingFault, unitFault, sceneFault, headerOf, unitAt, sceneAt, orHeader, orUnit}
 use Rattle.rules.specs.Reading.{orScene, headerAnswer, unitAnswer, sceneAnswer}
-use Rattle.rules.proofs.Laws.Listed.{Numbered, of-either, opening, capture, luma, seal, reading, unit, scene}
+use Rattle.rules.specs.Sheet.{sheetLength, sheetAnswer}
+use Rattle.rules.proofs.Laws.Listed.{Numbered, of-either, opening, capture, luma, seal, reading, unit, scene, room}
 use Rattle.carolsedge.specs.Numbers.{numberOf, headerNumber, unitNumber, sceneNumber}
+
+-- reading's, then 15
+pub sheet : (r : List ℕ) (n : ℕ) → Numbered (readingFault r orElse noRoom n (sheetLength r))
+sheet r n = of-either (readingFault r) (noRoom n (sheetLength r)) (reading r) (room n (sheetLength r))
 
 -- ---- and so the number of an answer of the rules is the refusal's own
 
@@ -65,3 +70,8 @@ unit-number r j = of-unit-answer (unitFault r j) (unitAt r j) (unit r j)
 pub scene-number : (r : List ℕ) (j : ℕ) → sceneNumber (sceneAnswer r j) ≡ numberIn (sceneFault r j)
 unfolding sceneAnswer
 scene-number r j = of-scene-answer (sceneFault r j) (sceneAt r j) (scene r j)
+
+pub sheet-number : (r : List ℕ) (n : ℕ) →
+    numberOf (sheetAnswer r n) ≡ numberIn (readingFault r orElse noRoom n (sheetLength r))
+unfolding sheetAnswer
+sheet-number r n = of-answer (readingFault r orElse noRoom n (sheetLength r)) (sheetLength r) (sheet r n)

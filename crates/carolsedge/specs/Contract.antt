@@ -2,9 +2,11 @@
 use Prim.Native.Nat.{ℕ}
 use mathlib.Core.Path.{_≡_}
 use mathlib.Core.List.{List}
+use lib.ListN.{length}
 use Rattle.rules.specs.declared.Opening.{Opening}
 use Rattle.rules.specs.declared.Answer.{Answer}
 use Rattle.rules.specs.Reading.{headerAnswer, unitAnswer, sceneAnswer}
+use Rattle.rules.specs.Sheet.{sheetAnswer, sheetBuffer}
 use Rattle.rules.specs.Calls.{Question, Reply, lentAfter}
 use Rattle.capture.specs.State.{Arrays}
 use Rattle.capture.specs.Contract as side-capture
@@ -56,3 +58,9 @@ pub record UnitRead (bytes : List ℕ) (j : ℕ) (before : List ℕ) (number : �
 pub record SceneRead (bytes : List ℕ) (j : ℕ) (before : List ℕ) (number : ℕ) (after : List ℕ) : Type 0 where
   pub numbered : number ≡ sceneNumber (sceneAnswer bytes j)
   pub given : after ≡ sceneInto (sceneAnswer bytes j) before
+
+-- the record's bytes, the buffer before, the number, the value, the buffer after
+pub record SheetPrinted (bytes before : List ℕ) (number value : ℕ) (after : List ℕ) : Type 0 where
+  pub numbered : number ≡ numberOf (sheetAnswer bytes (length before))
+  pub valued : value ≡ valueOf (sheetAnswer bytes (length before))
+  pub printed : after ≡ sheetBuffer bytes before

@@ -1,7 +1,6 @@
 // The calls as C functions. A slice goes as a pointer and a length, an array as a pointer. Each function is thin: it
-// hands its memory to the call of `sample`
-// or `view` and splits the answer into numbers. A number is 0 where the call is done, and otherwise that of document
-// 01's table.
+// hands its memory to the call of `sample`, `record_view` or `record_sheet` and splits the answer into numbers. A number
+// is 0 where the call is done, and otherwise that of document 01's table.
 ghost use mathlib.Core.Path.{_≡_};
 ghost use Rattle.replay.specs.Script.{Replayed};
 ghost use Rattle.rules.specs.Refusals.{listed};
@@ -9,6 +8,7 @@ ghost use Rattle.rules.specs.Calls.{seal};
 ghost use Rattle.carolsedge.specs.Numbers.{numberOf, valueOf};
 ghost use Rattle.carolsedge.specs.Figures.{figuresOf, unitFigures, sceneFigures};
 ghost use Rattle.carolsedge.specs.Contract.{Opened, FedCapture, FedLuma, Told, HeaderRead, UnitRead, SceneRead};
+ghost use Rattle.carolsedge.specs.Contract.{SheetPrinted};
 use capture::Numbers;
 use capture_units::Table;
 use capture_walk::Collected;
@@ -225,4 +225,14 @@ pub extern "C" fn carolsedge_read_scene(bytes: &[u8], j: usize, row: &mut [u64; 
         }
         SceneAnswer::Refused { number, place: _ } => listed_number(number),
     }
+}
+
+// Prints a record's sheet into the buffer. The value is the pages' length, or the refusal's place; of 15 that is the length needed.
+#[no_mangle]
+pub extern "C" fn carolsedge_sheet(bytes: &[u8], buffer: &mut [u8], value: &mut u64) -> u32
+    ensures { λ r. ⌜ SheetPrinted (now (bytes .entry)) (now (buffer .entry)) r (now (value .exit)) (now (buffer .exit)) ⌝ }
+{
+    let a = record_sheet::sheet(bytes, buffer);
+    *value = value_of(a);
+    number_of(a)
 }

@@ -363,14 +363,14 @@ header-fits r b a =
       index = word64-fits r 56 b;
     }
 
-unit-fits : (r : List ℕ) → EachByte r → (j : ℕ) → UnitFits (unitAt r j)
+pub unit-fits : (r : List ℕ) → EachByte r → (j : ℕ) → UnitFits (unitAt r j)
 unfolding unitAt
 unit-fits r b j =
     let t = drop (unitPlace j) r in
     let y = bytes-drop (unitPlace j) r b in
     record { least = word64-fits t 0 y; greatest = word64-fits t 8 y; size = word32-fits t 16 y; packets = word32-fits t 20 y; lost = word32-fits t 24 y }
 
-scene-fits : (r : List ℕ) → EachByte r → (j : ℕ) → SceneFits (sceneAt r j)
+pub scene-fits : (r : List ℕ) → EachByte r → (j : ℕ) → SceneFits (sceneAt r j)
 unfolding sceneAt
 scene-fits r b j =
     let t = drop (scenePlace r j) r in

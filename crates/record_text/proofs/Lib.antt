@@ -1,3 +1,4 @@
 -- The laws of lines.
 pub mod Texts
+pub mod Made
 pub mod Worked

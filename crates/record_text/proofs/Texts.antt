@@ -17,7 +17,8 @@ use Rattle.words.specs.Written.{written}
 use Rattle.words.proofs.Laws.{written-sets, length-written}
 use Rattle.rules.specs.Seal.{over}
 use Rattle.words.proofs.Behind.{next, over-written, behind}
-use Rattle.record_text.specs.Lines.{decimalIn, decimal, hexDigit, hexIn, field, fields}
+use Rattle.rules.specs.Digits.{decimalIn, decimal, hexDigit, hexIn}
+use Rattle.record_text.specs.Lines.{field, fields}
 use Rattle.record_text.specs.Capital.{capital}
 
 -- one byte more of a text

@@ -2,8 +2,8 @@
 use mathlib.Core.Path.{_≡_, refl}
 use mathlib.Core.List.{[], _∷_}
 use Rattle.rules.specs.Bytes.{endToEnd}
-use Rattle.record_text.specs.Lines.{decimalIn, decimal, hexIn, field, fields, sampleLine, unitLine, sceneLine}
-use Rattle.record_text.specs.Lines.{refusedLine}
+use Rattle.rules.specs.Digits.{decimalIn, decimal, hexIn}
+use Rattle.record_text.specs.Lines.{field, fields, sampleLine, unitLine, sceneLine, refusedLine}
 
 -- sample 30 30 40000 256 2 1 0 0 4008000000000000
 pub sample-worked : sampleLine (record { units = 1; scenes = 1; width = 30; height = 30; time = 40000; pid = 256; pictures = 2; frames = 1; skipped = 0; bad = 0; index = 0x4008000000000000 }) ≡

@@ -5,7 +5,8 @@ ghost use Prim.Native.Nat.{_+_, _*_, _≤_};
 ghost use lib.ListN.{length};
 ghost use Rattle.rules.specs.Seal.{over};
 ghost use Rattle.words.specs.Written.{written};
-ghost use Rattle.record_text.specs.Lines.{field, fields, hexIn, sampleLine, unitLine, sceneLine, refusedLine};
+ghost use Rattle.rules.specs.Digits.{hexIn};
+ghost use Rattle.record_text.specs.Lines.{field, fields, sampleLine, unitLine, sceneLine, refusedLine};
 ghost use Rattle.record_text.specs.Capital.{capital as capitalOf};
 use rules::Header;
 use rules::SceneRow;
@@ -76,7 +77,7 @@ pub fn put_fields(buffer: &mut [u8], at: usize, numbers: &[u64]) -> usize
 }
 
 // A space and 16 hexadecimal digits.
-fn put_hex(buffer: &mut [u8], at: usize, n: u64) -> usize
+pub fn put_hex(buffer: &mut [u8], at: usize, n: u64) -> usize
     requires { ⌜ at + 17 ≤ length (now buffer) ⌝ }
     ensures { λ r. ⌜ (r ≡ at + 17) × (now (buffer .exit) ≡ written at (32 ∷ hexIn 16 n) (now (buffer .entry))) ⌝ }
 {

@@ -66,7 +66,7 @@ words ns = endToEnd (map le32 ns)
 
 -- ---- what calls come to, as numbers: 0 and the length, or a refusal's number and place; behind a seal's the whole buffer
 
-abbrev told : Answer → List ℕ
+abbrev pub told : Answer → List ℕ
 told (Done n) = 0 ∷ n ∷ []
 told (Refused k p) = k ∷ p ∷ []
 

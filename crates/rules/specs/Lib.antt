@@ -1,4 +1,4 @@
--- The rules of document 01, one file a chapter, in its order. A comment at each definition says which of its terms it is.
+-- The rules of document 01, one file a chapter, in its order, and behind them those of document 02. A comment at each definition says which of its terms it is.
 pub mod Bytes
 pub mod Refusals
 pub mod Opening
@@ -17,3 +17,5 @@ pub mod Record
 pub mod Reading
 pub mod Seal
 pub mod Calls
+pub mod Digits
+pub mod Sheet

@@ -4,6 +4,7 @@
 --   luma     10 Pictures.lumaFault
 --   seal     11 Seal.captureUnfinished, 12 Seal.noPacket, 13 Seal.lumaUnfinished, 14 Seal.noPicture, 15 Seal.noRoom
 --   reading  16, 17, 18 Reading.readingFault, 19 Reading.rowFault
+--   sheet    16, 17, 18, then 15: Sheet.sheetAnswer
 use Prim.Native.Nat.{ℕ, _≤_}
 use mathlib.Core.Bool.{Bool, true, false}
 use Rattle.rules.specs.declared.Answer.{Answer}

@@ -1,9 +1,10 @@
-//! `measure-again`: an independent reading of document 01, used to compare programs with.
+//! `measure-again`: an independent reading of documents 01 and 02, used to compare programs with.
 #![forbid(unsafe_code)]
 
 mod bench;
 mod capture;
 mod film;
+mod lent;
 mod luma;
 mod make;
 mod opening;
@@ -14,6 +15,7 @@ mod recut;
 mod replay;
 mod sample;
 mod script;
+mod sheet;
 mod units;
 
 use opening::{Opening, Refusal};
@@ -25,6 +27,8 @@ use std::process::ExitCode;
 const USAGE: &str = "\
 measure-again replay < SCRIPT
 measure-again show < RECORD
+measure-again sheet < RECORD
+measure-again sheet-into ROOM < RECORD
 measure-again measure W H D PID CAPTURE LUMA RECORD
 measure-again make SEED KIND > SCRIPT
 measure-again kinds
@@ -59,6 +63,14 @@ fn run(arguments: &[&str]) -> io::Result<bool> {
     match *arguments {
         ["replay"] => replay::replay(script(), out)?,
         ["show"] => out.write_all(record::show(&standard_input()?).as_bytes())?,
+        ["sheet"] => out.write_all(&sheet::print(&standard_input()?))?,
+        ["sheet-into", room] => {
+            let Some(room) = room_of(room) else {
+                return Ok(false);
+            };
+            let record = standard_input()?;
+            lent::print_call(&mut out, "sheet", room, |buffer| sheet::write(&record, buffer))?;
+        }
         ["kinds"] => print_kinds(&mut out)?,
         ["measure", width, height, display_time, pid, capture, luma, record] => {
             let Some(opening) = opening_of([width, height, display_time, pid]) else {
@@ -89,6 +101,11 @@ fn standard_input() -> io::Result<Vec<u8>> {
     let mut bytes = Vec::new();
     io::stdin().take(record::LONGEST as u64 + 1).read_to_end(&mut bytes)?;
     Ok(bytes)
+}
+
+/// The bytes of a buffer to be lent; 1 MiB is the most.
+fn room_of(number: &str) -> Option<usize> {
+    number.parse().ok().filter(|&room| room <= script::LONGEST_PIECE)
 }
 
 fn print_kinds(out: &mut impl Write) -> io::Result<()> {

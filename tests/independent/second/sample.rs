@@ -1,6 +1,7 @@
 //! A sample: opened, fed on two sides, sealed into a record.
 
 use crate::capture::CaptureSide;
+use crate::lent;
 use crate::luma::LumaSide;
 use crate::opening::{Opening, Refusal};
 use crate::record::{self, Figures, Index};
@@ -39,12 +40,7 @@ impl Sample {
 
     /// Seals into a buffer: the record's length, or the first of all refusals that hold.
     pub fn seal(&self, buffer: &mut [u8]) -> Result<usize, Refusal> {
-        let record = self.record()?;
-        match buffer.get_mut(..record.len()) {
-            Some(front) => front.copy_from_slice(&record),
-            None => return Err(Refusal::at(15, record.len() as u64)),
-        }
-        Ok(record.len())
+        lent::fill(buffer, &self.record()?)
     }
 
     /// The record, unless refusals up to 14 stand against it.

@@ -2,7 +2,8 @@ use borrow.Author.Needs.{needs}
 use native.Mathlib.Omega.{arith}
 use mathlib.Core.List.{[], _∷_}
 use Rattle.record_text.proofs.Texts.{line-of-four, length-hex}
-use Rattle.record_text.specs.Lines.{fields, hexIn, sampleLine}
+use Rattle.rules.specs.Digits.{hexIn}
+use Rattle.record_text.specs.Lines.{fields, sampleLine}
 use Rattle.record_text.proofs.sample_line.Statement.{statement}
 use Rattle.record_text.proofs.sample_line.Tie as tie
 

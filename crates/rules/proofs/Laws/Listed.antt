@@ -166,6 +166,11 @@ seal o c l n =
     of-either (openingFault o) _ (opening o)
     (of-either (captureFault o c) _ (capture o c) (of-either (lumaFault o l) _ (luma o l) ends))
 
+-- 15 alone
+pub room : (buffer needed : ℕ) → Numbered (noRoom buffer needed)
+unfolding noRoom
+room buffer needed = of-pick (ltb buffer needed) (fault 15 needed) none refl tt
+
 pub reading : (r : List ℕ) → Numbered (readingFault r)
 unfolding readingFault
 reading r =

@@ -1,7 +1,7 @@
 use borrow.Author.Needs.{needs}
 use native.Mathlib.Omega.{arith}
 use Rattle.record_reader.proofs.Answers.{accepted}
-use Rattle.show.proofs.Shown.{within-buffer, whole-line}
+use Rattle.record_text.proofs.Made.{within-buffer, whole-line}
 use Rattle.show.proofs.show.Statement.{statement}
 use Rattle.show.proofs.show.Tie as tie
 

@@ -1,0 +1,6 @@
+-- The laws of the sheet.
+pub mod Puts
+pub mod Answers
+pub mod Theorems
+pub mod Fields
+pub mod Told

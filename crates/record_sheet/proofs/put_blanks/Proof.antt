@@ -1,0 +1,69 @@
+-- `put_blanks` meets its contract. The invariant: the first j lines are put. Assumes nothing.
+use native.Mathlib.Omega.{arith}
+use mathlib.Core.Path.{_≡_, refl}
+use Prim.Native.Nat.{ℕ, _-_, _*_, _≤_}
+use lib.ListN.{length}
+use Rattle.record_sheet.specs.Put.{Put, linesTo}
+use Rattle.rules.specs.Sheet.{blankLine}
+use Rattle.record_sheet.proofs.Puts.{no-lines, line-more}
+use Rattle.record_sheet.proofs.put_blanks.Statement.{statement}
+use Rattle.record_sheet.proofs.put_blanks.Tie as tie
+
+abbrev Inv-loop : tie.InvT-loop
+Inv-loop buffer₀ at n end₀ j₀ buffer end j =
+    (j ≤ n) × (length buffer ≡ length buffer₀)
+    × Put at (101 * j) (linesTo j (λ (i : ℕ). blankLine)) buffer₀ end buffer
+
+abbrev μ-loop : tie.MeasureT-loop
+μ-loop buffer₀ at n end₀ j₀ buffer end j = n - j
+
+loop-holds : tie.Need-loop-holds Inv-loop μ-loop
+loop-holds c =
+    let a = c .before .args in
+    (omega arith, refl, no-lines (λ (i : ℕ). blankLine) (a .at) (a .buffer .now))
+
+end-line-requires : tie.Need-end-line-requires Inv-loop μ-loop
+end-line-requires c κs = omega arith
+
+add-j : tie.Need-add-j Inv-loop μ-loop
+add-j c = omega arith
+
+loop-less : tie.Need-loop-less Inv-loop μ-loop
+loop-less c = omega arith
+
+loop-again : tie.Need-loop-again Inv-loop μ-loop
+unfolding blankLine
+loop-again c =
+    let c₂ = c .before .before in
+    let c₅ = c₂ .before .before .before in
+    let c₇ = c₅ .before .before in
+    let a = c₇ .args in
+    let l = c₅ .loop in (
+      omega arith,
+      omega (arith, c₂ .end-line .kept .0, l .inv .1),
+      line-more (λ (i : ℕ). blankLine) (l .j) (omega arith) (l .inv .2) (c₂ .end-line .ensures),
+    )
+
+same-length : tie.Need-same-length Inv-loop μ-loop
+same-length c = omega arith
+
+returns : tie.Need-returns Inv-loop μ-loop
+returns c =
+    let c₃ = c .before .before .before in
+    let l = c .before .loop in
+    let e : l .j ≡ c₃ .args .n = omega arith in
+    rw e at (l .inv .2)
+
+pub put-blanks-spec : {M : Type 1} → statement M
+put-blanks-spec =
+    tie.close
+    (tie.spec
+    Inv-loop
+    μ-loop
+    loop-holds
+    end-line-requires
+    add-j
+    loop-less
+    loop-again
+    same-length
+    returns)

@@ -1,0 +1,72 @@
+-- `put_number` meets its contract. Assumes nothing.
+use native.Mathlib.Omega.{arith}
+use borrow.Author.Needs.{needs}
+use Rattle.record_sheet.proofs.Puts.{digits-fit, number-put}
+use Rattle.record_sheet.proofs.put_number.Statement.{statement}
+use Rattle.record_sheet.proofs.put_number.Tie as tie
+
+decimal-requires : tie.Need-decimal-requires
+decimal-requires c κs = search needs
+
+sub-put-spaces : tie.Need-sub-put-spaces
+sub-put-spaces c =
+    let s = c .before .before .before .before in
+    let a = s .args in
+    let d = c .before .decimal in
+    let e = d .ensures in
+    let k = digits-fit (a .n) (a .width) _ _ (s .pre .0) (s .pre .1) (s .fits .n .fits) (e .0) (e .1 .0) (e .1 .1) in
+    omega (arith, k)
+
+put-spaces-requires : tie.Need-put-spaces-requires
+put-spaces-requires c κs =
+    let s = c .before .before .before .before in
+    let a = s .args in
+    let d = c .before .decimal in
+    let e = d .ensures in
+    let k = digits-fit (a .n) (a .width) _ _ (s .pre .0) (s .pre .1) (s .fits .n .fits) (e .0) (e .1 .0) (e .1 .1) in
+    omega (arith, k, s .pre .2)
+
+array-share-prefix-digits : tie.Need-array-share-prefix-digits
+array-share-prefix-digits c = search needs
+
+slice-aggregate-put-text : tie.Need-slice-aggregate-put-text
+slice-aggregate-put-text c = search needs
+
+put-text-requires : tie.Need-put-text-requires
+put-text-requires c κs =
+    let c₄ = c .before .before .before .before in
+    let c₆ = c₄ .before .before in
+    let s = c₆ .before .before .before in
+    let a = s .args in
+    let d = c₆ .decimal in
+    let e = d .ensures in
+    let k = digits-fit (a .n) (a .width) _ _ (s .pre .0) (s .pre .1) (s .fits .n .fits) (e .0) (e .1 .0) (e .1 .1) in
+    omega (arith, k, s .pre .2, c₄ .put-spaces .ensures .ends, c₄ .put-spaces .kept .0, e .0 .1)
+
+same-length : tie.Need-same-length
+same-length c = search needs
+
+returns : tie.Need-returns
+returns c =
+    let c₂ = c .before .before in
+    let c₇ = c₂ .before .before .before .before .before in
+    let c₉ = c₇ .before .before in
+    let s = c₉ .before .before .before in
+    let a = s .args in
+    let d = c₉ .decimal in
+    let e = d .ensures in
+    number-put (a .n) (a .width) _ _ (s .pre .0) (s .pre .1) (s .fits .n .fits) (e .0) (e .1 .0) (e .1 .1)
+    (c₇ .put-spaces .ensures) (c₂ .put-text .ensures) (s .pre .2)
+
+pub put-number-spec : {M : Type 1} → statement M
+put-number-spec =
+    tie.close
+    (tie.spec
+    decimal-requires
+    sub-put-spaces
+    put-spaces-requires
+    array-share-prefix-digits
+    slice-aggregate-put-text
+    put-text-requires
+    same-length
+    returns)

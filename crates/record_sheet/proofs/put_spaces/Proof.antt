@@ -1,0 +1,72 @@
+-- `put_spaces` meets its contract. The invariant: the first i spaces are put. Assumes nothing.
+use native.Mathlib.Omega.{arith}
+use mathlib.Core.Path.{_≡_, refl}
+use Prim.Native.Nat.{_+_, _-_, _≤_}
+use lib.ListN.{length, length-set, replicate}
+use Rattle.record_sheet.specs.Put.{Put}
+use Rattle.record_sheet.proofs.Puts.{put-none, space-more, same-put}
+use Rattle.record_sheet.proofs.put_spaces.Statement.{statement}
+use Rattle.record_sheet.proofs.put_spaces.Tie as tie
+
+abbrev Inv-loop : tie.InvT-loop
+Inv-loop buffer₀ at n i₀ buffer i =
+    (i ≤ n) × (length buffer ≡ length buffer₀) × Put at i (replicate i 32) buffer₀ (at + i) buffer
+
+abbrev μ-loop : tie.MeasureT-loop
+μ-loop buffer₀ at n i₀ buffer i = n - i
+
+loop-holds : tie.Need-loop-holds Inv-loop μ-loop
+loop-holds c =
+    let p = put-none (c .args .at) (c .args .buffer .now) in
+    (omega arith, refl, same-put 0 (c .args .at + 0) (replicate 0 32) p refl (omega arith) refl)
+
+add-buffer : tie.Need-add-buffer Inv-loop μ-loop
+add-buffer c = omega arith
+
+slice-write-buffer : tie.Need-slice-write-buffer Inv-loop μ-loop
+slice-write-buffer c = omega arith
+
+add-i : tie.Need-add-i Inv-loop μ-loop
+add-i c = omega arith
+
+loop-less : tie.Need-loop-less Inv-loop μ-loop
+loop-less c = omega arith
+
+loop-again : tie.Need-loop-again Inv-loop μ-loop
+loop-again c =
+    let c₂ = c .before .before in
+    let l = c .before .loop in
+    let a = c₂ .args in (
+      omega arith,
+      simp length-set (omega arith),
+      space-more (a .at) (l .i) (a .buffer .now) (l .buffer) (l .inv .2) (omega arith) (l .inv .1),
+    )
+
+add-result : tie.Need-add-result Inv-loop μ-loop
+add-result c = omega arith
+
+same-length : tie.Need-same-length Inv-loop μ-loop
+same-length c = omega arith
+
+returns : tie.Need-returns Inv-loop μ-loop
+returns c =
+    let c₂ = c .before .before in
+    let l = c .before .loop in
+    let e : l .i ≡ c₂ .args .n = omega arith in
+    rw e at (l .inv .2)
+
+pub put-spaces-spec : {M : Type 1} → statement M
+put-spaces-spec =
+    tie.close
+    (tie.spec
+    Inv-loop
+    μ-loop
+    loop-holds
+    add-buffer
+    slice-write-buffer
+    add-i
+    loop-less
+    loop-again
+    add-result
+    same-length
+    returns)

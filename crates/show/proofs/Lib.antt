@@ -1,2 +1,0 @@
--- What the lines' promises give the program.
-pub mod Shown

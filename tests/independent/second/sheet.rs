@@ -1,0 +1,154 @@
+//! The reading room's sheet (request R-1): a record as pages of 60 lines of 100 columns.
+
+use crate::film::Scene;
+use crate::lent;
+use crate::opening::Refusal;
+use crate::record::View;
+use crate::units::{Unit, CELL_PAYLOAD};
+use std::fmt::Display;
+
+const COLUMNS: usize = 100;
+const LINES_OF_PAGE: usize = 60;
+
+/// Columns of a field, and of a time or the index bits.
+const NARROW: usize = 11;
+const WIDE: usize = 21;
+
+/// Writes the pages of a record to a lent buffer: their length, or 16 to 18, or 15.
+pub fn write(record: &[u8], buffer: &mut [u8]) -> Result<usize, Refusal> {
+    lent::fill(buffer, &pages(record)?)
+}
+
+/// What the program `sheet` prints: the pages, or a refusal as `show` has it.
+pub fn print(record: &[u8]) -> Vec<u8> {
+    pages(record).unwrap_or_else(|refusal| format!("refused {}\n", refusal.number).into_bytes())
+}
+
+/// The pages of a record; reading's refusals 16 to 18 otherwise.
+pub fn pages(record: &[u8]) -> Result<Vec<u8>, Refusal> {
+    let view = View::open(record)?;
+    let mut lines = vec![sample_line(&view)];
+    for number in 0..view.units {
+        lines.push(unit_line(number, &view.unit(number)?));
+    }
+    for number in 0..view.scenes {
+        lines.push(scene_line(number, &view.scene(number)?));
+    }
+    while !lines.len().is_multiple_of(LINES_OF_PAGE) {
+        lines.push(String::new());
+    }
+    let filled = lines.iter().map(|line| format!("{line:COLUMNS$}\n"));
+    Ok(filled.collect::<String>().into_bytes())
+}
+
+fn sample_line(view: &View) -> String {
+    let figures = view.figures();
+    let mut line = String::from(" ");
+    fields(&mut line, &[figures.opening.width, figures.opening.height, figures.pictures]);
+    field(&mut line, WIDE, format!("{:016X}", figures.index_bits));
+    line
+}
+
+fn unit_line(number: usize, unit: &Unit) -> String {
+    let mut line = String::from("U");
+    field(&mut line, NARROW, number);
+    field(&mut line, WIDE, unit.least_time);
+    field(&mut line, WIDE, unit.greatest_time);
+    fields(&mut line, &[unit.cells * CELL_PAYLOAD, unit.cells, unit.lost]);
+    line
+}
+
+fn scene_line(number: usize, scene: &Scene) -> String {
+    let mut line = String::from("S");
+    field(&mut line, NARROW, number);
+    fields(&mut line, &[scene.first, scene.pictures, scene.repeated, scene.longest_run]);
+    fields(&mut line, &[scene.strength_sum, scene.strength_most, scene.change_sum]);
+    line
+}
+
+fn fields(line: &mut String, values: &[u32]) {
+    values.iter().for_each(|value| field(line, NARROW, value));
+}
+
+/// Adds a field, right-aligned in its columns.
+fn field(line: &mut String, columns: usize, value: impl Display) {
+    line.push_str(&format!("{value:>columns$}"));
+}
+
+#[cfg(test)]
+mod tests {
+    use super::*;
+    use crate::opening::Opening;
+    use crate::record::{self, Figures};
+
+    const OPENING: Opening = Opening { width: 1920, height: 1080, display_time: 40_000, pid: 256 };
+
+    const UNIT: Unit = Unit { least_time: u64::MAX - 1, greatest_time: u64::MAX, cells: 23_342_213, lost: u32::MAX };
+
+    /// A record of so many like units and scenes of one picture.
+    fn record(units: usize, scenes: u32) -> Vec<u8> {
+        let figures = Figures {
+            opening: OPENING,
+            pictures: scenes,
+            records: 1,
+            passed_over: 0,
+            bad_cells: 0,
+            index_bits: 0x400A_0000_0000_0000,
+        };
+        let scene = |first| Scene {
+            first,
+            pictures: 1,
+            repeated: 4,
+            longest_run: 5,
+            strength_sum: 6,
+            strength_most: 7,
+            change_sum: u32::MAX,
+        };
+        record::write(&figures, &vec![UNIT; units], &(0..scenes).map(scene).collect::<Vec<_>>())
+    }
+
+    #[test]
+    fn columns_of_every_line() {
+        let pages = String::from_utf8(pages(&record(1, 2)).unwrap()).unwrap();
+        assert!(pages.ends_with('\n'));
+        let lines: Vec<&str> = pages.lines().collect();
+        let sample = "        1920       1080          2     400A000000000000";
+        assert_eq!((sample.len(), lines[0].trim_end()), (55, sample));
+        let unit = "U          0 18446744073709551614 18446744073709551615 4294967192   23342213 4294967295";
+        assert_eq!((unit.len(), lines[1].trim_end()), (87, unit));
+        let scene = "S          1          1          1          4          5          6          7 4294967295";
+        assert_eq!((scene.len(), lines[3].trim_end()), (89, scene));
+        assert!(lines.len() == 60 && lines.iter().all(|line| line.len() == 100));
+        assert!(lines[4..].iter().all(|line| line.trim_end().is_empty()));
+    }
+
+    #[test]
+    fn a_page_is_filled_before_the_next_one_begins() {
+        for (units, pages_of) in [(1, 1), (57, 1), (58, 1), (59, 2), (118, 2), (119, 3), (750, 13)] {
+            let length = pages(&record(units, 1)).unwrap().len();
+            assert_eq!(length, pages_of * 60 * 101, "{units} units");
+        }
+        assert_eq!(pages(&record(750, 250)).unwrap().len(), 17 * 6_060);
+    }
+
+    #[test]
+    fn the_buffer_gets_the_pages_and_nothing_past_them() {
+        let record = record(1, 1);
+        let mut buffer = vec![7; 6_062];
+        assert_eq!(write(&record, &mut buffer), Ok(6_060));
+        assert_eq!((&buffer[..6_060], &buffer[6_060..]), (&print(&record)[..], &[7, 7][..]));
+        let mut short = vec![7; 6_059];
+        assert_eq!(write(&record, &mut short), Err(Refusal::at(15, 6_060)));
+        assert_eq!(short, [7; 6_059]);
+    }
+
+    #[test]
+    fn the_refusals_of_reading_come_first() {
+        let mut record = record(1, 1);
+        assert_eq!(write(&record[..63], &mut []), Err(Refusal::unplaced(16)));
+        assert_eq!(write(&record[..127], &mut []), Err(Refusal::unplaced(18)));
+        assert_eq!(print(&record[..127]), b"refused 18\n");
+        record[0] = 0;
+        assert_eq!(write(&record, &mut []), Err(Refusal::unplaced(17)));
+    }
+}
