@@ -9,6 +9,8 @@
 mod capture;
 #[path = "../independent/second/film.rs"]
 mod film;
+#[path = "../independent/second/lent.rs"]
+mod lent;
 #[path = "../independent/second/luma.rs"]
 mod luma;
 #[path = "../independent/second/make"]
