@@ -1,7 +1,7 @@
 /* Carolsedge: measures a sample, one packet capture and up to 750 luma pictures of a stream, into a record of 64 bytes and rows of 32.
  *
  * Link target/staticlib/libcarolsedge.a (rt staticlib carolsedge writes it, for x86-64 Linux). It needs memcpy and memset, allocates nothing, keeps no
- * memory of its own and does no input or output. Each function is proved to give the number and the value that document 01 gives.
+ * memory of its own and does no input or output. Each function is proved to give the number and the value that documents 01 and 02 give.
  *
  * What a caller owes, of every call:
  *  - A pointer to an array or a structure is valid for the whole of it and aligned. A pointer with a length is valid for so many bytes; it is not null,
@@ -43,14 +43,16 @@ enum {
     CAROLSEDGE_REFUSED_NO_PICTURE = 14,     /* seal: no picture */
     CAROLSEDGE_REFUSED_BUFFER = 15,         /* seal, sheet: the buffer is too short; place: the length needed */
     CAROLSEDGE_REFUSED_SHORT = 16,          /* reading: under 64 bytes */
-    CAROLSEDGE_REFUSED_EDITION = 17,        /* reading: the edition is not 1 */
+    CAROLSEDGE_REFUSED_EDITION = 17,        /* reading: an edition that there is not */
     CAROLSEDGE_REFUSED_RECORD = 18,         /* reading: not allowed */
-    CAROLSEDGE_REFUSED_ROW = 19             /* reading: a row's number at or past the count */
+    CAROLSEDGE_REFUSED_ROW = 19,            /* reading: a row's number at or past the count */
+    CAROLSEDGE_REFUSED_OPENING_EDITION = 20 /* opening: an edition that there is not; tried after 3 */
 };
 
 /* ---- a sample */
 
 enum {
+    CAROLSEDGE_NEWEST_EDITION = 2, /* the editions of the rules are 1 to this one (docs/RULE.md, 1) */
     CAROLSEDGE_WALK_WORDS = 16,
     CAROLSEDGE_COLLECTED_BYTES = 64,
     CAROLSEDGE_NUMBERS = 16,
@@ -79,7 +81,7 @@ CAROLSEDGE_ASSERT(sizeof(struct carolsedge_sample) <= 65536, "the state of a sam
 /* The functions of the library take the state's arrays apart. The carolsedge_sample_ functions below take the structure. */
 uint32_t carolsedge_open(uint64_t *walk, uint8_t *kept, uint64_t *numbers, uint64_t *table,
                          uint64_t *luma, uint32_t *sums, uint32_t *bins, uint8_t *picture,
-                         uint32_t width, uint32_t height, uint32_t time, uint32_t pid);
+                         uint32_t width, uint32_t height, uint32_t time, uint32_t pid, uint32_t edition);
 uint32_t carolsedge_feed_capture(uint64_t *walk, uint8_t *kept, uint64_t *numbers, uint64_t *table,
                                  const uint8_t *piece, size_t length, uint64_t *value);
 uint32_t carolsedge_feed_luma(uint64_t *luma, uint32_t *sums, uint32_t *bins, uint8_t *picture,
@@ -87,11 +89,13 @@ uint32_t carolsedge_feed_luma(uint64_t *luma, uint32_t *sums, uint32_t *bins, ui
 uint32_t carolsedge_seal(const uint64_t *walk, const uint8_t *kept, const uint64_t *numbers, const uint64_t *table,
                          const uint64_t *luma, uint8_t *buffer, size_t length, uint64_t *value);
 
-/* Opens a sample: width W and height H of a picture, its display time d in microseconds, packet identifier PID. Refused: 1, 2 or 3, which its feeds and
- * seals then repeat. */
-static inline uint32_t carolsedge_sample_open(struct carolsedge_sample *s, uint32_t width, uint32_t height, uint32_t time, uint32_t pid)
+/* Opens a sample: width W and height H of a picture, its display time d in microseconds, packet identifier PID, and the
+ * edition of the rules, 1 or 2, that it is measured by. Refused: 1, 2, 3 or 20, which its feeds and seals then repeat. */
+static inline uint32_t carolsedge_sample_open(struct carolsedge_sample *s, uint32_t width, uint32_t height, uint32_t time,
+                                              uint32_t pid, uint32_t edition)
 {
-    return carolsedge_open(s->walk, s->kept, s->numbers, s->table, s->luma, s->sums, s->bins, s->picture, width, height, time, pid);
+    return carolsedge_open(s->walk, s->kept, s->numbers, s->table, s->luma, s->sums, s->bins, s->picture, width, height, time,
+                           pid, edition);
 }
 
 /* Feeds a piece of the capture, of any length. *value is the length, or the refusal's place (4 to 9, which later feeds of this side repeat). */
@@ -118,7 +122,7 @@ static inline uint32_t carolsedge_sample_seal(const struct carolsedge_sample *s,
     return carolsedge_seal(s->walk, s->kept, s->numbers, s->table, s->luma, length ? buffer : &none, length, value);
 }
 
-/* A whole list of calls after one opening, coded in a script: five 32-bit little-endian words W, H, d, PID and a rule edition, which is ignored; then calls, each
+/* A whole list of calls after one opening, coded in a script: five 32-bit little-endian words W, H, d, PID and the edition; then calls, each
  * a byte C or L, a 32-bit length n and n bytes (a feed of that side), or a byte S and a 32-bit length n (a seal into n bytes of 0xA5). The list ends where the
  * script ends inside a call or another byte stands. What the opening and every call come to goes to out, one behind the other: a byte 0 (done) or 1 (refused);
  * the result, or the refusal's number; 0, or its place, 64 bits each; and behind a seal's its whole buffer. False where there is no room for it all; out then
@@ -128,6 +132,7 @@ bool carolsedge_replay(const uint8_t *script, size_t length, uint8_t *out, size_
 /* ---- a record */
 
 struct carolsedge_header {
+    uint64_t edition;                 /* of the rules that it was measured by */
     uint64_t units, scenes;           /* rows of each kind */
     uint64_t width, height, time, pid; /* of the opening */
     uint64_t pictures;
@@ -148,7 +153,7 @@ struct carolsedge_scene {
     uint64_t score, peak;       /* sum and greatest of the cut scores */
     uint64_t change;            /* sum of the changes */
 };
-CAROLSEDGE_ASSERT(sizeof(struct carolsedge_header) == 88 && sizeof(struct carolsedge_unit) == 40 && sizeof(struct carolsedge_scene) == 56,
+CAROLSEDGE_ASSERT(sizeof(struct carolsedge_header) == 96 && sizeof(struct carolsedge_unit) == 40 && sizeof(struct carolsedge_scene) == 56,
                   "the figures are 64-bit numbers without gaps");
 
 /* Tests a whole record, which has the length given, and gives the figures of its header. Refused: 16, 17 or 18, and *header stands. */

@@ -40,9 +40,10 @@ const MENDS: &[&str] = &[
     "See that the decoder gives pictures: ffmpeg -i IN -vf extractplanes=y -fps_mode passthrough OUT.y4m",
     "Lend a buffer of the length that the place names; no record is longer than 32,064 bytes.",
     "The file is no record, or was cut short: measure again, or look for another copy.",
-    "The file is no record, or one that a later program made: show it with that program.",
+    "The file is no record, or one of a later edition: show it with a later program.",
     "The file was altered or cut, or has bytes behind the record: look for another copy.",
     "Ask for rows from 0 up to, but without, the count in the record's header.",
+    "Give --edition of the rules as 1 or 2, or leave it out: the newest is taken then.",
 ];
 
 const DAMAGED: &str =

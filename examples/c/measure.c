@@ -1,4 +1,5 @@
-/* measure W H D PID CAPTURE LUMA: measures a sample and prints its record, as the programs measure and show do together.
+/* measure W H D PID CAPTURE LUMA [EDITION]: measures a sample and prints its record, as the programs measure and show
+ * do together.
  *
  * Exit status: 0 printed, 1 refused (`refused NUMBER PLACE` on standard output), 2 usage, or a file or standard output that fails.
  *
@@ -100,16 +101,17 @@ int main(int words, char **word)
 {
     static struct carolsedge_sample s;
     static uint8_t record[CAROLSEDGE_RECORD_MOST];
-    uint32_t opening[4];
+    uint32_t opening[4], edition = 1;
     uint64_t value;
-    int good = words == 7;
+    int good = words == 7 || (words == 8 && number(word[7], &edition));
     for (int i = 0; good && i < 4; i++)
         good = number(word[1 + i], &opening[i]);
     if (!good) {
-        fprintf(stderr, "usage: measure W H D PID CAPTURE LUMA (D: microseconds a picture)\n");
+        fprintf(stderr, "usage: measure W H D PID CAPTURE LUMA [EDITION] "
+                        "(D: microseconds a picture; EDITION: 1 if missing)\n");
         return 2;
     }
-    carolsedge_sample_open(&s, opening[0], opening[1], opening[2], opening[3]);
+    carolsedge_sample_open(&s, opening[0], opening[1], opening[2], opening[3], edition);
     int status = feed_file(&s, carolsedge_sample_feed_capture, word[5]);
     if (status == 0)
         status = feed_file(&s, carolsedge_sample_feed_luma, word[6]);

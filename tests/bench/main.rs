@@ -60,6 +60,8 @@ const ROUND: usize = 16 << 20;
 const CAPTURE: usize = 64 << 20;
 
 const PID: u32 = 256;
+/// The edition of the rules that samples are measured by.
+const EDITION: u32 = 1;
 
 /// Bytes of the longest sheet: 17 pages.
 const SHEET_MOST: usize = 103_020;
@@ -177,14 +179,14 @@ fn largest_record() -> Vec<u8> {
 
 /// Pictures of noise.
 fn film(name: &'static str, width: u32, height: u32, pictures: usize) -> Input {
-    let opening = Opening { width, height, display_time: 40_000, pid: PID };
+    let opening = Opening { width, height, display_time: 40_000, pid: PID, edition: EDITION };
     let bytes = Prng::new(1).bytes(pictures * (width * height) as usize);
     Input { name, opening, side: Side::Luma, bytes }
 }
 
 /// A capture of UDP frames with seven packets each, and a skipped frame in ten.
 fn stream() -> Input {
-    let opening = Opening { width: 64, height: 48, display_time: 40_000, pid: PID };
+    let opening = Opening { width: 64, height: 48, display_time: 40_000, pid: PID, edition: EDITION };
     let mut random = Prng::new(1);
     let mut maker = CaptureMaker::new(&mut random, PID);
     maker.start_every = 2_000;
@@ -218,9 +220,9 @@ fn measure(input: &Input, cut: Cut) -> Times {
 }
 
 fn feed_ours(input: &Input, pieces: &[&[u8]]) -> f64 {
-    let Opening { width, height, display_time, pid } = input.opening;
+    let Opening { width, height, display_time, pid, edition } = input.opening;
     let mut state = ours::State::new();
-    assert_eq!(state.open(width, height, display_time, pid), 0, "a good opening");
+    assert_eq!(state.open(width, height, display_time, pid, edition), 0, "a good opening");
     timed(|| {
         for &bytes in pieces {
             let answer = match input.side {

@@ -83,11 +83,14 @@ def stream(name, ending):
     return os.path.join(STREAMS, name + ending)
 
 
-def proved(width, height, time, pid, capture, luma):
+NEWEST = 2  # edition of the rules
+
+
+def proved(width, height, time, pid, capture, luma, edition=NEWEST):
     """The record that the proved program makes."""
     if os.path.lexists("proved.record"):
         os.remove("proved.record")
-    words = [str(width), str(height), str(time), str(pid), capture, luma, "proved.record"]
+    words = [str(width), str(height), str(time), str(pid), capture, luma, "proved.record", str(edition)]
     status, out, err = run(*words, program="measure")
     check(out.startswith(b"sealed "), "the proved program: %s: %r %s" % (" ".join(words), out, err))
     return read("proved.record"), out

@@ -6,19 +6,19 @@ import json
 import math
 import random
 import struct
-from common import check, counted, expect, proved, read, run, stream, write
+from common import NEWEST, check, counted, expect, proved, read, run, stream, write
 
 UNIT = ["least", "greatest", "size", "packets", "lost"]
 SCENE = ["first", "pictures", "repeated", "longest", "score", "peak", "change"]
 SAMPLE = ["width", "height", "time", "pid", "pictures", "frames", "skipped", "bad"]
 
 
-def made(pick, bits=None):
+def made(pick, bits=None, edition=1):
     """An allowed record with figures from all over."""
     units, scenes = pick.randint(1, 40), pick.randint(1, 9)
     cuts = [0] + sorted(pick.sample(range(1, 700), scenes - 1)) + [700]
     index = pick.getrandbits(64) if bits is None else bits
-    counts = [1, 64 + 32 * (units + scenes), units, 64, scenes, 64 + 32 * units]
+    counts = [edition, 64 + 32 * (units + scenes), units, 64, scenes, 64 + 32 * units]
     sample = [640, 480, 40000, 8191, 700, 2**32 - 1, pick.getrandbits(32), pick.getrandbits(32)]
     out = struct.pack("<14IQ", *counts, *sample, index)
     for _ in range(units):
@@ -51,7 +51,7 @@ def same_json(name, text, sample, unit, scene):
 
 def same_csv(name, text, sample, unit, scene):
     rows = list(csv.reader(io.StringIO(text.decode())))
-    kinds = ("sample", SAMPLE + ["index_bits"], [sample]), ("unit", UNIT, unit), ("scene", SCENE, scene)
+    kinds = ("sample", ["edition"] + SAMPLE + ["index_bits"], [sample]), ("unit", UNIT, unit), ("scene", SCENE, scene)
     for kind, names, want in kinds:
         heading, *found = [row for row in rows if row[0] == kind]
         check(all(len(row) == len(heading) for row in found), name + ": CSV rows of another length")
@@ -66,6 +66,7 @@ def on_page(name, text, sample, unit, scene):
     page = text.decode()
     lines = page.splitlines()
     check("(bits %s)" % sample["index_bits"] in page, name + ": no bits on the page")
+    check("edition   %d of the rules\n" % sample["edition"] in page, name + ": no edition on the page")
     first = min(row["least"] for row in unit)
     at = 1 + next(i for i, line in enumerate(lines) if line.startswith("   No."))
     for j, row in enumerate(unit):
@@ -87,7 +88,8 @@ def every_form(name, record):
     lines = run(program="show", stdin=record)[1]
     expect(name, 0, lines, [], "show", "--lines", "record")
     expect(name, 0, lines, [], "show", "-", "--lines", stdin=record)
-    told = figures(lines)
+    sample, *rows = figures(lines)
+    told = dict(sample, edition=record[0]), *rows
     same_json(name, expect(name, 0, None, [], "show", "record", "--json")[1], *told)
     same_csv(name, expect(name, 0, None, [], "show", "record", "--csv")[1], *told)
     on_page(name, expect(name, 0, None, [], "show", "record")[1], *told)
@@ -98,7 +100,7 @@ def broken():
     for name, data, number, said in (
         ("nothing", b"", 16, "fewer than 64"),
         ("63 bytes", whole[:63], 16, "cut short"),
-        ("another edition", b"\x09" + whole[1:], 17, "later program"),
+        ("another edition", b"\x09" + whole[1:], 17, "later edition"),
         ("one byte short", whole[:-1], 18, "altered or cut"),
         ("one byte long", whole + b"\0", 18, "altered or cut"),
         ("a capture", read(stream("clip", ".pcap")), 17, "no record"),
@@ -117,9 +119,10 @@ def test():
     for line in open(stream("counts", ".txt")):
         if not line.startswith("#") and line.strip():
             name, *opening = line.split()[:5]
-            every_form(name, proved(*opening, stream(name, ".pcap"), stream(name, ".y"))[0])
+            for edition in range(1, NEWEST + 1):
+                every_form(name, proved(*opening, stream(name, ".pcap"), stream(name, ".y"), edition)[0])
     for seed in range(20):
-        every_form("seed %d" % seed, made(random.Random(seed)))
+        every_form("seed %d" % seed, made(random.Random(seed), edition=1 + seed % NEWEST))
     for bits in (0, 1, 0x7FF << 52, 0xFFF << 52, 0x7FF8000000000001, 1 << 63, 0x4013D70A3D70A3D7, (0x7FF << 52) - 1):
         every_form("bits %X" % bits, made(random.Random(9), bits))
     broken()

@@ -1,6 +1,6 @@
 # Words: those that are wrong are named, each subcommand has its help, and there is a version.
 import os
-from common import ROOT, check, counted, expect, read, run, stream, write
+from common import NEWEST, ROOT, check, counted, expect, read, run, stream, write
 
 RAW = ["--size", "64x48", "--time", "40000", "--pid", "256"]
 
@@ -28,7 +28,7 @@ def wrong(capture, luma):
         words = [capture, luma, *out, "--time", "40000", "--pid", "256", "--size", value]
         expect("--size " + value, 2, b"", ["--size %s: not WIDTHxHEIGHT" % value], "measure", *words)
     for value in ("", "x", "-1", "+1", "1.5", "4294967296", "0x", "0x1FFFFFFFF", "0xG"):
-        for option in ("--time", "--pid"):
+        for option in ("--time", "--pid", "--edition"):
             words = [capture, luma, *out, "--size", "64x48", option, value]
             expect(option + " " + value, 2, b"", ["%s %s: not a" % (option, value)], "measure", *words)
     for value in ("0", "25/0", "0/1", "29.97", "25/", "/1", "30000/1001/1", "x"):
@@ -54,6 +54,14 @@ def right(capture, luma):
         got = expect("words in another order", 0, sealed, ["75 pictures beside 75 units"], "measure", *words)
         check(sealed is None or read("record") == record, "other words, another record")
         sealed, record = got[1], read("record")
+    for edition in (1, 2, None):
+        words = [capture, luma, "-o", "record", *RAW] + (["--edition", str(edition)] if edition else [])
+        used = edition or NEWEST
+        expect("edition %s" % edition, 0, sealed, ["edition %d of the rules" % used], "measure", *words)
+        check(read("record")[0] == used, "edition %s made a record of edition %d" % (edition, read("record")[0]))
+    for edition in (0, NEWEST + 1):
+        words = [capture, luma, "-o", "none", *RAW, "--edition", str(edition)]
+        expect("edition %d" % edition, 1, b"refused 20 0\n", ["no such edition", "--edition"], "measure", *words)
     for rate, said in (
         ("30000/1001", "33366.667 microseconds each, rounded to 33367"),
         ("60000/1001", "16683.333 microseconds each, rounded to 16683"),

@@ -40,7 +40,7 @@ uint32_t __wrap_carolsedge_seal(const uint64_t *walk, const uint8_t *kept, const
     uint32_t k = __real_carolsedge_seal(walk, kept, numbers, table, luma, buffer, length, value);
     if (FAULT == 6 && k && length) /* writes to a refused seal's buffer */
         buffer[length / 2] = 1;
-    return FAULT == 7 && k ? 20 : k; /* a number that is not in the table */
+    return FAULT == 7 && k ? 999 : k; /* a number that is not in the table */
 }
 
 uint32_t __wrap_carolsedge_read_header(const uint8_t *record, size_t length, struct carolsedge_header *header)

@@ -1,7 +1,7 @@
 /* Calls every function of the C interface on forged states, records and figures. Every lent array, piece, buffer and record stands against a page that
  * cannot be read or written, in front of it or behind it, so a single byte outside ends the run. What is lent to be read only cannot be written, always or
- * in some of the calls, and what is left of a page is compared afterwards. A call that takes longer than LIMIT seconds, an answer that is not 0 to 19, a
- * refusal that wrote to its buffer, and an opening that answers something else than document 01 says end the run too.
+ * in some of the calls, and what is left of a page is compared afterwards. A call that takes longer than LIMIT seconds, an answer past the
+ * table's last number, a refusal that wrote to its buffer, and an opening that answers something else than the rule says end the run too.
  *
  * Usage: forged CALLS SEED. Makes so many calls of each function (of sheet a tenth, of replay, which makes several, a twentieth), and prints what they answered.
  */
@@ -24,7 +24,8 @@
 
 enum { OPEN, FEED_CAPTURE, FEED_LUMA, SEAL, READ_HEADER, READ_UNIT, READ_SCENE, SHEET, REPLAY, FUNCTIONS };
 static const char *const name[FUNCTIONS] = {"open", "feed_capture", "feed_luma", "seal", "read_header", "read_unit", "read_scene", "sheet", "replay"};
-static uint64_t answers[FUNCTIONS][20], calls[FUNCTIONS], longest, seed;
+enum { LAST_NUMBER = 20 }; /* of the table of refusals */
+static uint64_t answers[FUNCTIONS][LAST_NUMBER + 1], calls[FUNCTIONS], longest, seed;
 static volatile int under_way;
 static volatile sig_atomic_t ticks;
 
@@ -125,7 +126,7 @@ static uint32_t end(uint32_t number)
     uint64_t took = (uint64_t)(now.tv_sec - began.tv_sec) * 1000000000 + (uint64_t)now.tv_nsec - (uint64_t)began.tv_nsec;
     if (took > longest)
         longest = took;
-    if (number > 19)
+    if (number > LAST_NUMBER)
         fail("an answer that is not in the table");
     answers[under_way][number]++;
     calls[under_way]++;
@@ -159,7 +160,7 @@ static size_t frame(uint8_t *p, uint32_t seconds, size_t n)
         uint8_t *cell = b + 42 + 188 * i;
         cell[0] = below(20) ? 0x47 : 0x48;
         cell[1] = (uint8_t)((below(10) ? 1 : 2) | (below(3) ? 0 : 0x40));
-        cell[3] = (uint8_t)chance();
+        cell[3] = (uint8_t)chance(), cell[4] = (uint8_t)below(3), cell[5] = (uint8_t)chance();
     }
     return 16 + length;
 }
@@ -179,7 +180,7 @@ static void make_true(int i)
     static uint8_t piece[65536];
     uint64_t value;
     struct carolsedge_sample *s = &truth[i];
-    carolsedge_sample_open(s, 40, 30, 200000, 256);
+    carolsedge_sample_open(s, 40, 30, 200000, 256, 1 + (uint32_t)i % CAROLSEDGE_NEWEST_EDITION);
     size_t n = file_header(piece);
     carolsedge_sample_feed_capture(s, piece, n, &value);
     for (int j = 0; j < 1 + 40 * i; j++) {
@@ -305,24 +306,29 @@ static void check_state(void)
     check_slack(&walk), check_slack(&kept), check_slack(&numbers), check_slack(&table), check_slack(&luma), check_slack(&sums), check_slack(&bins), check_slack(&picture), check_slack(&lent);
 }
 
-static uint32_t fault_of(uint32_t w, uint32_t h, uint32_t d, uint32_t pid)
+static uint32_t fault_of(uint32_t w, uint32_t h, uint32_t d, uint32_t pid, uint32_t edition)
 {
     if (h < 30 || h > 1088 || w < 15 || w > 1920 || h > 2 * w || w > 4 * h)
         return CAROLSEDGE_REFUSED_SIZE;
-    return d < 10000 || d > 200000 ? CAROLSEDGE_REFUSED_TIME : pid > 8191 ? CAROLSEDGE_REFUSED_PID : CAROLSEDGE_DONE;
+    if (d < 10000 || d > 200000)
+        return CAROLSEDGE_REFUSED_TIME;
+    if (pid > 8191)
+        return CAROLSEDGE_REFUSED_PID;
+    return edition < 1 || edition > CAROLSEDGE_NEWEST_EDITION ? CAROLSEDGE_REFUSED_OPENING_EDITION : CAROLSEDGE_DONE;
 }
 
 static void call_open(void)
 {
     uint32_t w = below(3) ? 15 + (uint32_t)below(1906) : (uint32_t)figure(), h = below(3) ? w / 4 + (uint32_t)below(1100) : (uint32_t)figure();
     uint32_t d = below(3) ? 10000 + (uint32_t)below(190001) : (uint32_t)figure(), pid = below(3) ? (uint32_t)below(8192) : (uint32_t)figure();
+    uint32_t edition = below(4) ? (uint32_t)below(CAROLSEDGE_NEWEST_EDITION + 2) : (uint32_t)figure();
     begin(OPEN);
     uint32_t k = end(carolsedge_open((uint64_t *)(void *)at(&walk), at(&kept), (uint64_t *)(void *)at(&numbers), (uint64_t *)(void *)at(&table),
                                      (uint64_t *)(void *)at(&luma), (uint32_t *)(void *)at(&sums), (uint32_t *)(void *)at(&bins), at(&picture),
-                                     w, h, d, pid));
+                                     w, h, d, pid, edition));
     check_state();
-    if (k != fault_of(w, h, d, pid))
-        fail("another answer than document 01's");
+    if (k != fault_of(w, h, d, pid, edition))
+        fail("another answer than that of documents 01 and 02");
 }
 
 static void call_feed_capture(void)
@@ -475,7 +481,8 @@ static void call_replay(void)
     for (size_t i = 0; i < 20; i++)
         made[i] = (uint8_t)chance();
     if (below(4))
-        put32(made, 15 + (uint32_t)below(60)), put32(made + 4, 30 + (uint32_t)below(30)), put32(made + 8, 40000), put32(made + 12, 256);
+        put32(made, 15 + (uint32_t)below(60)), put32(made + 4, 30 + (uint32_t)below(30)), put32(made + 8, 40000), put32(made + 12, 256),
+            put32(made + 16, (uint32_t)below(CAROLSEDGE_NEWEST_EDITION + 2));
     for (uint64_t i = below(12); i > 0; i--) {
         size_t length = below(200);
         made[n] = below(20) ? (uint8_t)"CLS"[below(3)] : (uint8_t)chance();
@@ -534,7 +541,7 @@ int main(int words, char **word)
         round_of_calls(most);
     for (int f = 0; f < FUNCTIONS; f++) {
         printf("forged: %-12s %" PRIu64 " calls; answers", name[f], calls[f]);
-        for (int k = 0; k < 20; k++)
+        for (int k = 0; k <= LAST_NUMBER; k++)
             if (answers[f][k])
                 printf(" %d:%" PRIu64, k, answers[f][k]);
         printf("\n");

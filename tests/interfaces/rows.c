@@ -37,6 +37,9 @@ int main(void)
     r[8] = r[16] = 1;
     if (!both(r, 128, 0, 17) || !both(r, 128, 1, 17))
         return 1;
+    r[0] = CAROLSEDGE_NEWEST_EDITION + 1;
+    if (!both(r, 128, 0, 17) || !both(r, 128, 1, 17))
+        return 1;
     if (!both(r, 63, 0, 16))
         return 2;
 

@@ -1,4 +1,5 @@
-//! measure W H D PID CAPTURE LUMA: measures a sample and prints its record, as the programs measure and show do together.
+//! measure W H D PID CAPTURE LUMA [EDITION]: measures a sample and prints its record, as the programs measure and show
+//! do together.
 //!
 //! Exit status: 0 printed, 1 refused (`refused NUMBER PLACE` on standard output), 2 usage, or a file or standard output that fails.
 use carolsedge::{Opening, Record, Refusal, Sample, RECORD_MOST};
@@ -6,7 +7,8 @@ use std::fs::File;
 use std::io::{self, Read, Write};
 use std::process::ExitCode;
 
-const USAGE: &str = "usage: measure W H D PID CAPTURE LUMA (D: microseconds a picture)";
+const USAGE: &str =
+    "usage: measure W H D PID CAPTURE LUMA [EDITION] (D: microseconds a picture; EDITION: 1 if missing)";
 
 // Why there is no record.
 enum Stop {
@@ -70,15 +72,21 @@ fn print(record: Record, mut out: impl Write) -> io::Result<()> {
 
 fn measure(words: &[String]) -> Result<(), Stop> {
     let usage = || Stop::Failed(USAGE.into());
-    let [width, height, time, pid, capture, luma] = words else {
+    let number = |word: &String| word.parse().map_err(|_| usage());
+    let [width, height, time, pid, capture, luma, edition @ ..] = words else {
         return Err(usage());
     };
-    let number = |word: &String| word.parse().map_err(|_| usage());
+    let edition = match edition {
+        [] => 1,
+        [edition] => number(edition)?,
+        _ => return Err(usage()),
+    };
     let mut sample = Sample::open(Opening {
         width: number(width)?,
         height: number(height)?,
         time: number(time)?,
         pid: number(pid)?,
+        edition,
     })?;
     feed(capture, |piece| sample.feed_capture(piece))?;
     feed(luma, |piece| sample.feed_luma(piece))?;

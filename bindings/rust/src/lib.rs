@@ -3,7 +3,7 @@
 //! into pieces; this crate is the thin way to it.
 //!
 //! ```
-//! use carolsedge::{Opening, Record, Sample, RECORD_MOST};
+//! use carolsedge::{Opening, Record, Sample, NEWEST_EDITION, RECORD_MOST};
 //!
 //! # fn main() -> Result<(), carolsedge::Refusal> {
 //! # // A capture of one frame, at 10 s 5 µs, with one packet of PID 256.
@@ -17,7 +17,7 @@
 //! # frame[42..46].copy_from_slice(&[0x47, 0x41, 0, 0x10]);
 //! # capture.extend(frame);
 //! # let luma = [0u8; 2 * 30 * 30];
-//! let mut sample = Sample::open(Opening { width: 30, height: 30, time: 40_000, pid: 256 })?;
+//! let mut sample = Sample::open(Opening { width: 30, height: 30, time: 40_000, pid: 256, edition: NEWEST_EDITION })?;
 //! for piece in capture.chunks(100) {
 //!     sample.feed_capture(piece)?;
 //! }
@@ -47,6 +47,9 @@ mod sample;
 pub use record::{sheet, Header, Record, Scene, Unit};
 pub use refusal::Refusal;
 pub use sample::{Opening, Sample};
+
+/// The newest edition of the rules (`docs/RULE.md`, 1). The editions are 1 to this one.
+pub const NEWEST_EDITION: u32 = 2;
 
 /// No record is longer: 64 bytes, and 32 for each of 750 units and 250 scenes.
 pub const RECORD_MOST: usize = 32_064;

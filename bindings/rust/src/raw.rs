@@ -13,7 +13,7 @@ pub struct State {
     picture: [u8; 14104],
 }
 
-pub type Figures = [u64; 11];
+pub type Figures = [u64; 12];
 pub type UnitFigures = [u64; 5];
 pub type SceneFigures = [u64; 7];
 
@@ -31,6 +31,7 @@ extern "C" {
         height: u32,
         time: u32,
         pid: u32,
+        edition: u32,
     ) -> u32;
     fn carolsedge_feed_capture(
         walk: &mut [u64; 16],
@@ -97,7 +98,7 @@ impl State {
     }
 
     /// The refusal's number, or 0.
-    pub fn open(&mut self, width: u32, height: u32, time: u32, pid: u32) -> u32 {
+    pub fn open(&mut self, width: u32, height: u32, time: u32, pid: u32, edition: u32) -> u32 {
         // SAFETY: the arrays have the sizes that the function writes to, and are borrowed apart.
         unsafe {
             carolsedge_open(
@@ -113,6 +114,7 @@ impl State {
                 height,
                 time,
                 pid,
+                edition,
             )
         }
     }
@@ -175,7 +177,7 @@ impl State {
 
 /// The header's figures, or the refusal's number.
 pub fn read_header(record: &[u8]) -> Result<Figures, u32> {
-    let mut figures = [0; 11];
+    let mut figures = [0; 12];
     // SAFETY: pointer and length are a slice's; the array has the size that the function writes to.
     let number = unsafe { carolsedge_read_header(record.as_ptr(), record.len(), &mut figures) };
     given(number, figures)

@@ -4,6 +4,8 @@ use crate::Refusal;
 /// The figures of a record's header.
 #[derive(Debug, Clone, Copy, PartialEq)]
 pub struct Header {
+    /// The edition of the rules that it was measured by.
+    pub edition: u32,
     /// How many units the record has.
     pub units: usize,
     /// How many scenes the record has.
@@ -78,9 +80,10 @@ impl<'a> Record<'a> {
 
     /// The header's figures.
     pub fn header(&self) -> Header {
-        let [units, scenes, width, height, time, pid, pictures, frames, skipped, bad, index] =
+        let [edition, units, scenes, width, height, time, pid, pictures, frames, skipped, bad, index] =
             self.figures;
         Header {
+            edition: edition as u32,
             units: units as usize,
             scenes: scenes as usize,
             width: width as u32,

@@ -13,6 +13,8 @@ pub struct Opening {
     pub time: u32,
     /// The identifier of the packets that are measured: at most 8191.
     pub pid: u32,
+    /// The edition of the rules that it is measured by: 1 to [`NEWEST_EDITION`](crate::NEWEST_EDITION).
+    pub edition: u32,
 }
 
 /// A sample: opened, fed on two sides in pieces of any length and in any order, sealed as often as wanted.
@@ -24,13 +26,20 @@ pub struct Sample {
 }
 
 impl Sample {
-    /// Opens a sample, or gives refusal 1, 2 or 3.
+    /// Opens a sample, or gives refusal 1, 2, 3 or 20.
     ///
     /// In the C interface a refused opening leaves a state of which every feed and seal repeats the number. Here it leaves no sample, so there is nothing
     /// to feed.
     pub fn open(opening: Opening) -> Result<Sample, Refusal> {
         let mut state = State::new();
-        match state.open(opening.width, opening.height, opening.time, opening.pid) {
+        let Opening {
+            width,
+            height,
+            time,
+            pid,
+            edition,
+        } = opening;
+        match state.open(width, height, time, pid, edition) {
             0 => Ok(Sample { state }),
             number => Err(Refusal { number, place: 0 }),
         }

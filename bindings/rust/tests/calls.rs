@@ -1,11 +1,13 @@
 //! The calls from Rust: document 01's worked sample, cuts, every refusal with its place, and that a refusal leaves lent memory as it was.
-use carolsedge::{sheet, Opening, Record, Refusal, Sample, Scene, Unit, RECORD_MOST, SHEET_MOST};
+use carolsedge::{sheet, Opening, Record, Refusal, Sample, Scene, Unit};
+use carolsedge::{NEWEST_EDITION, RECORD_MOST, SHEET_MOST};
 
 const BLACK: Opening = Opening {
     width: 30,
     height: 30,
     time: 40_000,
     pid: 256,
+    edition: 1,
 };
 const PICTURE: usize = 900;
 
@@ -86,6 +88,7 @@ fn worked_sample() {
     assert_eq!(bytes.len(), 128);
     let record = Record::read(&bytes).unwrap();
     let h = record.header();
+    assert_eq!(h.edition, 1);
     assert_eq!(
         (h.units, h.scenes, h.width, h.height, h.time, h.pid),
         (1, 1, 30, 30, 40_000, 256)
@@ -145,7 +148,7 @@ fn worked_sheet() {
 fn refused_sheets() {
     let bytes = sealed(&fed(&worked_capture(), &[0; 2 * PICTURE])).unwrap();
     let mut other = bytes.clone();
-    other[0] = 2;
+    other[0] = 3;
     let mut wrong = bytes.clone();
     wrong[92] = 1;
     let cases = [
@@ -204,20 +207,60 @@ fn cuts_do_not_matter() {
 
 #[test]
 fn openings() {
-    let opened = |width, height, time, pid| {
+    let opened_by = |width, height, time, pid, edition| {
         Sample::open(Opening {
             width,
             height,
             time,
             pid,
+            edition,
         })
         .map(|_| ())
     };
+    let opened = |width, height, time, pid| opened_by(width, height, time, pid, 1);
     assert_eq!(opened(1920, 1080, 40_000, 8191), Ok(()));
     assert_eq!(opened(640, 29, 40_000, 256), Err(refusal(1, 0)));
     assert_eq!(opened(u32::MAX, u32::MAX, 0, u32::MAX), Err(refusal(1, 0)));
     assert_eq!(opened(640, 480, 9_999, 256), Err(refusal(2, 0)));
     assert_eq!(opened(640, 480, 40_000, 8192), Err(refusal(3, 0)));
+    for edition in 1..=NEWEST_EDITION {
+        assert_eq!(opened_by(640, 480, 40_000, 256, edition), Ok(()));
+    }
+    for edition in [0, NEWEST_EDITION + 1, u32::MAX] {
+        assert_eq!(
+            opened_by(640, 480, 40_000, 8192, edition),
+            Err(refusal(3, 0))
+        );
+        assert_eq!(
+            opened_by(640, 480, 40_000, 256, edition),
+            Err(refusal(20, 0))
+        );
+    }
+}
+
+// A gap of 5 at a cell with a splice mark, and one of 3 behind it: edition 1 counts both, edition 2 the later one alone.
+#[test]
+fn editions() {
+    let mut spliced = packet(256, false, 5);
+    spliced[3..6].copy_from_slice(&[0x35, 1, 0x80]);
+    let mut unmarked = spliced;
+    unmarked[4] = 0;
+    for (cell, edition, lost) in [(spliced, 1, 4 + 2), (spliced, 2, 2), (unmarked, 2, 4 + 2)] {
+        let cells = [packet(256, true, 0), cell, packet(256, false, 8)];
+        let capture = [file_header(), frame(10, 5, &carrying(&cells))].concat();
+        let mut sample = Sample::open(Opening { edition, ..BLACK }).unwrap();
+        sample.feed_capture(&capture).unwrap();
+        sample.feed_luma(&[0; 2 * PICTURE]).unwrap();
+        let bytes = sealed(&sample).unwrap();
+        let record = Record::read(&bytes).unwrap();
+        assert_eq!(record.header().edition, edition);
+        assert_eq!(record.unit(0).unwrap().lost, lost);
+        for other in [0, NEWEST_EDITION + 1] {
+            let mut unknown = bytes.clone();
+            unknown[0] = other as u8;
+            assert_eq!(Record::read(&unknown).map(|_| ()), Err(refusal(17, 0)));
+        }
+    }
 }
 
 #[test]
@@ -340,7 +383,7 @@ fn a_clone_goes_on_by_itself() {
 
 #[test]
 fn words() {
-    let said: Vec<String> = (1..=19)
+    let said: Vec<String> = (1..=20)
         .map(|number| refusal(number, 0).meaning().to_string())
         .collect();
     for (i, words) in said.iter().enumerate() {

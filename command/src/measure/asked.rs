@@ -3,7 +3,7 @@ use super::y4m::Heading;
 use crate::output;
 use crate::stop::Stop;
 use crate::words::{number, Words};
-use carolsedge::Opening;
+use carolsedge::{Opening, NEWEST_EDITION};
 use std::ffi::OsString;
 
 /// How long a picture is shown.
@@ -19,6 +19,7 @@ pub struct Asked {
     pub pictures: Option<OsString>,
     pub record: OsString,
     pub pid: u32,
+    edition: u32,
     size: Option<(u32, u32)>,
     time: Option<Time>,
 }
@@ -26,12 +27,13 @@ pub struct Asked {
 impl Asked {
     pub fn read(words: Vec<OsString>) -> Result<Asked, Stop> {
         let usage = |text: &str| Err(Stop::Usage(text.into()));
-        let words = Words::part(words, &["-o", "--size", "--time", "--rate", "--pid"], &[])?;
+        let words = Words::part(words, &["-o", "--size", "--time", "--rate", "--pid", "--edition"], &[])?;
         let mut plain = words.plain(&["CAPTURE", "PICTURES"], 1)?;
         let size = words.read("--size", size, "WIDTHxHEIGHT, as 1920x1080")?;
         let time = words.read("--time", number, "a number of microseconds")?.map(Time::Microseconds);
         let rate = words.read("--rate", rate, "pictures a second, as 25 or 30000/1001")?;
         let pid = words.read("--pid", number, "a packet identifier")?;
+        let edition = words.read("--edition", number, "an edition of the rules")?.unwrap_or(NEWEST_EDITION);
         let Some(record) = words.value("-o") else {
             return usage("-o RECORD is missing");
         };
@@ -48,7 +50,7 @@ impl Asked {
         if capture == "-" && pictures.as_deref() == Some(capture.as_os_str()) {
             return usage("-: CAPTURE and PICTURES cannot both be standard input");
         }
-        Ok(Asked { capture, pictures, record: record.into(), pid, size, time: time.or(rate) })
+        Ok(Asked { capture, pictures, record: record.into(), pid, edition, size, time: time.or(rate) })
     }
 
     /// The opening for pictures that say nothing of themselves.
@@ -59,7 +61,7 @@ impl Asked {
         let Some(time) = self.time else {
             return Err(Stop::Usage("--time or --rate is missing: raw luma does not say it".into()));
         };
-        Ok(Opening { width, height, time: microseconds(time), pid: self.pid })
+        Ok(Opening { width, height, time: microseconds(time), pid: self.pid, edition: self.edition })
     }
 
     /// The opening for pictures with a heading. What the words say of the time prevails.
@@ -74,14 +76,14 @@ impl Asked {
         let Some(time) = self.time.or(rate.map(|(number, divisor)| Time::Rate(number, divisor))) else {
             return Err(Stop::Usage("--time or --rate is missing: the pictures do not say it".into()));
         };
-        Ok(Opening { width, height, time: microseconds(time), pid: self.pid })
+        Ok(Opening { width, height, time: microseconds(time), pid: self.pid, edition: self.edition })
     }
 
     /// An opening for a stream of which no picture came: its seal says what is wrong with the capture.
     pub fn opening_without(&self) -> Opening {
         let (width, height) = self.size.unwrap_or((64, 48));
         let time = microseconds(self.time.unwrap_or(Time::Microseconds(40_000)));
-        Opening { width, height, time, pid: self.pid }
+        Opening { width, height, time, pid: self.pid, edition: self.edition }
     }
 }
 

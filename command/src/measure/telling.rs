@@ -7,12 +7,13 @@ use carolsedge::{Header, Refusal};
 
 /// Says what a sealed record holds, and warns where that may not be what was meant.
 pub fn sealed(header: &Header, measured: &Measured) {
-    let Header { units, pictures, frames, skipped, bad, .. } = *header;
+    let Header { edition, units, pictures, frames, skipped, bad, .. } = *header;
     let (units, pictures) = (units as u64, u64::from(pictures));
     let both = format!("{} beside {}", count(pictures, "picture"), count(units, "unit"));
     let skips = if skipped == 0 { "none".into() } else { grouped(skipped.into()) };
     let frames = count(frames.into(), "frame");
-    say(&format!("{both}; {frames}, {skips} skipped; {}\n", count(bad.into(), "bad packet")));
+    let bads = count(bad.into(), "bad packet");
+    say(&format!("{both}; {frames}, {skips} skipped; {bads}; edition {edition} of the rules\n"));
     if pictures != units {
         say(&format!("warning: {both}: {}\n", differ(pictures, units, measured.raw)));
     }

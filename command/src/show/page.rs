@@ -20,7 +20,8 @@ fn sample(h: &Header, name: &str) -> String {
          index     {:?} (bits {}); from 1 to 5, and no MOS\n  \
          pictures  {pictures} of {} x {}, {} us each ({rate:.3} a second), {} s\n  \
          stream    packet identifier {} (0x{:04X})\n  \
-         capture   {frames}, {} skipped; {}\n",
+         capture   {frames}, {} skipped; {}\n  \
+         edition   {} of the rules\n",
         h.index,
         bits(h),
         h.width,
@@ -31,6 +32,7 @@ fn sample(h: &Header, name: &str) -> String {
         h.pid,
         grouped(h.skipped.into()),
         count(h.bad.into(), "bad packet"),
+        h.edition,
     )
 }
 

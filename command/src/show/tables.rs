@@ -43,8 +43,8 @@ pub fn lines(record: &Record) -> String {
 
 pub fn csv(record: &Record) -> String {
     let h = record.header();
-    let mut text = format!("sample,{},index\n", SAMPLE.join(","));
-    text += &format!("sample,{},{},{}\n", joined(&sample(&h), ","), bits(&h), h.index);
+    let mut text = format!("sample,edition,{},index\n", SAMPLE.join(","));
+    text += &format!("sample,{},{},{},{}\n", h.edition, joined(&sample(&h), ","), bits(&h), h.index);
     text += &format!("unit,number,{}\n", UNIT.join(","));
     for (j, row) in record.units().map(unit).enumerate() {
         text += &format!("unit,{j},{}\n", joined(&row, ","));
@@ -77,8 +77,9 @@ pub fn json(record: &Record) -> String {
     let units = objects(&UNIT, record.units().map(|row| unit(row).to_vec()));
     let scenes = objects(&SCENE, record.scenes().map(|row| scene(row).to_vec()));
     format!(
-        "{{\n  {sample},\n  \"index\": {index}, \"index_bits\": \"{}\",\n  \"units\": [\n{units}\n  ],\n  \
+        "{{\n  \"edition\": {}, {sample},\n  \"index\": {index}, \"index_bits\": \"{}\",\n  \"units\": [\n{units}\n  ],\n  \
          \"scenes\": [\n{scenes}\n  ]\n}}\n",
+        h.edition,
         bits(&h)
     )
 }

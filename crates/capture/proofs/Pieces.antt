@@ -107,9 +107,9 @@ feed-post before piece a after w t r we te g sw sn an =
 -- ---- the numbers in the words
 
 abbrev pub listed : Tally → List ℕ
-listed t = t .status ∷ t .place ∷ t .pid ∷ t .bad ∷ t .units .count ∷ t .units .previous ∷ t .units .packets ∷ t .units .lost ∷ []
+listed t = t .status ∷ t .place ∷ t .pid ∷ t .bad ∷ t .units .count ∷ t .units .previous ∷ t .units .packets ∷ t .units .lost ∷ t .edition ∷ []
 
-pub stored : (w : List ℕ) (t : Tally) → 8 ≤ length w → loaded (sets w 0 (listed t)) ≡ t
+pub stored : (w : List ℕ) (t : Tally) → 9 ≤ length w → loaded (sets w 0 (listed t)) ≡ t
 stored w t h = ap loaded (sets-eq (listed t) w 0 h)
 
 -- ---- the opening
@@ -119,18 +119,19 @@ clear-none o =
     capture-format o []
     ∙ rw (header-shows [] (omega arith), magic-early [] (omega arith), link-early [] (omega arith), header-units [] (omega arith) o)
 
-abbrev pub fresh : ℕ → ℕ → Tally
-fresh number pid = record { status = number; place = 0; pid = pid; bad = 0; units = record { count = 0; previous = 0; packets = 0; lost = 0 } }
+abbrev pub fresh : ℕ → ℕ → ℕ → Tally
+fresh number pid edition =
+    record { status = number; place = 0; pid = pid; bad = 0; units = record { count = 0; previous = 0; packets = 0; lost = 0 }; edition = edition }
 
-pub opens : (a : Arrays) (number pid : ℕ) → walk.Means (a .walk) (a .kept) [] → length (a .numbers) ≡ 16 → length (a .table) ≡ 3750 → loaded (a .numbers) ≡ fresh number pid →
-    Opened number pid a
-opens a number pid m l b e o good bad p =
+pub opens : (a : Arrays) (number pid edition : ℕ) → walk.Means (a .walk) (a .kept) [] → length (a .numbers) ≡ 16 → length (a .table) ≡ 3750 → loaded (a .numbers) ≡ fresh number pid edition →
+    Opened number pid edition a
+opens a number pid edition m l b e o good bad p f =
     record {
       walked = m .room;
       numbered = l;
       stands = rw e (record { counting = go number refl; walking = λ _. m .stands });
     }
   where
-    go : (n : ℕ) → n ≡ number → Counting (a .table) (fresh n pid) o []
-    go zero z = live (record { good = good (sym z); clear = clear-none o; counts = rw (p, none-whole) (counts-none (a .table) (o .pid) b) })
+    go : (n : ℕ) → n ≡ number → Counting (a .table) (fresh n pid edition) o []
+    go zero z = live (record { good = good (sym z); clear = clear-none o; counts = rw (p, f, none-whole) (counts-none (a .table) (o .pid) (o .edition) b) })
     go (suc n) z = stopped (rw (bad (omega arith), ← z)) (omega arith)

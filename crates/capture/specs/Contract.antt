@@ -9,6 +9,7 @@ use Rattle.rules.specs.declared.Opening.{Opening}
 use Rattle.rules.specs.declared.Answer.{Answer}
 use Rattle.rules.specs.Bytes.{pick, total}
 use Rattle.rules.specs.Refusals.{Fault, none, fault, _orElse_}
+use Rattle.rules.specs.Editions.{heedsSplices}
 use Rattle.rules.specs.Opening.{openingFault}
 use Rattle.rules.specs.Capture as rule
 use Rattle.rules.specs.Capture.{frameCount, skippedCount, badCount, captureFault, captureInside}
@@ -27,10 +28,11 @@ use Rattle.capture.specs.declared.Meter.{Meter}
 use Rattle.capture.specs.declared.Summary.{Summary}
 use Rattle.capture.specs.State.{Arrays, loaded, Live, Counting, Stands, Means}
 
--- `open`: the opening's number, or 0, and PID; the arrays after
-abbrev pub Opened : ℕ → ℕ → Arrays → Type 0
-Opened number pid a =
-    (o : Opening) → (number ≡ 0 → openingFault o ≡ none) → (0 < number → openingFault o ≡ fault number 0) → pid ≡ o .pid → Means a o []
+-- `open`: the opening's number, or 0, its PID and its edition; the arrays after
+abbrev pub Opened : ℕ → ℕ → ℕ → Arrays → Type 0
+Opened number pid edition a =
+    (o : Opening) → (number ≡ 0 → openingFault o ≡ none) → (0 < number → openingFault o ≡ fault number 0) → pid ≡ o .pid → edition ≡ o .edition →
+    Means a o []
 
 -- `feed`: the arrays before, the piece, the answer, the arrays after
 pub record FeedPost (before : Arrays) (piece : List ℕ) (a : Answer) (after : Arrays) : Type 0 where
@@ -58,8 +60,8 @@ pub record Figures (rows : List ℕ) (o : Opening) (joined : List ℕ) (r : Summ
   pub lost : r .lost ≡ total (map (λ u. u .lost) (rule.units o joined))
   -- the table of units, for whoever reads its rows
   pub beside : Units
-  pub table : table.Stands rows beside (ofPid (o .pid) (wholeCells joined))
-  pub few : length (ofPid (o .pid) (wholeCells joined)) < 2 ^ 24
+  pub table : table.Stands rows beside (ofPid (heedsSplices (o .edition)) (o .pid) (wholeCells joined))
+  pub few : length (ofPid (heedsSplices (o .edition)) (o .pid) (wholeCells joined)) < 2 ^ 24
 
 pub record SumOf (rows : List ℕ) (o : Opening) (joined : List ℕ) (r : Summary) : Type 0 where
   pub refusal : openingFault o orElse captureFault o joined ≡ standing (r .number) (r .place)

@@ -5,6 +5,7 @@ use mathlib.Core.List.{List}
 use lib.ListN.{length, getD}
 use Rattle.rules.specs.declared.Opening.{Opening}
 use Rattle.rules.specs.Refusals.{none, fault, _orElse_}
+use Rattle.rules.specs.Editions.{heedsSplices}
 use Rattle.rules.specs.Opening.{openingFault}
 use Rattle.rules.specs.Capture.{captureFault}
 use Rattle.capture_walk.specs.declared.types.Walk.{Walk}
@@ -28,13 +29,14 @@ loaded w =
       pid = getD w 2 0;
       bad = getD w 3 0;
       units = record { count = getD w 4 0; previous = getD w 5 0; packets = getD w 6 0; lost = getD w 7 0 };
+      edition = getD w 8 0;
     }
 
 -- nothing is refused, and the whole cells are counted
 pub record Live (table : List ℕ) (t : Tally) (o : Opening) (joined : List ℕ) : Type 0 where
   pub good : openingFault o ≡ none
   pub clear : captureFault o joined ≡ none
-  pub counts : Counts table t (o .pid) (wholeCells joined)
+  pub counts : Counts table t (heedsSplices (o .edition)) (o .pid) (wholeCells joined)
 
 -- the table and the numbers stand for the opening o and the joined bytes: a refusal stands, the opening's or the first that the bytes show; or none does
 pub data Counting (table : List ℕ) (t : Tally) (o : Opening) (joined : List ℕ) : Type 0 where

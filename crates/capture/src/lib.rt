@@ -39,7 +39,7 @@ pub struct Summary {
     pub lost: u64,
 }
 
-// Opens the arrays: with the number that the opening is refused with, or 0, and its PID.
+// Opens the arrays: with the number that the opening is refused with, or 0, its PID and its edition.
 pub fn open(
     walk: &mut WalkWords,
     kept: &mut Collected,
@@ -47,14 +47,16 @@ pub fn open(
     table: &mut Table,
     number: u64,
     pid: u64,
+    edition: u64,
 )
-    ensures { λ _. ⌜ Opened number pid (record { walk = now (walk .exit); kept = now (kept .exit); numbers = now (numbers .exit); table = now (table .exit) }) ⌝ }
+    ensures { λ _. ⌜ Opened number pid edition (record { walk = now (walk .exit); kept = now (kept .exit); numbers = now (numbers .exit); table = now (table .exit) }) ⌝ }
 {
     capture_walk::open(walk, kept);
     *numbers = [0u64; NUMBERS];
     *table = [0u64; capture_units::TABLE_WORDS];
     numbers[0] = number;
     numbers[2] = pid;
+    numbers[8] = edition;
 }
 
 // What the next bytes of a piece brought: the event, and the walk behind them.

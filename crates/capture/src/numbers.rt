@@ -24,6 +24,7 @@ pub fn load(numbers: &Numbers) -> Tally
         pid: numbers[2],
         bad: numbers[3],
         units: units,
+        edition: numbers[8],
     }
 }
 
@@ -39,4 +40,5 @@ pub fn store(numbers: &mut Numbers, t: Tally)
     numbers[5] = u.previous;
     numbers[6] = u.packets;
     numbers[7] = u.lost;
+    numbers[8] = t.edition;
 }

@@ -1,11 +1,12 @@
-// Counts of one identifier, cell by cell: the table of units, bad cells, and refusal 9. A draft of what drives the table by the walk's events.
+// Counts of one identifier, cell by cell: the table of units, bad cells, and refusal 9.
 ghost use mathlib.Core.Path.{_≡_};
 ghost use mathlib.Core.List.{[], _∷_};
 ghost use mathlib.Core.Bool.{_&&_};
 ghost use Prim.Native.Nat.{_+_, _*_, _≤_};
 ghost use lib.ListN.{length};
 ghost use lib.Dec.{eqb};
-ghost use Rattle.capture_units.specs.Units.{isCell};
+ghost use Rattle.rules.specs.Editions.{heedsSplices};
+ghost use Rattle.capture_units.specs.Units.{isCell, seen as seenBy};
 ghost use Rattle.capture_walk.specs.Contract.{cellsOf};
 ghost use Rattle.capture_counts.specs.Counts.{Checks, Accounts, Runs};
 use capture_cells::Cell;
@@ -14,13 +15,14 @@ use capture_units::Table;
 use capture_units::Units;
 use capture_walk::Run;
 
-// status, place: refusal 9, or 0. pid: the identifier. bad: bad cells. units: the state of the table.
+// status, place: refusal 9, or 0. pid: the identifier. bad: bad cells. units: the state of the table. edition: of the rules that the cells are counted by.
 pub struct Tally {
     pub status: u64,
     pub place: u64,
     pub pid: u64,
     pub bad: u64,
     pub units: Units,
+    pub edition: u64,
 }
 
 fn is_cell(k: Condition) -> bool
@@ -42,6 +44,15 @@ fn wanted(c: Cell, pid: u64) -> bool
         return c.identifier == pid;
     }
     false
+}
+
+// A cell as the edition sees it: its splice mark counts only where it is heeded.
+fn seen(c: Cell, edition: u64) -> Cell
+    ensures { λ r. ⌜ r ≡ seenBy (heedsSplices edition) c ⌝ }
+{
+    let mut r = c;
+    r.splice = figures::heeds_splices(edition) & c.splice;
+    r
 }
 
 // A cell is shown: refusal 9, if it would begin a 751st unit.
@@ -68,7 +79,8 @@ pub fn account(table: &mut Table, t: Tally, c: Cell) -> Tally
     let mut r = t;
     if wanted(c, t.pid) {
         let u = t.units;
-        let v = capture_units::add_cell(table, u, c);
+        let d = seen(c, t.edition);
+        let v = capture_units::add_cell(table, u, d);
         r.units = v;
         return r;
     }

@@ -1,17 +1,18 @@
 -- The rules' figures are those of the cells, and what each event of the walk does to refusal 9: what a table of units needs to be driven by the walk.
-use Prim.Native.Nat.{ℕ, _+_, _%_, _≤_}
+use Prim.Native.Nat.{ℕ, zero, suc, _+_, _%_, _≤_}
 use native.Mathlib.Omega.{arith}
 use native.Mathlib.Decide.{decLe}
 use mathlib.Core.Path.{_≡_, refl, sym, ap, _∙_}
 use mathlib.Core.List.{List, [], _∷_, _++_, append-nil, append-assoc, map}
 use mathlib.Core.Bool.{Bool, true, false, not, _&&_}
-use lib.ListN.{length, drop, drop-of-length-le}
+use lib.ListN.{length, drop, length-map, drop-of-length-le}
 use lib.Seq.{drop-append-le}
 use lib.Dec.{eqb}
 use borrow.Author.Tests.{le-leb}
 use Rattle.rules.specs.declared.Opening.{Opening}
 use Rattle.rules.specs.Bytes.{pick, byte, count, only}
 use Rattle.rules.specs.Refusals.{Fault, none, fault}
+use Rattle.rules.specs.Editions.{heedsSplices}
 use Rattle.rules.specs.Packets.{Packet, Kind, bad, other, wanted, identifier, kind, isBad, isWanted, wantedOf, badOf, counter}
 use Rattle.rules.specs.Units as rule
 use Rattle.rules.specs.Capture.{wholeWanted, units, badCount, earlier, beginsAt, tooManyUnits, captureFault}
@@ -30,8 +31,11 @@ use Rattle.capture_walk.specs.declared.types.Walk.{Walk}
 use Rattle.capture_walk.specs.Contract.{Gains, Level, Halts, again, surplus, silent}
 use Rattle.capture_walk.proofs.Format.{capture-format}
 use Rattle.capture_walk.proofs.Lists.{shown-of, whole-of, map-append, heads}
-use Rattle.capture_units.specs.Units.{isCell, ofPid, badIn, arrivalsAfter, arrivals, unitsOf, beginnings, unitsIn, nineIn, beginsAfter}
+use Rattle.capture_units.specs.Units.{isCell, seen, ofPid, badIn, arrivalsAfter, arrivals, unitsOf, beginnings, unitsIn, nineIn, beginsAfter}
 use Rattle.capture_units.proofs.More.{arrivalAfter, beginnings-more}
+
+no-cons : {n : ℕ} {ns : List ℕ} → _≡_ {A = List ℕ} [] (n ∷ ns) → ⊥
+no-cons e = let z : _≡_ {A = ℕ} 0 1 = cc in omega arith
 
 -- ---- one packet
 
@@ -59,13 +63,19 @@ bad-cell o p = go (eqb (byte (p .bytes) 0) 0x47) (damaged (p .bytes)) (eqb (iden
 
 -- ---- many
 
-wanted-cells : (o : Opening) (ps : List Packet) → map cellOf (wantedOf o ps) ≡ ofPid (o .pid) (map cellOf ps)
+-- a packet, as it is seen
+abbrev cellBy : Bool → Packet → Cell
+cellBy heeded p = seen heeded (cellOf p)
+
+wanted-cells : (heeded : Bool) (o : Opening) (ps : List Packet) → map (cellBy heeded) (wantedOf o ps) ≡ ofPid heeded (o .pid) (map cellOf ps)
 unfolding wantedOf ofPid only
-wanted-cells o [] = refl
-wanted-cells o (p ∷ ps) = rw (wanted-cell o p) (go _ _ (isCell (cellOf p .condition) && eqb (cellOf p .identifier) (o .pid)) (wanted-cells o ps))
+wanted-cells heeded o [] = refl
+wanted-cells heeded o (p ∷ ps) =
+    rw (wanted-cell o p) (go _ _ (isCell (cellOf p .condition) && eqb (cellOf p .identifier) (o .pid)) (wanted-cells heeded o ps))
   where
-    go : (rest : List Packet) (more : List Cell) (b : Bool) → map cellOf rest ≡ more → map cellOf (pick b (p ∷ rest) rest) ≡ pick b (cellOf p ∷ more) more
-    go rest more true e = ap (λ (r : List Cell). cellOf p ∷ r) e
+    go : (rest : List Packet) (more : List Cell) (b : Bool) → map (cellBy heeded) rest ≡ map (seen heeded) more →
+        map (cellBy heeded) (pick b (p ∷ rest) rest) ≡ map (seen heeded) (pick b (cellOf p ∷ more) more)
+    go rest more true e = ap (λ (r : List Cell). cellBy heeded p ∷ r) e
     go rest more false e = e
 
 bad-cells : (o : Opening) (ps : List Packet) → badOf o ps ≡ badIn (map cellOf ps)
@@ -77,88 +87,131 @@ low : (b : List ℕ) → counter b % 16 ≡ counter b
 unfolding counter
 low b = omega arith
 
-after-cells : (q : Packet) (ps : List Packet) → rule.arrivalsAfter q ps ≡ arrivalsAfter (cellOf q) (map cellOf ps)
-unfolding rule.arrivalsAfter arrivalsAfter cellIn
-after-cells q [] = refl
-after-cells q (p ∷ ps) = rw (low (q .bytes), low (p .bytes), after-cells p ps)
+after-cells : (heeded : Bool) (q : Packet) (ps : List Packet) →
+    rule.arrivalsAfter heeded q ps ≡ arrivalsAfter (cellBy heeded q) (map (cellBy heeded) ps)
+unfolding rule.arrivalsAfter rule.lossBetween arrivalsAfter cellIn
+after-cells heeded q [] = refl
+after-cells heeded q (p ∷ ps) = rw (low (q .bytes), low (p .bytes), after-cells heeded p ps)
 
-arrivals-cells : (ps : List Packet) → rule.arrivals ps ≡ arrivals (map cellOf ps)
+arrivals-cells : (heeded : Bool) (ps : List Packet) → rule.arrivals heeded ps ≡ arrivals (map (cellBy heeded) ps)
 unfolding rule.arrivals arrivals cellIn
-arrivals-cells [] = refl
-arrivals-cells (p ∷ ps) = rw (after-cells p ps)
+arrivals-cells heeded [] = refl
+arrivals-cells heeded (p ∷ ps) = rw (after-cells heeded p ps)
 
 -- ---- the figures
 
-pub units-cells : (o : Opening) (s : List ℕ) → units o s ≡ unitsIn (o .pid) (wholeCells s)
+pub units-cells : (o : Opening) (s : List ℕ) → units o s ≡ unitsIn (heedsSplices (o .edition)) (o .pid) (wholeCells s)
 unfolding units rule.unitsOf unitsIn unitsOf
 units-cells o s =
+    let heeded = heedsSplices (o .edition) in
     ap (λ (x : List rule.Arrival). map rule.unitOf (rule.groups x))
-    (ap rule.arrivals (wanted-of o s) ∙ arrivals-cells (wantedOf o (reached 188 s)) ∙ ap arrivals (wanted-cells o (reached 188 s) ∙ ap (ofPid (o .pid)) (sym (whole-of s))))
+    (ap (rule.arrivals heeded) (wanted-of o s)
+    ∙ arrivals-cells heeded (wantedOf o (reached 188 s))
+    ∙ ap arrivals (wanted-cells heeded o (reached 188 s) ∙ ap (ofPid heeded (o .pid)) (sym (whole-of s))))
 
 pub bad-all : (o : Opening) (s : List ℕ) → badCount o s ≡ badIn (wholeCells s)
 bad-all o s = bad-of o s ∙ bad-cells o (reached 188 s) ∙ ap badIn (sym (whole-of s))
 
-pub pid-few : (pid : ℕ) (cs : List Cell) → length (ofPid pid cs) ≤ length cs
+pub pid-few : (heeded : Bool) (pid : ℕ) (cs : List Cell) → length (ofPid heeded pid cs) ≤ length cs
 unfolding ofPid
-pid-few pid cs = only-few (λ (c : Cell). isCell (c .condition) && eqb (c .identifier) pid) cs
+pid-few heeded pid cs =
+    rw (length-map (only (λ (c : Cell). isCell (c .condition) && eqb (c .identifier) pid) cs) (seen heeded))
+    (only-few (λ (c : Cell). isCell (c .condition) && eqb (c .identifier) pid) cs)
 
--- ---- 9
+pub pid-append : (heeded : Bool) (pid : ℕ) (xs ys : List Cell) → ofPid heeded pid (xs ++ ys) ≡ ofPid heeded pid xs ++ ofPid heeded pid ys
+unfolding ofPid
+pid-append heeded pid xs ys =
+    let test : Cell → Bool = λ (c : Cell). isCell (c .condition) && eqb (c .identifier) pid in
+    ap (map (seen heeded)) (only-append test xs ys) ∙ map-append (seen heeded) (only test xs) (only test ys)
+
+-- ---- 9 stands at a place, and splice marks do not move it
+
+abbrev places : List rule.Arrival → List ℕ
+places xs = map (λ (a : rule.Arrival). a .place) xs
+
+places-only : (t : Bool) (a b : rule.Arrival) (xs ys : List rule.Arrival) → a .place ≡ b .place → places xs ≡ places ys →
+    places (pick t (a ∷ xs) xs) ≡ places (pick t (b ∷ ys) ys)
+places-only true a b xs ys e f = rw (e, f)
+places-only false a b xs ys e f = f
+
+after-places : (g h : Bool) (q r : Cell) (cs : List Cell) →
+    places (only (λ a. a .begins) (arrivalsAfter q (map (seen g) cs))) ≡ places (only (λ a. a .begins) (arrivalsAfter r (map (seen h) cs)))
+unfolding arrivalsAfter only
+after-places g h q r [] = refl
+after-places g h q r (c ∷ cs) = places-only (c .start) _ _ _ _ refl (after-places g h (seen g c) (seen h c) cs)
+
+begins-places : (g h : Bool) (cs : List Cell) → places (beginnings (map (seen g) cs)) ≡ places (beginnings (map (seen h) cs))
+unfolding beginnings arrivals only
+begins-places g h [] = refl
+begins-places g h (c ∷ cs) = ap (λ (ns : List ℕ). c .place ∷ ns) (after-places g h (seen g c) (seen h c) cs)
+
+at-places : (n : ℕ) (xs ys : List rule.Arrival) → places xs ≡ places ys → beginsAt (drop n xs) ≡ beginsAt (drop n ys)
+at-places zero [] [] e = refl
+at-places zero [] (y ∷ ys) e = absurd (no-cons e)
+at-places zero (x ∷ xs) [] e = absurd (no-cons (sym e))
+at-places zero (x ∷ xs) (y ∷ ys) e = let p : x .place ≡ y .place = cc in rw p
+at-places (suc n) [] [] e = refl
+at-places (suc n) [] (y ∷ ys) e = absurd (no-cons e)
+at-places (suc n) (x ∷ xs) [] e = absurd (no-cons (sym e))
+at-places (suc n) (x ∷ xs) (y ∷ ys) e = at-places n xs ys (let f : places xs ≡ places ys = cc in f)
+
+pub nine-any : (g h : Bool) (pid : ℕ) (cs : List Cell) → nineIn g pid cs ≡ nineIn h pid cs
+unfolding nineIn ofPid
+nine-any g h pid cs =
+    let mine = only (λ c. isCell (c .condition) && eqb (c .identifier) pid) cs in
+    at-places 750 (beginnings (map (seen g) mine)) (beginnings (map (seen h) mine)) (begins-places g h mine)
 
 -- it goes by the first four bytes
-head-pid : (pid : ℕ) (cs : List Cell) → ofPid pid (map head cs) ≡ map head (ofPid pid cs)
+head-pid : (pid : ℕ) (cs : List Cell) → ofPid false pid (map head cs) ≡ ofPid false pid cs
 unfolding ofPid only
 head-pid pid [] = refl
 head-pid pid (c ∷ cs) = go _ _ (isCell (c .condition) && eqb (c .identifier) pid) (head-pid pid cs)
   where
-    go : (a b : List Cell) (t : Bool) → a ≡ map head b → pick t (head c ∷ a) a ≡ map head (pick t (c ∷ b) b)
-    go a b true e = ap (λ (r : List Cell). head c ∷ r) e
+    go : (a b : List Cell) (t : Bool) → map (seen false) a ≡ map (seen false) b → map (seen false) (pick t (head c ∷ a) a) ≡ map (seen false) (pick t (c ∷ b) b)
+    go a b true e = ap (λ (r : List Cell). seen false c ∷ r) e
     go a b false e = e
 
-head-after : (q : Cell) (cs : List Cell) → arrivalsAfter (head q) (map head cs) ≡ arrivalsAfter q cs
-unfolding arrivalsAfter
-head-after q [] = refl
-head-after q (c ∷ cs) = rw (head-after c cs)
+head-nine : (heeded : Bool) (pid : ℕ) (cs : List Cell) → nineIn heeded pid (map head cs) ≡ nineIn heeded pid cs
+head-nine heeded pid cs =
+    let same : nineIn false pid (map head cs) ≡ nineIn false pid cs = unfold nineIn in
+    ap (λ (x : List Cell). beginsAt (drop 750 (beginnings x))) (head-pid pid cs) in
+    nine-any heeded false pid (map head cs) ∙ same ∙ nine-any false heeded pid cs
 
-head-arrivals : (cs : List Cell) → arrivals (map head cs) ≡ arrivals cs
-unfolding arrivals
-head-arrivals [] = refl
-head-arrivals (c ∷ cs) = rw (head-after c cs)
-
-head-nine : (pid : ℕ) (cs : List Cell) → nineIn pid (map head cs) ≡ nineIn pid cs
-unfolding nineIn beginnings
-head-nine pid cs = rw (head-pid pid cs, head-arrivals (ofPid pid cs))
-
-pub nine-cells : (o : Opening) (s : List ℕ) → tooManyUnits o s ≡ nineIn (o .pid) (shownCells s)
-nine-cells o s =
-    nine-of o s ∙ at-packets (reached 4 s) ∙ sym (ap (nineIn (o .pid)) (shown-of s ∙ heads (reached 4 s)) ∙ head-nine (o .pid) (map cellOf (reached 4 s)))
+pub nine-cells : (heeded : Bool) (o : Opening) (s : List ℕ) → tooManyUnits o s ≡ nineIn heeded (o .pid) (shownCells s)
+nine-cells heeded o s =
+    nine-of o s
+    ∙ at-packets (reached 4 s)
+    ∙ sym (ap (nineIn false (o .pid)) (shown-of s ∙ heads (reached 4 s)) ∙ head-nine false (o .pid) (map cellOf (reached 4 s)))
+    ∙ nine-any false heeded (o .pid) (shownCells s)
   where
-    at-packets : (ps : List Packet) → nine o ps ≡ nineIn (o .pid) (map cellOf ps)
+    at-packets : (ps : List Packet) → nine o ps ≡ nineIn false (o .pid) (map cellOf ps)
     at-packets ps = unfold nine nineIn beginnings rule.beginnings in
-        ap (λ (x : List rule.Arrival). beginsAt (drop 750 (only (λ a. a .begins) x))) (arrivals-cells (wantedOf o ps) ∙ ap arrivals (wanted-cells o ps))
+        ap (λ (x : List rule.Arrival). beginsAt (drop 750 (only (λ a. a .begins) x)))
+        (arrivals-cells false (wantedOf o ps) ∙ ap arrivals (wanted-cells false o ps))
 
 -- cells are shown behind the whole ones: the table of the whole ones tells whether 9 stands
-level-nine : (pid : ℕ) (before : List ℕ) → Level before → (xs : List Cell) → nineIn pid (shownCells before ++ map head xs) ≡ nineIn pid (wholeCells before ++ xs)
-level-nine pid before l xs =
-    ap (λ (x : List Cell). nineIn pid (x ++ map head xs)) l ∙ ap (nineIn pid) (sym (map-append head (wholeCells before) xs)) ∙ head-nine pid (wholeCells before ++ xs)
+level-nine : (heeded : Bool) (pid : ℕ) (before : List ℕ) → Level before → (xs : List Cell) → nineIn heeded pid (shownCells before ++ map head xs) ≡ nineIn heeded pid (wholeCells before ++ xs)
+level-nine heeded pid before l xs =
+    ap (λ (x : List Cell). nineIn heeded pid (x ++ map head xs)) l ∙ ap (nineIn heeded pid) (sym (map-append head (wholeCells before) xs)) ∙ head-nine heeded pid (wholeCells before ++ xs)
 
 -- every cell that is shown is whole, and nothing is refused: 9 is not among the whole ones
-pub nine-level : (o : Opening) (s : List ℕ) → Level s → captureFault o s ≡ none → nineIn (o .pid) (wholeCells s) ≡ none
-nine-level o s l c =
-    sym (head-nine (o .pid) (wholeCells s))
-    ∙ ap (nineIn (o .pid)) (sym l)
-    ∙ sym (nine-cells o s)
+pub nine-level : (heeded : Bool) (o : Opening) (s : List ℕ) → Level s → captureFault o s ≡ none → nineIn heeded (o .pid) (wholeCells s) ≡ none
+nine-level heeded o s l c =
+    sym (head-nine heeded (o .pid) (wholeCells s))
+    ∙ ap (nineIn heeded (o .pid)) (sym l)
+    ∙ sym (nine-cells heeded o s)
     ∙ none-both (formatFault s) (tooManyUnits o s) (sym (capture-format o s) ∙ c) .1
 
 -- ---- what each event does to what the capture shows first
 
-module _ (o : Opening) {before after : List ℕ} where
-  by-shown : {xs ys : List Cell} → Gains before after xs ys → captureFault o after ≡ nineIn (o .pid) (shownCells before ++ xs)
-  by-shown g = capture-format o after ∙ rw (g .clear) (nine-cells o after ∙ ap (nineIn (o .pid)) (g .shown))
+module _ (heeded : Bool) (o : Opening) {before after : List ℕ} where
+  by-shown : {xs ys : List Cell} → Gains before after xs ys → captureFault o after ≡ nineIn heeded (o .pid) (shownCells before ++ xs)
+  by-shown g = capture-format o after ∙ rw (g .clear) (nine-cells heeded o after ∙ ap (nineIn heeded (o .pid)) (g .shown))
 
   quiet : {ys : List Cell} → Gains before after [] ys → captureFault o before ≡ none → captureFault o after ≡ none
   quiet g c =
       by-shown g
-      ∙ rw (append-nil (shownCells before)) (sym (nine-cells o before) ∙ none-both (formatFault before) (tooManyUnits o before) (sym (capture-format o before) ∙ c) .1)
+      ∙ rw (append-nil (shownCells before)) (sym (nine-cells heeded o before) ∙ none-both (formatFault before) (tooManyUnits o before) (sym (capture-format o before) ∙ c) .1)
 
   -- no cell, or one that was shown is whole: nothing new
   pub on-nothing : Gains before after [] [] → captureFault o before ≡ none → captureFault o after ≡ none
@@ -167,15 +220,15 @@ module _ (o : Opening) {before after : List ℕ} where
   pub on-whole : {c : Cell} → Gains before after [] (c ∷ []) → captureFault o before ≡ none → captureFault o after ≡ none
   on-whole g c = quiet g c
 
-  pub on-cells : {cs : List Cell} → Gains before after (map head cs) cs → Level before → captureFault o after ≡ nineIn (o .pid) (wholeCells before ++ cs)
-  on-cells {cs} g l = by-shown g ∙ level-nine (o .pid) before l cs
+  pub on-cells : {cs : List Cell} → Gains before after (map head cs) cs → Level before → captureFault o after ≡ nineIn heeded (o .pid) (wholeCells before ++ cs)
+  on-cells {cs} g l = by-shown g ∙ level-nine heeded (o .pid) before l cs
 
-  pub on-shown : {c : Cell} → Gains before after (c ∷ []) [] → Level before → captureFault o after ≡ nineIn (o .pid) (wholeCells before ++ c ∷ [])
+  pub on-shown : {c : Cell} → Gains before after (c ∷ []) [] → Level before → captureFault o after ≡ nineIn heeded (o .pid) (wholeCells before ++ c ∷ [])
   on-shown {c} g l =
       by-shown g
-      ∙ sym (head-nine (o .pid) (shownCells before ++ c ∷ []))
-      ∙ ap (nineIn (o .pid)) (map-append head (shownCells before) (c ∷ []) ∙ twice l)
-      ∙ head-nine (o .pid) (wholeCells before ++ c ∷ [])
+      ∙ sym (head-nine heeded (o .pid) (shownCells before ++ c ∷ []))
+      ∙ ap (nineIn heeded (o .pid)) (map-append head (shownCells before) (c ∷ []) ∙ twice l)
+      ∙ head-nine heeded (o .pid) (wholeCells before ++ c ∷ [])
     where
       heads-again : (xs : List Cell) → map head (map head xs) ≡ map head xs
       heads-again [] = refl
@@ -193,7 +246,7 @@ grows-late (same (at-fault h)) e = absurd (never e)
 grows-late (new l) e = l
 
 -- a refusal of the format stands before any 9 that its bytes show
-module _ (o : Opening) (before chunk : List ℕ) (w : Walk) (clear : captureFault o before ≡ none) (e : formatFault (before ++ chunk) ≡ fault (w .status) (w .place)) where
+module _ (heeded : Bool) (o : Opening) (before chunk : List ℕ) (w : Walk) (clear : captureFault o before ≡ none) (e : formatFault (before ++ chunk) ≡ fault (w .status) (w .place)) where
   both : (formatFault before ≡ none) × (tooManyUnits o before ≡ none)
   both = none-both (formatFault before) (tooManyUnits o before) (sym (capture-format o before) ∙ clear)
 
@@ -204,7 +257,7 @@ module _ (o : Opening) (before chunk : List ℕ) (w : Walk) (clear : captureFaul
   nine-late : Halts w before (before ++ chunk) → Late (w .place) (tooManyUnits o (before ++ chunk))
   nine-late (again x) = absurd (never (sym x ∙ both .0))
   nine-late (surplus x) = rw x (grows-late (units-grow o before chunk) (both .1))
-  nine-late (silent x) = rw (nine-cells o (before ++ chunk) ∙ ap (nineIn (o .pid)) x ∙ sym (nine-cells o before) ∙ both .1) late-none
+  nine-late (silent x) = rw (nine-cells heeded o (before ++ chunk) ∙ ap (nineIn heeded (o .pid)) x ∙ sym (nine-cells heeded o before) ∙ both .1) late-none
 
   pub on-refused : Halts w before (before ++ chunk) → captureFault o (before ++ chunk) ≡ fault (w .status) (w .place)
   on-refused h = capture-format o (before ++ chunk) ∙ rw e (first (tooManyUnits o (before ++ chunk)) (nine-late h))
@@ -232,12 +285,12 @@ past us k p e = go (decLe 750 (length us))
         let z : _≡_ {A = ℕ} 0 1 = cc in
         absurd (omega arith)
 
-pub nine-kept : (pid : ℕ) (xs ys : List Cell) (k p : ℕ) → nineIn pid xs ≡ fault k p → nineIn pid (xs ++ ys) ≡ fault k p
+pub nine-kept : (heeded : Bool) (pid : ℕ) (xs ys : List Cell) (k p : ℕ) → nineIn heeded pid xs ≡ fault k p → nineIn heeded pid (xs ++ ys) ≡ fault k p
 unfolding nineIn
-nine-kept pid xs ys k p e =
-    let r = behind-all (ofPid pid xs) (ofPid pid ys) in
-    let f : ofPid pid (xs ++ ys) ≡ ofPid pid xs ++ ofPid pid ys = unfold ofPid in only-append (λ (c : Cell). isCell (c .condition) && eqb (c .identifier) pid) xs ys in
-    ap (λ (x : List Cell). beginsAt (drop 750 (beginnings x))) f
+nine-kept heeded pid xs ys k p e =
+    let mine = ofPid heeded pid in
+    let r = behind-all (mine xs) (mine ys) in
+    ap (λ (x : List Cell). beginsAt (drop 750 (beginnings x))) (pid-append heeded pid xs ys)
     ∙ ap (λ (x : List rule.Arrival). beginsAt (drop 750 x)) (r .1)
-    ∙ ap beginsAt (drop-append-le 750 (beginnings (ofPid pid xs)) (r .0) (past (beginnings (ofPid pid xs)) k p e))
-    ∙ first-kept (drop 750 (beginnings (ofPid pid xs))) (r .0) k p e
+    ∙ ap beginsAt (drop-append-le 750 (beginnings (mine xs)) (r .0) (past (beginnings (mine xs)) k p e))
+    ∙ first-kept (drop 750 (beginnings (mine xs))) (r .0) k p e

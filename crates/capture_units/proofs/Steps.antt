@@ -30,10 +30,10 @@ none-counted : {w : List ℕ} {s : Units} → Stands w s [] → s .count ≡ 0
 none-counted st = st .count ∙ ap length units-none
 
 -- the code's loss is the rule's
-loss-is : {w : List ℕ} {s : Units} {ps : List Cell} (q : Cell) → Stands w s ps → lossOf s (q .counter) ≡ lossAfter ps q
+loss-is : {w : List ℕ} {s : Units} {ps : List Cell} (q : Cell) → Stands w s ps → lossOf s q ≡ lossAfter ps q
 loss-is {s = s} {ps = []} q st = rw (eq-eqb (s .count) 0 (none-counted st))
 loss-is {s = s} {ps = x ∷ ps} q st =
-    let e : s .previous % 16 ≡ lastCounter (x ∷ ps) % 16 = ap (λ (n : ℕ). n % 16) (st .previous) in
+    let e : s .previous ≡ lastCounter (x ∷ ps) = st .previous in
     rw (ne-eqb (s .count) 0 (λ z. omega (arith, st .count, units-some x ps)), e)
 
 -- whether a cell begins a unit, by the state
@@ -149,12 +149,12 @@ module _ {w : List ℕ} {s : Units} {ps : List Cell} (q : Cell) (st : Stands w s
 -- ---- the same, by what the code's parts gave
 
 module _ (w : List ℕ) (s : Units) (q : Cell) {r : Units} {w′ : List ℕ} {u : Unit} {lost : ℕ} where
-  pub begins-by : s .count < 750 → lost ≡ lossOf s (q .counter) → u ≡ begunBy (q .time) lost → w′ ≡ unitSet w (s .count) u →
+  pub begins-by : s .count < 750 → lost ≡ lossOf s q → u ≡ begunBy (q .time) lost → w′ ≡ unitSet w (s .count) u →
       r ≡ takenInto s (s .count + 1) (q .counter) lost →
       (ps : List Cell) → ((s .count ≡ 0 → ⊥) → q .start ≡ true) → TakesIn w s r w′ ps q
   begins-by k le ue we re ps h st few = rw (re, we, ue, le, loss-is q st) (begins q st (begins-is q st h) k)
 
-  pub joins-by : {v : Unit} (k : ℕ) → s .count ≡ k + 1 → lost ≡ lossOf s (q .counter) → v ≡ unitAt w k → u ≡ joinedBy v (q .time) lost →
+  pub joins-by : {v : Unit} (k : ℕ) → s .count ≡ k + 1 → lost ≡ lossOf s q → v ≡ unitAt w k → u ≡ joinedBy v (q .time) lost →
       w′ ≡ unitSet w k u → r ≡ takenInto s (s .count) (q .counter) lost →
       (ps : List Cell) → (s .count ≡ 0 → ⊥) → q .start ≡ false → TakesIn w s r w′ ps q
   joins-by k kc le ve ue we re ps h e st few = rw (re, we, ue, le, loss-is q st, ve) (extends q st (joins-is q st h e) k kc)

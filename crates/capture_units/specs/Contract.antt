@@ -8,8 +8,7 @@ use lib.Dec.{ltb, eqb}
 use Rattle.rules.specs.declared.UnitRow.{UnitRow}
 use Rattle.rules.specs.Bytes.{pick, smaller, larger}
 use Rattle.capture_cells.specs.declared.Cell.{Cell}
-use Rattle.rules.specs.Units.{gapLoss}
-use Rattle.capture_units.specs.Units.{beginsAfter, lastCounter, lossAfter, unitsOf, beginnings}
+use Rattle.capture_units.specs.Units.{beginsAfter, lastCounter, lossBehind, lossAfter, unitsOf, beginnings}
 use Rattle.capture_units.specs.declared.Unit.{Unit}
 use Rattle.capture_units.specs.declared.Units.{Units}
 use Rattle.capture_units.specs.State.{Stands}
@@ -34,8 +33,8 @@ Row w j r =
 
 -- ---- of the functions within
 
-abbrev pub lossOf : Units → ℕ → ℕ
-lossOf s c = pick (eqb (s .count) 0) 0 (gapLoss (s .previous % 16) (c % 16))
+abbrev pub lossOf : Units → Cell → ℕ
+lossOf s c = pick (eqb (s .count) 0) 0 (lossBehind (s .previous) c)
 
 abbrev pub begunBy : ℕ → ℕ → Unit
 begunBy time lost = record { least = time; greatest = time; packets = 1; lost = lost; damaged = 0 }

@@ -78,14 +78,17 @@ fn greater(a: u64, b: u64) -> u64
     a
 }
 
-// What a cell with this counter shows as lost: the first one shows nothing.
-fn loss(s: Units, counter: u64) -> u64
-    ensures { λ r. ⌜ r ≡ lossOf s counter ⌝ }
+// What a cell shows as lost: the first one shows nothing, and so does one with a splice mark.
+fn loss(s: Units, c: Cell) -> u64
+    ensures { λ r. ⌜ r ≡ lossOf s c ⌝ }
 {
     if s.count == 0 {
+        return 0; // no cell stands before the first
+    }
+    if c.splice {
         return 0;
     }
-    figures::gap_loss(s.previous, counter)
+    figures::gap_loss(s.previous, c.counter)
 }
 
 fn begun(time: u64, lost: u64) -> Unit
@@ -136,7 +139,7 @@ fn begin(table: &mut Table, s: Units, c: Cell) -> Units
     if MOST_UNITS as u64 <= count {
         return s;
     }
-    let lost = loss(s, c.counter);
+    let lost = loss(s, c);
     put_unit(table, count as usize, begun(c.time, lost));
     taken(s, count + 1, c.counter, lost)
 }
@@ -153,7 +156,7 @@ fn join(table: &mut Table, s: Units, c: Cell) -> Units
         return s;
     }
     let j = (count - 1) as usize;
-    let lost = loss(s, c.counter);
+    let lost = loss(s, c);
     let u = unit_at(table, j);
     put_unit(table, j, joined(u, c.time, lost));
     taken(s, count, c.counter, lost)

@@ -8,6 +8,7 @@ use lib.Dec.{leb, ltb, eqb}
 use Rattle.rules.specs.declared.Opening.{Opening}
 use Rattle.rules.specs.Bytes.{word32}
 use Rattle.rules.specs.Refusals.{Fault, none, fault, unless, _orElse_}
+use Rattle.rules.specs.Editions.{isEdition}
 use Rattle.rules.specs.Opening.{goodSize, goodTime, goodPid, openingFault}
 use Rattle.rules.specs.Reading.{allowed, readingFault, rowFault, unitFault, sceneFault}
 
@@ -23,17 +24,22 @@ of-unless : (b : Bool) (k : ℕ) → Unplaced (unless b k)
 of-unless true k = tt
 of-unless false k = refl
 
-of-three : (a b c : Bool) (k l m : ℕ) → Unplaced (unless a k orElse unless b l orElse unless c m)
-of-three a b c k l m =
-    of-either (unless a k) (unless b l orElse unless c m) (of-unless a k) (of-either (unless b l) (unless c m) (of-unless b l) (of-unless c m))
+of-three : (a b c : Bool) (k l m : ℕ) (f : Fault) → Unplaced f → Unplaced (unless a k orElse unless b l orElse unless c m orElse f)
+of-three a b c k l m f x =
+    of-either (unless a k) (unless b l orElse unless c m orElse f) (of-unless a k)
+    (of-either (unless b l) (unless c m orElse f) (of-unless b l) (of-either (unless c m) f (of-unless c m) x))
 
 pub opening : (o : Opening) → Unplaced (openingFault o)
 unfolding openingFault
-opening o = of-three (goodSize (o .width) (o .height)) (goodTime (o .time)) (goodPid (o .pid)) 1 2 3
+opening o =
+    of-three (goodSize (o .width) (o .height)) (goodTime (o .time)) (goodPid (o .pid)) 1 2 3 (unless (isEdition (o .edition)) 20)
+    (of-unless (isEdition (o .edition)) 20)
 
 pub reading : (r : List ℕ) → Unplaced (readingFault r)
 unfolding readingFault
-reading r = of-three (leb 64 (length r)) (eqb (word32 r 0) 1) (allowed r) 16 17 18
+reading r =
+    of-either (unless (leb 64 (length r)) 16) _ (of-unless (leb 64 (length r)) 16)
+    (of-either (unless (isEdition (word32 r 0)) 17) _ (of-unless (isEdition (word32 r 0)) 17) (of-unless (allowed r) 18))
 
 row : (rows j : ℕ) → Unplaced (rowFault rows j)
 unfolding rowFault

@@ -13,7 +13,7 @@ use Rattle.rules.specs.declared.SceneAnswer.the-variants as of-scene
 
 abbrev pub figuresOf : Header → List ℕ
 figuresOf h =
-    h .units ∷ h .scenes ∷ h .width ∷ h .height ∷ h .time ∷ h .pid ∷ h .pictures ∷ h .frames ∷ h .skipped ∷ h .bad ∷ h .index ∷ []
+    h .edition ∷ h .units ∷ h .scenes ∷ h .width ∷ h .height ∷ h .time ∷ h .pid ∷ h .pictures ∷ h .frames ∷ h .skipped ∷ h .bad ∷ h .index ∷ []
 
 abbrev pub unitFigures : UnitRow → List ℕ
 unitFigures u = u .least ∷ u .greatest ∷ u .size ∷ u .packets ∷ u .lost ∷ []

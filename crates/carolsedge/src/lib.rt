@@ -49,7 +49,7 @@ fn value_of(a: Answer) -> u64
 
 // ---- a sample
 
-// Opens a sample. The place of 1, 2 and 3 is 0.
+// Opens a sample. The place of 1, 2, 3 and 20 is 0.
 #[no_mangle]
 pub extern "C" fn carolsedge_open(
     walk: &mut WalkWords,
@@ -64,14 +64,16 @@ pub extern "C" fn carolsedge_open(
     height: u32,
     time: u32,
     pid: u32,
+    edition: u32,
 ) -> u32
-    ensures { λ r. ⌜ Opened (record { width = width; height = height; time = time; pid = pid }) r (record { capture = record { walk = now (walk .exit); kept = now (kept .exit); numbers = now (numbers .exit); table = now (table .exit) }; luma = now (luma .exit); sums = now (sums .exit); bins = now (bins .exit); picture = now (picture .exit) }) ⌝ }
+    ensures { λ r. ⌜ Opened (record { width = width; height = height; time = time; pid = pid; edition = edition }) r (record { capture = record { walk = now (walk .exit); kept = now (kept .exit); numbers = now (numbers .exit); table = now (table .exit) }; luma = now (luma .exit); sums = now (sums .exit); bins = now (bins .exit); picture = now (picture .exit) }) ⌝ }
 {
     let o = Opening {
         width: width,
         height: height,
         time: time,
         pid: pid,
+        edition: edition,
     };
     let a = sample::open(walk, kept, numbers, table, luma, sums, bins, picture, o);
     number_of(a)
@@ -141,10 +143,11 @@ pub extern "C" fn carolsedge_replay(script: &[u8], out: &mut [u8]) -> bool
 
 // ---- a record
 
-fn put_header(figures: &mut [u64; 11], h: Header)
+fn put_header(figures: &mut [u64; 12], h: Header)
     ensures { λ _. ⌜ now (figures .exit) ≡ figuresOf h ⌝ }
 {
     *figures = [
+        h.edition as u64,
         h.units as u64,
         h.scenes as u64,
         h.width as u64,
@@ -187,7 +190,7 @@ fn put_scene(row: &mut [u64; 7], s: SceneRow)
 
 // Tests the whole record, and gives its header's figures. The place of 16 to 19 is 0; on a refusal the lent array stands as it was.
 #[no_mangle]
-pub extern "C" fn carolsedge_read_header(bytes: &[u8], figures: &mut [u64; 11]) -> u32
+pub extern "C" fn carolsedge_read_header(bytes: &[u8], figures: &mut [u64; 12]) -> u32
     ensures { λ r. ⌜ HeaderRead (now (bytes .entry)) (now (figures .entry)) r (now (figures .exit)) ⌝ }
 {
     match record_view::read_header(bytes) {

@@ -15,7 +15,7 @@ numbered (suc k) = fault (suc k) 0
 -- r is the number of the opening's refusal
 pub record OpeningFault (o : Opening) (r : ℕ) : Type 0 where
   pub shown : openingFault o ≡ numbered r
-  pub few : r ≤ 3
+  pub few : r ≤ 20
 
 -- the sizes of an opening, also of a refused one
 abbrev pub sizesOf : Opening → Sizes

@@ -1,8 +1,11 @@
 // The figures of document 01, each from plain numbers: what the engines, the seal and the reader are made of.
+mod editions;
 mod gaps;
 mod numbers;
 pub mod opening;
 
+pub use editions::heeds_splices;
+pub use editions::is_edition;
 pub use gaps::gap_loss;
 pub use numbers::apart;
 pub use numbers::low;

@@ -2,6 +2,7 @@
 ghost use mathlib.Core.Path.{_≡_};
 ghost use Rattle.rules.specs.Opening.{goodSize, goodTime, goodPid, levelUpTo};
 ghost use Rattle.figures.specs.Opening.{OpeningFault, sizesOf};
+use crate::editions::is_edition;
 use rules::Opening;
 
 // Not refused by 1.
@@ -39,6 +40,9 @@ pub fn opening_fault(o: Opening) -> u64
     }
     if !good_pid(o.pid) {
         return 3;
+    }
+    if !is_edition(o.edition) {
+        return 20;
     }
     0
 }

@@ -12,6 +12,7 @@ use borrow.Author.Tests.{leb-true, le-leb, lt-leb}
 use Rattle.rules.specs.declared.Opening.{Opening}
 use Rattle.rules.specs.Bytes.{pick, within, total, Bytes}
 use Rattle.rules.specs.Refusals.{Fault, none, unless, _orElse_}
+use Rattle.rules.specs.Editions.{isEdition}
 use Rattle.rules.specs.Opening.{goodSize, goodTime, goodPid, openingFault, levelUpTo, level, side, columns, lines, pixelCount}
 use Rattle.rules.specs.Pictures.{pixels}
 use Rattle.rules.specs.Histograms.{histograms}
@@ -33,6 +34,7 @@ pub record Good (o : Opening) : Type 0 where
   pub time-low : 10000 ≤ o .time
   pub time-high : o .time ≤ 200000
   pub pid-high : o .pid ≤ 8191
+  pub edition : isEdition (o .edition) ≡ true
 
 passed : (b : Bool) (k : ℕ) (f : Fault) → (unless b k orElse f) ≡ none → (b ≡ true) × (f ≡ none)
 passed true k f e = (refl, e)
@@ -47,9 +49,10 @@ unfolding openingFault goodSize goodTime goodPid
 good o e =
     let W = o .width in
     let H = o .height in
-    let a = passed (goodSize W H) 1 (unless (goodTime (o .time)) 2 orElse unless (goodPid (o .pid)) 3) e in
-    let b = passed (goodTime (o .time)) 2 (unless (goodPid (o .pid)) 3) (a .1) in
-    let c = last (goodPid (o .pid)) 3 (b .1) in
+    let edition = unless (isEdition (o .edition)) 20 in
+    let a = passed (goodSize W H) 1 (unless (goodTime (o .time)) 2 orElse unless (goodPid (o .pid)) 3 orElse edition) e in
+    let b = passed (goodTime (o .time)) 2 (unless (goodPid (o .pid)) 3 orElse edition) (a .1) in
+    let c = passed (goodPid (o .pid)) 3 edition (b .1) in
     let s = both (within 30 1088 H && within 15 1920 W && leb H (2 * W)) (leb W (4 * H)) (a .0) in
     let t = both (within 30 1088 H && within 15 1920 W) (leb H (2 * W)) (s .0) in
     let u = both (within 30 1088 H) (within 15 1920 W) (t .0) in
@@ -65,7 +68,8 @@ good o e =
       wide = leb-true W (4 * H) (s .1);
       time-low = d .0;
       time-high = d .1;
-      pid-high = leb-true (o .pid) 8191 c;
+      pid-high = leb-true (o .pid) 8191 (c .0);
+      edition = last (isEdition (o .edition)) 20 (c .1);
     }
 
 -- ---- the level

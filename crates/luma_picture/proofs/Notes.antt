@@ -195,7 +195,7 @@ module _ (o : Opening) (pxs : List (List ℕ)) (px : List ℕ) {luma : List ℕ}
   words-more =
       record {
         size = length-set two (98 + i) score ∙ two-size;
-        opening = rw (scalar 12 (omega arith), scalar 13 (omega arith), scalar 14 (omega arith), scalar 15 (omega arith)) (w .opening);
+        opening = rw (scalar 12 (omega arith), scalar 13 (omega arith), scalar 14 (omega arith), scalar 15 (omega arith), scalar 16 (omega arith)) (w .opening);
         scores = score-word;
         changes = change-word;
         repeats = repeat-word;

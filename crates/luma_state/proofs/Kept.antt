@@ -80,7 +80,7 @@ stored w s =
     }
 
 opening-kept : (w z : List ℕ) → ((i : ℕ) → 12 ≤ i → getD z i 0 ≡ getD w i 0) → openingIn z ≡ openingIn w
-opening-kept w z k = rw (k 12 (omega arith), k 13 (omega arith), k 14 (omega arith), k 15 (omega arith))
+opening-kept w z k = rw (k 12 (omega arith), k 13 (omega arith), k 14 (omega arith), k 15 (omega arith), k 16 (omega arith))
 
 words-kept : {o : Opening} {pxs : List (List ℕ)} {w z : List ℕ} → length z ≡ length w → ((i : ℕ) → 12 ≤ i → getD z i 0 ≡ getD w i 0) → Words o pxs w → Words o pxs z
 words-kept {o} {pxs} {w} {z} n k h =

@@ -56,7 +56,7 @@ started =
       squares = 0;
     }
 
-no-words : (o : Opening) (luma : List ℕ) → length luma ≡ 1600 → openingIn luma ≡ o → ((i : ℕ) → 16 ≤ i → getD luma i 0 ≡ 0) → Words o [] luma
+no-words : (o : Opening) (luma : List ℕ) → length luma ≡ 1600 → openingIn luma ≡ o → ((i : ℕ) → 17 ≤ i → getD luma i 0 ≡ 0) → Words o [] luma
 unfolding cutScore changes repeats mapWord ones
 no-words o luma n e z =
     record {
@@ -111,23 +111,26 @@ open-live o {luma} {sums} {bins} {picture} f w ls lb lp zs zb zp =
 -- ---- what `open` leaves
 
 abbrev pub openedWords : Opening → ℕ → List ℕ
-openedWords o f = set (set (set (set (set (replicate 1600 0) 0 f) 12 (o .width)) 13 (o .height)) 14 (o .time)) 15 (o .pid)
+openedWords o f =
+    set (set (set (set (set (set (replicate 1600 0) 0 f) 12 (o .width)) 13 (o .height)) 14 (o .time)) 15 (o .pid)) 16 (o .edition)
 
 pub record Small (o : Opening) : Type 0 where
   pub width : o .width < 2 ^ 32
   pub height : o .height < 2 ^ 32
   pub time : o .time < 2 ^ 32
   pub pid : o .pid < 2 ^ 32
+  pub edition : o .edition < 2 ^ 32
 
 module _ (o : Opening) (f : ℕ) (small : Small o) where
   size : length (openedWords o f) ≡ 1600
   size = simp length-set (length-replicate {A = ℕ} 1600 0)
 
-  behind : (i : ℕ) → 16 ≤ i → getD (openedWords o f) i 0 ≡ 0
+  behind : (i : ℕ) → 17 ≤ i → getD (openedWords o f) i 0 ≡ 0
   unfolding Zeros
   behind i h =
       let l : List ℕ = replicate 1600 0 in
-      getD-set-other (set (set (set (set l 0 f) 12 (o .width)) 13 (o .height)) 14 (o .time)) 15 i (o .pid) 0 (λ e. omega arith)
+      getD-set-other (set (set (set (set (set l 0 f) 12 (o .width)) 13 (o .height)) 14 (o .time)) 15 (o .pid)) 16 i (o .edition) 0 (λ e. omega arith)
+      ∙ getD-set-other (set (set (set (set l 0 f) 12 (o .width)) 13 (o .height)) 14 (o .time)) 15 i (o .pid) 0 (λ e. omega arith)
       ∙ getD-set-other (set (set (set l 0 f) 12 (o .width)) 13 (o .height)) 14 i (o .time) 0 (λ e. omega arith)
       ∙ getD-set-other (set (set l 0 f) 12 (o .width)) 13 i (o .height) 0 (λ e. omega arith)
       ∙ getD-set-other (set l 0 f) 12 i (o .width) 0 (λ e. omega arith)
@@ -135,7 +138,7 @@ module _ (o : Opening) (f : ℕ) (small : Small o) where
       ∙ zeros 1600 i
 
   opening-in : openingIn (openedWords o f) ≡ o
-  opening-in = rw (mod-eq-of-lt (small .width), mod-eq-of-lt (small .height), mod-eq-of-lt (small .time), mod-eq-of-lt (small .pid))
+  opening-in = rw (mod-eq-of-lt (small .width), mod-eq-of-lt (small .height), mod-eq-of-lt (small .time), mod-eq-of-lt (small .pid), mod-eq-of-lt (small .edition))
 
   pub opened-live : OpeningFault o f → f ≡ 0 → Means (openedWords o f) (replicate 240 0) (replicate 720 0) (replicate 14104 0) o []
   opened-live w z =

@@ -46,7 +46,7 @@ loaded w =
       squares = getD w 11 0;
     }
 
--- the opening's values, words 12 to 15
+-- the opening's values, words 12 to 16
 abbrev pub openingIn : List ℕ → Opening
 openingIn w =
     record {
@@ -54,6 +54,7 @@ openingIn w =
       height = getD w 13 0 % 2 ^ 32;
       time = getD w 14 0 % 2 ^ 32;
       pid = getD w 15 0 % 2 ^ 32;
+      edition = getD w 16 0 % 2 ^ 32;
     }
 
 -- W, 2^k, w, h, and a picture's bytes

@@ -31,6 +31,8 @@ pub const TIME: usize = 14;
 
 pub const PID: usize = 15;
 
+pub const EDITION: usize = 16;
+
 pub const REPEATS: usize = 64; // the map of repeats, a bit a picture
 
 pub const SCORES: usize = 100; // the cut scores, a word a picture

@@ -30,4 +30,5 @@ pub fn begin(
     luma[layout::HEIGHT] = o.height as u64;
     luma[layout::TIME] = o.time as u64;
     luma[layout::PID] = o.pid as u64;
+    luma[layout::EDITION] = o.edition as u64;
 }

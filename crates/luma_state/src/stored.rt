@@ -51,11 +51,13 @@ pub fn opening_in(luma: &Words) -> Opening
     let height = figures::low(luma[layout::HEIGHT]);
     let time = figures::low(luma[layout::TIME]);
     let pid = figures::low(luma[layout::PID]);
+    let edition = figures::low(luma[layout::EDITION]);
     Opening {
         width: width,
         height: height,
         time: time,
         pid: pid,
+        edition: edition,
     }
 }
 

@@ -8,7 +8,7 @@ pub enum Number {
     Not,
 }
 
-// What W, H, D and PID say, where all four are numbers.
+// What W, H, D, PID and EDITION say, where all are numbers.
 pub enum Asked {
     Given(Opening),
     Not,
@@ -58,11 +58,21 @@ fn number_at(i: usize) -> Number {
     decimal(&word[..n])
 }
 
-pub fn opening() -> Asked {
+// The edition of the rules: the eighth word, and 1 where it is missing.
+fn edition_at(words: usize) -> Number {
+    if words < 9 {
+        return Number::Is(1);
+    }
+    number_at(8)
+}
+
+// What the words say; `words` is how many there are, the program's name among them.
+pub fn opening(words: usize) -> Asked {
     let w = number_at(1);
     let h = number_at(2);
     let d = number_at(3);
     let p = number_at(4);
+    let e = edition_at(words);
     let Number::Is(width) = w else {
         return Asked::Not;
     };
@@ -75,11 +85,15 @@ pub fn opening() -> Asked {
     let Number::Is(pid) = p else {
         return Asked::Not;
     };
+    let Number::Is(edition) = e else {
+        return Asked::Not;
+    };
     Asked::Given(Opening {
         width: width,
         height: height,
         time: time,
         pid: pid,
+        edition: edition,
     })
 }
 

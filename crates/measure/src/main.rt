@@ -1,5 +1,6 @@
-// measure W H D PID CAPTURE LUMA RECORD: a capture and luma pictures go in, a record comes out.
+// measure W H D PID CAPTURE LUMA RECORD [EDITION]: a capture and luma pictures go in, a record comes out.
 //
+// EDITION is that of the rules, and 1 if it is missing.
 // CAPTURE and LUMA are files; one of them may be `-`, standard input. Prints `sealed LENGTH` and writes RECORD, or
 // prints `refused NUMBER PLACE` and writes no file. A RECORD that stands already is left alone, and nothing is read.
 mod arguments;
@@ -18,7 +19,7 @@ use rules::Opening;
 fn usage() {
     io::write_all(
         STDERR_FILENO,
-        b"usage: measure W H D PID CAPTURE LUMA RECORD (D: microseconds a picture; CAPTURE or LUMA may be -, standard input)\n",
+        b"usage: measure W H D PID CAPTURE LUMA RECORD [EDITION] (D: microseconds; CAPTURE or LUMA may be -)\n",
     );
 }
 
@@ -109,11 +110,12 @@ fn measure(o: Opening, capture_name: &[u8], luma_name: &[u8], record_name: &[u8]
 }
 
 fn main() {
-    if os::arg_count() != 8 {
+    let words = os::arg_count();
+    if words != 8 && words != 9 {
         usage();
         return;
     }
-    let asked = arguments::opening();
+    let asked = arguments::opening(words);
     let Asked::Given(o) = asked else {
         usage();
         return;

@@ -13,6 +13,7 @@ use Rattle.rules.specs.declared.Header.{Header}
 use Rattle.rules.specs.declared.UnitRow.{UnitRow}
 use Rattle.rules.specs.declared.SceneRow.{SceneRow}
 use Rattle.rules.specs.Bytes.{pick, within, word32, word64, bytesOf, endToEnd, table}
+use Rattle.rules.specs.Editions.{isEdition}
 use Rattle.rules.specs.Opening.{goodSize, goodTime, goodPid}
 use Rattle.rules.specs.Record.{recordLength, sceneOffset, headerBytes, unitBytes, sceneBytes, recordBytes}
 use Rattle.rules.specs.Reading.{headerOf, unitPlace, scenePlace, unitAt, sceneAt, allowedHeader, allowedUnit}
@@ -39,7 +40,8 @@ pick-and false b = refl
 
 unfoldable pub goodHeader : Header → Bool
 goodHeader h =
-    within 1 750 (h .units) && within 1 250 (h .scenes) && within 1 750 (h .pictures)
+    isEdition (h .edition)
+    && within 1 750 (h .units) && within 1 250 (h .scenes) && within 1 750 (h .pictures)
     && goodSize (h .width) (h .height) && goodTime (h .time) && goodPid (h .pid)
     && leb (h .skipped) (h .frames)
 
@@ -65,7 +67,6 @@ word x h = word32-bytes [] [] x h
 
 -- the words of a header that are no figures, and its figures
 record Words (h : Header) (r : List ℕ) : Type 0 where
-  edition : word32 r 0 ≡ 1
   length : word32 r 4 ≡ recordLength (h .units) (h .scenes)
   unitOffset : word32 r 12 ≡ 64
   sceneOffset : word32 r 20 ≡ sceneOffset (h .units)
@@ -75,7 +76,6 @@ header-words : (h : Header) (t : List ℕ) → HeaderFits h → Words h (headerB
 unfolding headerBytes word32 bytesOf recordLength sceneOffset
 header-words h t f =
     record {
-      edition = refl;
       length = word (recordLength (h .units) (h .scenes)) (f .length);
       unitOffset = refl;
       sceneOffset = word (sceneOffset (h .units)) (omega (arith, f .length));
@@ -90,7 +90,7 @@ allowed-header h r n w e =
     let a = eq-eqb (word32 r 4) n (w .length ∙ sym e) in
     let b : eqb (word32 r 4) (recordLength (word32 r 8) (word32 r 16)) ≡ true = rw (u, s) (eq-eqb _ _ (w .length)) in
     let c : eqb (word32 r 20) (sceneOffset (word32 r 8)) ≡ true = rw u (eq-eqb _ _ (w .sceneOffset)) in
-    rw (a, w .edition, w .unitOffset, ← w .figures, b, c)
+    rw (a, w .unitOffset, ← w .figures, b, c) (simp and-true)
 
 allowed-unit : (u : UnitRow) (t : List ℕ) → UnitFits u → allowedUnit (unitBytes u ++ t) ≡ goodUnit u
 unfolding allowedUnit goodUnit unitIn
@@ -149,7 +149,7 @@ allowed-figures h us ss f =
 -- ---- what an allowed record shows
 
 pub record HeaderAllowed (n : ℕ) (r : List ℕ) : Type 0 where
-  pub edition : word32 r 0 ≡ 1
+  pub edition : isEdition (word32 r 0) ≡ true
   pub length : word32 r 4 ≡ n
   pub whole : word32 r 4 ≡ recordLength (word32 r 8) (word32 r 16)
   pub unitOffset : word32 r 12 ≡ 64
@@ -180,7 +180,7 @@ header-allowed n r e =
     let n4 = both _ _ (n12 .0) in
     let n0 = both _ _ (n4 .0) in
     record {
-      edition = eqb-true _ _ (n0 .0);
+      edition = n0 .0;
       length = eqb-true _ _ (n0 .1);
       whole = eqb-true _ _ (n4 .1);
       unitOffset = eqb-true _ _ (n12 .1);
@@ -206,12 +206,11 @@ header-again : (r : List ℕ) → EachByte r → 64 ≤ length r → HeaderAllow
 unfolding headerBytes headerOf
 header-again r b k a =
     let at : (i : ℕ) → i + 4 ≤ 64 → bytesOf 4 (word32 r i) ++ drop (i + 4) r ≡ drop i r = λ i l. bytes-word32 r i b (omega arith) in
-    let a0 = rw (a .edition) at (at 0 (omega arith)) in
     let a4 = rw (a .whole) at (at 4 (omega arith)) in
     let a12 = rw (a .unitOffset) at (at 12 (omega arith)) in
     let a20 = rw (a .scenesFrom) at (at 20 (omega arith)) in
     simp append-assoc
-    (rw (bytes-word64 r 56 b k, at 52 (omega arith), at 48 (omega arith), at 44 (omega arith), at 40 (omega arith), at 36 (omega arith), at 32 (omega arith), at 28 (omega arith), at 24 (omega arith), a20, at 16 (omega arith), a12, at 8 (omega arith), a4, a0))
+    (rw (bytes-word64 r 56 b k, at 52 (omega arith), at 48 (omega arith), at 44 (omega arith), at 40 (omega arith), at 36 (omega arith), at 32 (omega arith), at 28 (omega arith), at 24 (omega arith), a20, at 16 (omega arith), a12, at 8 (omega arith), a4, at 0 (omega arith)))
 
 unit-again : (b : List ℕ) → EachByte b → 32 ≤ length b → word32 b 28 ≡ 0 → unitBytes (unitIn b) ++ drop 32 b ≡ b
 unfolding unitBytes unitIn
@@ -351,6 +350,7 @@ header-fits : (r : List ℕ) → EachByte r → HeaderAllowed (length r) r → H
 unfolding headerOf recordLength
 header-fits r b a =
     record {
+      edition = word32-fits r 0 b;
       length = omega (arith, a .unitsLess, a .scenesLess);
       width = word32-fits r 24 b;
       height = word32-fits r 28 b;

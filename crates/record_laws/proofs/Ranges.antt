@@ -17,6 +17,7 @@ use Rattle.rules.specs.declared.UnitRow.{UnitRow}
 use Rattle.rules.specs.declared.SceneRow.{SceneRow}
 use Rattle.rules.specs.Bytes.{pick, byte, total, greatestOf, leastOf, endToEnd, All, and, Bytes, empty}
 use Rattle.rules.specs.Refusals.{Fault, none, fault, _orElse_}
+use Rattle.rules.specs.Editions.{isEdition, heedsSplices}
 use Rattle.rules.specs.Opening.{openingFault}
 use Rattle.rules.specs.Frames.{seconds, microseconds, storedLength, frameTime, frameSize, frames, behindHeader}
 use Rattle.rules.specs.Packets.{Packet, packetsFrom, packetsOf, packets, kind, isWanted, wantedOf}
@@ -36,7 +37,7 @@ use Rattle.rules.proofs.Laws.Frames.{size-least, by-frames, frames-none, frames
 use Rattle.rules.proofs.Laws.Begins.{only-all, all-append}
 use Rattle.rules.proofs.Laws.Onward.{base, base-sum, Whole, frames-whole, of-none, of-from, layout}
 use Rattle.rules.proofs.Laws.Flow.{reached, wanted-of, nine-of, few-begin}
-use Rattle.rules.proofs.Laws.Lists.{all-drop, count-few, smaller-min, larger-max}
+use Rattle.rules.proofs.Laws.Lists.{all-drop, count-few, inside, smaller-min, larger-max}
 use Rattle.rules.proofs.Laws.Clear.{none-both, clear-of, long-of, shows}
 use Rattle.rules.proofs.Laws.Bounds.{frame-count-few, skipped-few, bad-few, wanted-few}
 use Rattle.luma_laws.proofs.Sizes.{good}
@@ -133,7 +134,7 @@ units-most o capture luma h =
     let e = between capture (h .inside) in
     let n = sym (nine-of o capture) ∙ clear-of o capture (h .clear) .units in
     let f = few-begin o (packets 24 (wholeFrames capture)) (rw (all-reached 4 (omega arith) (omega arith) capture e) at n) in
-    rw (units-beginnings (wholeWanted o capture), wanted-between o capture e) f
+    rw (units-beginnings (o .edition) (wholeWanted o capture), wanted-between o capture e) f
 
 -- ---- times: seconds below 2^32 and microseconds up to 999,999
 
@@ -203,15 +204,15 @@ wanted-timed o s h c i =
 abbrev Arrived : Arrival → Type 0
 Arrived a = a .time ≤ lastTime
 
-after-arrived : (q : Packet) (ps : List Packet) → All Timed ps → All Arrived (arrivalsAfter q ps)
+after-arrived : (heeded : Bool) (q : Packet) (ps : List Packet) → All Timed ps → All Arrived (arrivalsAfter heeded q ps)
 unfolding arrivalsAfter
-after-arrived q [] h = empty
-after-arrived q (p ∷ ps) (and h hs) = and h (after-arrived p ps hs)
+after-arrived heeded q [] h = empty
+after-arrived heeded q (p ∷ ps) (and h hs) = and h (after-arrived heeded p ps hs)
 
-all-arrived : (ps : List Packet) → All Timed ps → All Arrived (arrivals ps)
+all-arrived : (heeded : Bool) (ps : List Packet) → All Timed ps → All Arrived (arrivals heeded ps)
 unfolding arrivals
-all-arrived [] h = empty
-all-arrived (p ∷ ps) (and h hs) = and h (after-arrived p ps hs)
+all-arrived heeded [] h = empty
+all-arrived heeded (p ∷ ps) (and h hs) = and h (after-arrived heeded p ps hs)
 
 -- a unit's arrivals: some, each in time
 pub data Group : List Arrival → Type 0 where
@@ -277,9 +278,12 @@ unfolding units unitsOf
 unit-ranges o capture luma h b =
     let ps = wholeWanted o capture in
     let few = wanted-few o capture in
-    let p : allPackets (map unitOf (groups (arrivals ps))) ≡ length ps = packets-total ps in
-    let l : allLost (map unitOf (groups (arrivals ps))) ≤ 14 * length ps = lost-small ps in
-    units-each (length capture) (groups (arrivals ps)) (all-groups (arrivals ps) (all-arrived ps (wanted-timed o capture b (h .clear) (h .inside)))) (omega arith) (omega arith)
+    let heeded = heedsSplices (o .edition) in
+    let all = arrivals heeded ps in
+    let p : allPackets (map unitOf (groups all)) ≡ length ps = packets-total (o .edition) ps in
+    let l : allLost (map unitOf (groups all)) ≤ 14 * length ps = lost-small (o .edition) ps in
+    let timed = wanted-timed o capture b (h .clear) (h .inside) in
+    units-each (length capture) (groups all) (all-groups all (all-arrived heeded ps timed)) (omega arith) (omega arith)
 
 pub unit-fits : {n : ℕ} {u : UnitRow} → n ≤ 268435456 → UnitRange n u → UnitFits u
 unit-fits {n} {u} h r = record { least = omega arith; greatest = omega arith; size = omega arith; packets = omega arith; lost = omega arith }
@@ -380,6 +384,7 @@ figures-fit o capture luma h bc bl =
     let b = bad-few o capture in
     record {
       header = record {
+        edition = unfold isEdition in omega (arith, inside 1 _ (o .edition) (g .edition) .1);
         length = unfold recordLength in omega arith;
         width = omega arith;
         height = omega arith;

@@ -17,6 +17,7 @@ use Rattle.record_laws.proofs.Words.{word32-bytes, word64-bytes}
 -- ---- figures that fit their words
 
 pub record HeaderFits (h : Header) : Type 0 where
+  pub edition : h .edition < 2 ^ 32
   pub length : recordLength (h .units) (h .scenes) < 2 ^ 32
   pub width : h .width < 2 ^ 32
   pub height : h .height < 2 ^ 32
@@ -66,7 +67,7 @@ long x h = word64-bytes [] [] x h
 pub header-back : (h : Header) (t : List ℕ) → HeaderFits h → headerOf (headerBytes h ++ t) ≡ h
 unfolding headerOf headerBytes word32 word64 bytesOf recordLength
 header-back h t f =
-    rw (word (h .units) (omega (arith, f .length)), word (h .scenes) (omega (arith, f .length)), word (h .width) (f .width), word (h .height) (f .height), word (h .time) (f .time), word (h .pid) (f .pid), word (h .pictures) (f .pictures), word (h .frames) (f .frames), word (h .skipped) (f .skipped), word (h .bad) (f .bad), long (h .index) (f .index))
+    rw (word (h .edition) (f .edition), word (h .units) (omega (arith, f .length)), word (h .scenes) (omega (arith, f .length)), word (h .width) (f .width), word (h .height) (f .height), word (h .time) (f .time), word (h .pid) (f .pid), word (h .pictures) (f .pictures), word (h .frames) (f .frames), word (h .skipped) (f .skipped), word (h .bad) (f .bad), long (h .index) (f .index))
 
 pub unit-back : (u : UnitRow) (t : List ℕ) → UnitFits u → unitIn (unitBytes u ++ t) ≡ u
 unfolding unitIn unitBytes word32 word64 bytesOf

@@ -15,6 +15,7 @@ use Rattle.rules.specs.declared.UnitAnswer.the-variants as of-unit
 use Rattle.rules.specs.declared.SceneAnswer.the-variants as of-scene
 use Rattle.rules.specs.Bytes.{within, word32, Bytes}
 use Rattle.rules.specs.Refusals.{none, fault, unless, _orElse_}
+use Rattle.rules.specs.Editions.{isEdition}
 use Rattle.rules.specs.Opening.{goodSize, goodTime, goodPid, openingFault}
 use Rattle.rules.specs.Capture.{units, frameCount, skippedCount}
 use Rattle.rules.specs.Pictures.{pictureCount}
@@ -29,18 +30,21 @@ use Rattle.record_laws.proofs.Ranges.{Sealable, sealable, UnitRange, un
 
 -- ---- the conditions on figures
 
-opened : (o : Opening) → openingFault o ≡ none → (goodSize (o .width) (o .height) ≡ true) × (goodTime (o .time) ≡ true) × (goodPid (o .pid) ≡ true)
+opened : (o : Opening) → openingFault o ≡ none →
+    (goodSize (o .width) (o .height) ≡ true) × (goodTime (o .time) ≡ true) × (goodPid (o .pid) ≡ true) × (isEdition (o .edition) ≡ true)
 unfolding openingFault
-opened o = go (goodSize (o .width) (o .height)) (goodTime (o .time)) (goodPid (o .pid))
+opened o = go (goodSize (o .width) (o .height)) (goodTime (o .time)) (goodPid (o .pid)) (isEdition (o .edition))
   where
     never : {k p : ℕ} → fault k p ≡ none → ⊥
     never e = let z : _≡_ {A = ℕ} 0 1 = cc in omega arith
 
-    go : (a b c : Bool) → (unless a 1 orElse unless b 2 orElse unless c 3) ≡ none → (a ≡ true) × (b ≡ true) × (c ≡ true)
-    go true true true h = (refl, refl, refl)
-    go true true false h = absurd (never h)
-    go true false c h = absurd (never h)
-    go false b c h = absurd (never h)
+    go : (a b c d : Bool) → (unless a 1 orElse unless b 2 orElse unless c 3 orElse unless d 20) ≡ none →
+        (a ≡ true) × (b ≡ true) × (c ≡ true) × (d ≡ true)
+    go true true true true h = (refl, refl, refl, refl)
+    go true true true false h = absurd (never h)
+    go true true false d h = absurd (never h)
+    go true false c d h = absurd (never h)
+    go false b c d h = absurd (never h)
 
 inside : (low high x : ℕ) → low ≤ x → x ≤ high → within low high x ≡ true
 inside low high x h k = rw (le-leb low x h, le-leb x high k)
@@ -71,7 +75,7 @@ module _ (o : Opening) (capture luma : List ℕ) (h : Sealable o capture luma) (
   unfolding goodHeader header
   good-header =
       let g = opened o (h .opened) in
-      rw (inside 1 750 (length (units o capture)) (h .unit) (units-most o capture luma h), inside 1 250 (length (scenes o luma)) (some-scene (pictureCount o luma) (scenes o luma) (h .picture) joins) (sample-few o luma (h .opened)), inside 1 750 (pictureCount o luma) (h .picture) (pictures-most o luma), g .0, g .1, g .2)
+      rw (g .3, inside 1 750 (length (units o capture)) (h .unit) (units-most o capture luma h), inside 1 250 (length (scenes o luma)) (some-scene (pictureCount o luma) (scenes o luma) (h .picture) joins) (sample-few o luma (h .opened)), inside 1 750 (pictureCount o luma) (h .picture) (pictures-most o luma), g .0, g .1, g .2)
       (le-leb (skippedCount capture) (frameCount capture) (skipped-few capture))
 
   good-figures : goodFigures (header o capture luma) (units o capture) (scenes o luma) ≡ true

@@ -16,6 +16,7 @@ use Rattle.rules.specs.declared.SceneAnswer.the-variants as of-scene
 use Rattle.rules.specs.Bytes.{pick, word32}
 use Rattle.rules.specs.Refusals.{Fault, none, fault, unless, _orElse_}
 use Rattle.rules.specs.Record.{recordLength, sceneOffset}
+use Rattle.rules.specs.Editions.{isEdition}
 use Rattle.rules.specs.Reading.{headerOf, unitAt, sceneAt, allowedHeader, allowedUnits, allowedScenes, allowedRows, allowed, readingFault, rowFault, unitFault, sceneFault, headerAnswer, unitAnswer, sceneAnswer}
 use Rattle.record_laws.proofs.Allowed.{header-allowed, record-allowed}
 use Rattle.record_reader.specs.declared.Opened.{Opened}
@@ -49,24 +50,27 @@ module _ (r : List ℕ) where
 
 -- ---- opening, test by test
 
+pub edition-is : {b : Bool} {w x : ℕ} → b ≡ isEdition w → w ≡ x → b ≡ isEdition x
+edition-is e f = rw (← f) e
+
 module _ (r : List ℕ) where
   pub opened-short : length r < 64 → Refused 16 0 ≡ openedAs r
   unfolding openedAs readingFault
   opened-short h = rw (lt-leb 64 (length r) h)
 
-  module _ (h : 64 ≤ length r) (w : ℕ) (is-w : w ≡ word32 r 0) where
-    pub opened-edition : (w ≡ 1 → ⊥) → Refused 17 0 ≡ openedAs r
+  module _ (h : 64 ≤ length r) (w : Bool) (is-w : w ≡ isEdition (word32 r 0)) where
+    pub opened-edition : w ≡ false → Refused 17 0 ≡ openedAs r
     unfolding openedAs readingFault
-    opened-edition k = rw (le-leb 64 (length r) h, ← is-w, ne-eqb w 1 k)
+    opened-edition k = rw (le-leb 64 (length r) h, ← is-w, k)
 
-    module _ (k : w ≡ 1) (b : Bool) (is-b : b ≡ allowed r) where
+    module _ (k : w ≡ true) (b : Bool) (is-b : b ≡ allowed r) where
       pub opened-wrong : b ≡ false → Refused 18 0 ≡ openedAs r
       unfolding openedAs readingFault
-      opened-wrong f = rw (le-leb 64 (length r) h, ← is-w, eq-eqb w 1 k, ← is-b, f)
+      opened-wrong f = rw (le-leb 64 (length r) h, ← is-w, k, ← is-b, f)
 
       pub opened-right : (u s : ℕ) → u ≡ word32 r 8 → s ≡ word32 r 16 → b ≡ true → Accepted u s ≡ openedAs r
       unfolding openedAs readingFault
-      opened-right u s is-u is-s f = rw (le-leb 64 (length r) h, ← is-w, eq-eqb w 1 k, ← is-b, f, is-u, is-s)
+      opened-right u s is-u is-s f = rw (le-leb 64 (length r) h, ← is-w, k, ← is-b, f, is-u, is-s)
 
 -- ---- what an answer shows
 
@@ -89,7 +93,7 @@ no-fault true true false e = absurd (let z : _≡_ {A = ℕ} 0 1 = cc in omega a
 
 pub fault-allowed : (r : List ℕ) → readingFault r ≡ none → allowed r ≡ true
 unfolding readingFault
-fault-allowed r e = no-fault (leb 64 (length r)) (eqb (word32 r 0) 1) (allowed r) e
+fault-allowed r e = no-fault (leb 64 (length r)) (isEdition (word32 r 0)) (allowed r) e
 
 fault-none : (f : Fault) (a b u s : ℕ) → orOpened f a b ≡ Accepted u s → (f ≡ none) × (u ≡ a) × (s ≡ b)
 fault-none none a b u s e = (refl, (cc), (cc))

@@ -32,7 +32,7 @@ pub allowed-accepted : (r : List ℕ) → allowed r ≡ true → readingFault r 
 unfolding readingFault recordLength
 allowed-accepted r e =
     let h = record-allowed r e .header in
-    rw (le-leb 64 (length r) (omega (arith, h .length, h .whole)), eq-eqb (word32 r 0) 1 (h .edition), e)
+    rw (le-leb 64 (length r) (omega (arith, h .length, h .whole)), h .edition, e)
 
 pub accepted-allowed : (r : List ℕ) → readingFault r ≡ none → allowed r ≡ true
 accepted-allowed r e = fault-allowed r e

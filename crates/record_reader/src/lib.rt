@@ -10,6 +10,7 @@ ghost use Rattle.record_reader.specs.Opened.{openedAs};
 use figures::good_pid;
 use figures::good_size;
 use figures::good_time;
+use figures::is_edition;
 use rules::Header;
 use rules::HeaderAnswer;
 use rules::SceneAnswer;
@@ -40,7 +41,7 @@ fn allowed_header(bytes: &[u8]) -> bool
     let units = word(bytes, 8);
     let scenes = word(bytes, 16);
     let pictures = word(bytes, 40);
-    let whole = (word(bytes, 0) == 1)
+    let whole = is_edition(words::word32(bytes, 0))
         & (size == bytes.len() as u64)
         & (size == 64 + 32 * (units + scenes))
         & (word(bytes, 12) == 64)
@@ -137,7 +138,7 @@ pub fn open(bytes: &[u8]) -> Opened
             place: 0,
         };
     }
-    if word(bytes, 0) != 1 {
+    if !is_edition(words::word32(bytes, 0)) {
         return Opened::Refused {
             number: 17,
             place: 0,
@@ -163,6 +164,7 @@ pub fn header_figures(bytes: &[u8]) -> Header
     ensures { λ r. ⌜ r ≡ headerOf (now (bytes .entry)) ⌝ }
 {
     Header {
+        edition: words::word32(bytes, 0),
         units: words::word32(bytes, 8),
         scenes: words::word32(bytes, 16),
         width: words::word32(bytes, 24),

@@ -6,7 +6,7 @@ use Rattle.rules.specs.Digits.{decimalIn, decimal, hexIn}
 use Rattle.record_text.specs.Lines.{field, fields, sampleLine, unitLine, sceneLine, refusedLine}
 
 -- sample 30 30 40000 256 2 1 0 0 4008000000000000
-pub sample-worked : sampleLine (record { units = 1; scenes = 1; width = 30; height = 30; time = 40000; pid = 256; pictures = 2; frames = 1; skipped = 0; bad = 0; index = 0x4008000000000000 }) ≡
+pub sample-worked : sampleLine (record { edition = 1; units = 1; scenes = 1; width = 30; height = 30; time = 40000; pid = 256; pictures = 2; frames = 1; skipped = 0; bad = 0; index = 0x4008000000000000 }) ≡
     115 ∷ 97 ∷ 109 ∷ 112 ∷ 108 ∷ 101 ∷ 32 ∷ 51 ∷ 48 ∷ 32 ∷ 51 ∷ 48 ∷ 32 ∷ 52 ∷ 48 ∷ 48 ∷ 48 ∷ 48 ∷ 32 ∷ 50 ∷ 53 ∷ 54 ∷ 32 ∷ 50 ∷ 32 ∷ 49 ∷ 32 ∷ 48 ∷ 32 ∷ 48 ∷ 32 ∷ 52 ∷ 48 ∷ 48 ∷ 56 ∷ 48 ∷ 48 ∷ 48 ∷ 48 ∷ 48 ∷ 48 ∷ 48 ∷ 48 ∷ 48 ∷ 48 ∷ 48 ∷ 48 ∷ 10 ∷ []
 unfolding sampleLine decimalIn decimal hexIn field fields endToEnd
 sample-worked = refl

@@ -33,14 +33,14 @@ module _ (at a b c d : ℕ) (s : List ℕ) {s₁ s₂ s₃ s₄ : List ℕ} (fit
 
 -- a header
 module _ (h : Header) (s : List ℕ) {s₁ s₂ s₃ s₄ s₅ s₆ : List ℕ} (fits : 64 ≤ length s) where
-  pub header-written : s₁ ≡ written 0 (four 1 (recordLength (h .units) (h .scenes)) (h .units) 64) s →
+  pub header-written : s₁ ≡ written 0 (four (h .edition) (recordLength (h .units) (h .scenes)) (h .units) 64) s →
       s₂ ≡ written 16 (four (h .scenes) (sceneOffset (h .units)) (h .width) (h .height)) s₁ →
       s₃ ≡ written 32 (four (h .time) (h .pid) (h .pictures) (h .frames)) s₂ →
       s₄ ≡ written 48 (bytesOf 4 (h .skipped)) s₃ → s₅ ≡ written 52 (bytesOf 4 (h .bad)) s₄ → s₆ ≡ written 56 (bytesOf 8 (h .index)) s₅ →
       s₆ ≡ over (headerBytes h) s
   unfolding headerBytes
   header-written e₁ e₂ e₃ e₄ e₅ e₆ =
-      let a = four 1 (recordLength (h .units) (h .scenes)) (h .units) 64 in
+      let a = four (h .edition) (recordLength (h .units) (h .scenes)) (h .units) 64 in
       let b = four (h .scenes) (sceneOffset (h .units)) (h .width) (h .height) in
       let d = four (h .time) (h .pid) (h .pictures) (h .frames) in
       let k = bytesOf 4 (h .skipped) in

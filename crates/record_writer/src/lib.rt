@@ -30,7 +30,7 @@ pub fn write_header(buffer: &mut [u8], h: Header)
 {
     let scenes = 64 + 32 * h.units;
     let size = 64 + 32 * (h.units + h.scenes);
-    put_four(buffer, 0, 1, size, h.units, 64);
+    put_four(buffer, 0, h.edition, size, h.units, 64);
     put_four(buffer, 16, h.scenes, scenes, h.width, h.height);
     put_four(buffer, 32, h.time, h.pid, h.pictures, h.frames);
     words::put32(buffer, 48, h.skipped);

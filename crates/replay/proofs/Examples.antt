@@ -15,7 +15,7 @@ example =
     ∷ 76 ∷ 1 ∷ 0 ∷ 0 ∷ 0 ∷ 200
     ∷ 67 ∷ 2 ∷ 0 ∷ 0 ∷ 0 ∷ 71 ∷ []
 
-opens : openingOf example ≡ record { width = 320; height = 240; time = 40000; pid = 256 }
+opens : openingOf example ≡ record { width = 320; height = 240; time = 40000; pid = 256; edition = 1 }
 unfolding example wordAt word32
 opens = refl
 

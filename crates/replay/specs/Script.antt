@@ -27,9 +27,10 @@ use Rattle.replay.specs.declared.reading.Head.the-variants.{Stop, Captur
 unfoldable pub wordAt : List ℕ → ℕ → ℕ
 wordAt script at = pick (ltb (length script) (at + 4)) 0 (word32 script at)
 
--- W, H, d and PID. The fifth word, the rule edition, is ignored
+-- W, H, d, PID and the rule edition
 abbrev pub openingOf : List ℕ → Opening
-openingOf script = record { width = wordAt script 0; height = wordAt script 4; time = wordAt script 8; pid = wordAt script 12 }
+openingOf script =
+    record { width = wordAt script 0; height = wordAt script 4; time = wordAt script 8; pid = wordAt script 12; edition = wordAt script 16 }
 
 -- the call that begins with the byte `kind` and the length n, where `left` bytes of the script are left, those five among them: S, C, L
 unfoldable pub headBy : ℕ → ℕ → ℕ → Head

@@ -38,11 +38,13 @@ pub fn opening(script: &[u8]) -> Opening
     let height = word_at(script, 4);
     let time = word_at(script, 8);
     let pid = word_at(script, 12);
+    let edition = word_at(script, 16);
     Opening {
         width: width,
         height: height,
         time: time,
         pid: pid,
+        edition: edition,
     }
 }
 

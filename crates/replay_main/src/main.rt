@@ -31,6 +31,7 @@ fn run_opening(
         height: words::word32(&words, 4),
         time: words::word32(&words, 8),
         pid: words::word32(&words, 12),
+        edition: words::word32(&words, 16),
     };
     let a = sample::open(walk, kept, numbers, table, luma, sums, bins, picture, o);
     match a {

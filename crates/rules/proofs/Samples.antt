@@ -12,10 +12,11 @@ use Rattle.rules.specs.declared.Answer.{Answer}
 use Rattle.rules.specs.declared.Answer.the-variants.{Done, Refused}
 use Rattle.rules.specs.Refusals.{Fault, none, fault}
 use Rattle.rules.specs.Bytes.{word32, word64, network16, bytesOf, total, greatestOf, leastOf, count, only, table, parts, endToEnd}
+use Rattle.rules.specs.Editions.{isEdition, heedsSplices}
 use Rattle.rules.specs.Opening.{goodSize, goodTime, goodPid, openingFault, openAnswer, levelUpTo, level, side, area, columns, lines}
 use Rattle.rules.specs.Frames.{seconds, microseconds, storedLength, frameTime, body, frameSize, framesUpTo, restUpTo, frames, rest, behindHeader}
-use Rattle.rules.specs.Packets.{Packet, ipLength, udpLength, carries, skipped, packetsFrom, packetsIn, packetsOf, packets, shown, whole, identifier, kind, startMark, counter, wantedOf, badOf}
-use Rattle.rules.specs.Units.{gapLoss, arrivalsAfter, arrivals, groups, leastTime, unitOf, unitsOf, beginnings}
+use Rattle.rules.specs.Packets.{Packet, ipLength, udpLength, carries, skipped, packetsFrom, packetsIn, packetsOf, packets, shown, whole, identifier, kind, startMark, counter, spliceMark, wantedOf, badOf}
+use Rattle.rules.specs.Units.{gapLoss, lossBetween, arrivalsAfter, arrivals, groups, leastTime, unitOf, unitsOf, beginnings}
 use Rattle.rules.specs.Capture.{wholeFrames, unfinished, allFrames, wholeWanted, shownWanted, units, frameCount, skippedCount, badCount, showing, tooLong, wrongMagic, wrongLink, wrongFrameHeader, wrongFrame, tooManyUnits, beginsAt, captureFault, captureInside}
 use Rattle.rules.specs.Pictures.{pictureSize, pictureCount, pictures, lumaFault, rows, band, blockSum, pixelIn, pixel, pixelLine, pixels}
 use Rattle.rules.specs.Histograms.{third, tileAt, bin, inTileFrom, inTile, inBin, histogram, histograms}
@@ -58,8 +59,21 @@ frameWith secs micros n cells =
 abbrev packetOf : ℕ → ℕ → ℕ → List ℕ
 packetOf pid mark n = 0x47 ∷ (mark + pid / 256) ∷ (pid % 256) ∷ (0x10 + n) ∷ replicate 184 0xFF
 
+-- a packet of this identifier with its counter n and a discontinuity indicator in an adaptation field of m bytes
+abbrev splicedOf : ℕ → ℕ → ℕ → List ℕ
+splicedOf pid n m = 0x47 ∷ (pid / 256) ∷ (pid % 256) ∷ (0x30 + n) ∷ m ∷ 0x80 ∷ replicate 182 0xFF
+
+abbrev openedBy : ℕ → ℕ → ℕ → ℕ → ℕ → Opening
+openedBy e w h d p = record { width = w; height = h; time = d; pid = p; edition = e }
+
 abbrev opened : ℕ → ℕ → ℕ → ℕ → Opening
-opened w h d p = record { width = w; height = h; time = d; pid = p }
+opened w h d p = openedBy 1 w h d p
+
+-- what is lost in all, under an edition, of packets with the counters 3, 9 and 11, the second with an indicator in m bytes
+abbrev lostBy : ℕ → ℕ → List ℕ
+lostBy e m =
+    map (λ u. u .lost)
+    (units (openedBy e 30 30 40000 256) (goodHeader ++ frameWith 0 0 3 (packetOf 256 0x40 3 ++ splicedOf 256 9 m ++ packetOf 256 0 11)))
 
 words : List ℕ → List ℕ
 words ns = endToEnd (map le32 ns)
@@ -153,6 +167,16 @@ samples =
     }
     ∷ record { rule = run (opened 640 30 9999 8192) [] ++ run (opened 640 480 40000 8192) []; paper = 1 ∷ 0 ∷ 3 ∷ 0 ∷ [] }
     ∷ record { rule = run (opened 640 480 9999 8192) []; paper = 2 ∷ 0 ∷ [] }
+    -- 20: editions 0 and 3, behind 3; 1 and 2 pass
+    ∷ record {
+      rule = run (openedBy 0 640 480 40000 256) [] ++ run (openedBy 3 640 480 40000 256) [] ++ run (openedBy 3 640 480 40000 8192) [];
+      paper = 20 ∷ 0 ∷ 20 ∷ 0 ∷ 3 ∷ 0 ∷ [];
+    }
+    ∷ record { rule = run (openedBy 1 640 480 40000 256) [] ++ run (openedBy 2 640 480 40000 256) []; paper = 0 ∷ 0 ∷ 0 ∷ 0 ∷ [] }
+    -- a splice: its own gap of 6 loses 5 under edition 1 and nothing under 2, the gap of 2 behind it loses one; no indicator in no bytes
+    ∷ record { rule = lostBy 1 7 ++ lostBy 2 7 ++ lostBy 2 0; paper = 6 ∷ 1 ∷ 6 ∷ [] }
+    -- 17: the reader takes edition 2 and not 3
+    ∷ record { rule = toldFault (readingFault (set showRecord 0 2)) ++ toldFault (readingFault (set showRecord 0 3)); paper = 0 ∷ 0 ∷ 17 ∷ 0 ∷ [] }
     -- 5: A1 B2 C3 D4, shown by the fourth byte alone, and by the first of the four that is wrong
     ∷ record {
       rule = run small (feedCapture (0xA1 ∷ 0xB2 ∷ 0xC3 ∷ []) ∷ feedCapture (0xD4 ∷ 0 ∷ []) ∷ feedCapture [] ∷ []);
@@ -185,7 +209,7 @@ samples =
 
 -- the theorem: the rules give what the paper says
 pub sampled : map (λ (c : Case). c .rule) samples ≡ map (λ (c : Case). c .paper) samples
-unfolding words run marks oneFrame picture showRecord sealing feeding samples openAnswer unitPlace scenePlace allowedHeader allowedUnit allowedUnits allowedScene allowedScenes allowedRows allowed readingFault rowFault unitFault sceneFault word32 word64 network16 bytesOf total greatestOf leastOf count only table parts endToEnd goodSize goodTime goodPid openingFault levelUpTo level side area columns lines seconds microseconds storedLength frameTime body frameSize framesUpTo restUpTo frames rest behindHeader ipLength udpLength carries skipped packetsFrom packetsIn packetsOf packets shown whole identifier kind startMark counter wantedOf badOf gapLoss arrivalsAfter arrivals groups leastTime unitOf unitsOf beginnings wholeFrames unfinished allFrames wholeWanted shownWanted units frameCount skippedCount badCount showing tooLong wrongMagic wrongLink wrongFrameHeader wrongFrame tooManyUnits captureFault captureInside pictureSize pictureCount pictures lumaFault rows band blockSum pixelIn pixel pixelLine pixels third tileAt bin inTileFrom inTile inBin histogram histograms binsApart perMillion tileDifference tileDifferences insert sorted fifth difference leastOfSix cutScore cutScores startsScene isStart startsFrom starts longestFrom sceneOf scenesAt scenesOf same squares spread rootFrom root change repeatsAfter changesAfter repeats changes icOf ipOf valueOf indexOf indexBits recordLength sceneOffset headerBytes unitBytes sceneBytes recordBytes reduced scenesIn scenes unrepeated indexFrom index header sealed sealedLength captureUnfinished noPacket lumaUnfinished noPicture noRoom sealFault captureAnswer lumaAnswer sealAnswer over sealedBuffer expected add mul div ofInt toBits
+unfolding words run marks oneFrame picture showRecord sealing feeding samples openAnswer unitPlace scenePlace allowedHeader allowedUnit allowedUnits allowedScene allowedScenes allowedRows allowed readingFault rowFault isEdition unitFault sceneFault word32 word64 network16 bytesOf total greatestOf leastOf count only table parts endToEnd goodSize goodTime goodPid openingFault levelUpTo level side area columns lines seconds microseconds storedLength frameTime body frameSize framesUpTo restUpTo frames rest behindHeader ipLength udpLength carries skipped packetsFrom packetsIn packetsOf packets shown whole identifier kind startMark counter wantedOf badOf gapLoss lossBetween heedsSplices spliceMark arrivalsAfter arrivals groups leastTime unitOf unitsOf beginnings wholeFrames unfinished allFrames wholeWanted shownWanted units frameCount skippedCount badCount showing tooLong wrongMagic wrongLink wrongFrameHeader wrongFrame tooManyUnits captureFault captureInside pictureSize pictureCount pictures lumaFault rows band blockSum pixelIn pixel pixelLine pixels third tileAt bin inTileFrom inTile inBin histogram histograms binsApart perMillion tileDifference tileDifferences insert sorted fifth difference leastOfSix cutScore cutScores startsScene isStart startsFrom starts longestFrom sceneOf scenesAt scenesOf same squares spread rootFrom root change repeatsAfter changesAfter repeats changes icOf ipOf valueOf indexOf indexBits recordLength sceneOffset headerBytes unitBytes sceneBytes recordBytes reduced scenesIn scenes unrepeated indexFrom index header sealed sealedLength captureUnfinished noPacket lumaUnfinished noPicture noRoom sealFault captureAnswer lumaAnswer sealAnswer over sealedBuffer expected add mul div ofInt toBits
 sampled = refl
 
 -- 4 and 10, whose small inputs are too long to be written out: by their length. One byte past 268,435,456, and 751 pictures

@@ -5,6 +5,7 @@ use mathlib.Core.List.{List, [], _∷_, _++_, map}
 use lib.ListN.{length, replicate, set}
 use lib.Dec.{ltb}
 use Rattle.rules.specs.Bytes.{pick, word32, word64, bytesOf, table, endToEnd}
+use Rattle.rules.specs.Editions.{isEdition}
 use Rattle.rules.specs.Opening.{goodSize, goodTime, goodPid}
 use Rattle.rules.specs.Record.{recordLength, sceneOffset, headerBytes, unitBytes, sceneBytes, recordBytes}
 use Rattle.rules.specs.Reading.{headerOf, unitPlace, scenePlace, unitAt, sceneAt, readingFault}
@@ -23,6 +24,7 @@ example : ℕ → List ℕ
 example n =
     recordBytes
     (record {
+      edition = 1;
       units = n;
       scenes = 1;
       width = 30;
@@ -88,5 +90,5 @@ sheets =
 
 -- the theorem: every entry's rule gives what document 02 says
 pub printed : map (λ (c : Case). c .rule) sheets ≡ map (λ (c : Case). c .paper) sheets
-unfolding sheets example spaces header unit scene text word32 word64 bytesOf table endToEnd goodSize goodTime goodPid recordLength sceneOffset headerBytes unitBytes sceneBytes recordBytes headerOf unitPlace scenePlace unitAt sceneAt readingFault allowedHeader allowedUnit allowedUnits allowedScene allowedScenes allowedRows allowed noRoom over decimalIn decimal hexIn aligned columns headerFields unitFields sceneFields ending line headerLine unitLine sceneLine blankLine recordLines lineCount pagesFor blanksFor sheetLines sheetOf sheetLength sheetAnswer sheetBuffer
+unfolding sheets example spaces header unit scene text isEdition word32 word64 bytesOf table endToEnd goodSize goodTime goodPid recordLength sceneOffset headerBytes unitBytes sceneBytes recordBytes headerOf unitPlace scenePlace unitAt sceneAt readingFault allowedHeader allowedUnit allowedUnits allowedScene allowedScenes allowedRows allowed noRoom over decimalIn decimal hexIn aligned columns headerFields unitFields sceneFields ending line headerLine unitLine sceneLine blankLine recordLines lineCount pagesFor blanksFor sheetLines sheetOf sheetLength sheetAnswer sheetBuffer
 printed = refl

@@ -33,7 +33,7 @@ shownWanted o capture = wantedOf o (shown (packets 24 (allFrames capture)))
 -- ---- the figures
 
 unfoldable pub units : Opening → List ℕ → List UnitRow
-units o capture = unitsOf (wholeWanted o capture)
+units o capture = unitsOf (o .edition) (wholeWanted o capture)
 
 -- word 44 of the record
 unfoldable pub frameCount : List ℕ → ℕ

@@ -1,10 +1,11 @@
--- Opening: refusals 1 to 3, the level k and the reduced size w by h.
+-- Opening: refusals 1 to 3 and 20, the level k and the reduced size w by h.
 use Prim.Native.Nat.{ℕ, zero, suc, _*_, _/_, _^_}
 use mathlib.Core.Bool.{Bool, _&&_}
 use lib.Dec.{leb}
 use Rattle.rules.specs.declared.Opening.{Opening}
 use Rattle.rules.specs.declared.Answer.{Answer}
 use Rattle.rules.specs.Bytes.{pick, within}
+use Rattle.rules.specs.Editions.{isEdition}
 use Rattle.rules.specs.Refusals.{Fault, unless, _orElse_, answer}
 
 -- not refused by 1, by 2, by 3
@@ -17,9 +18,13 @@ goodTime d = within 10000 200000 d
 unfoldable pub goodPid : ℕ → Bool
 goodPid p = leb p 8191
 
--- the opening's refusal: 1, 2, 3 are tried in this order
+-- the opening's refusal: 1, 2, 3 and 20 (document 02, R-2) are tried in this order
 unfoldable pub openingFault : Opening → Fault
-openingFault o = unless (goodSize (o .width) (o .height)) 1 orElse unless (goodTime (o .time)) 2 orElse unless (goodPid (o .pid)) 3
+openingFault o =
+    unless (goodSize (o .width) (o .height)) 1
+    orElse unless (goodTime (o .time)) 2
+    orElse unless (goodPid (o .pid)) 3
+    orElse unless (isEdition (o .edition)) 20
 
 -- what an opening answers
 unfoldable pub openAnswer : Opening → Answer

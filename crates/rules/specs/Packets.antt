@@ -129,6 +129,10 @@ startMark b = leb 64 (byte b 1 % 128)
 unfoldable pub counter : List ℕ → ℕ
 counter b = byte b 3 % 16
 
+-- splice mark (document 02, R-2: the discontinuity indicator): 0x20 in byte 3, byte 4 above 0, and 0x80 in byte 5
+unfoldable pub spliceMark : List ℕ → Bool
+spliceMark b = leb 32 (byte b 3 % 64) && (not (eqb (byte b 4) 0) && leb 128 (byte b 5 % 256))
+
 -- the packets of PID
 unfoldable pub wantedOf : Opening → List Packet → List Packet
 wantedOf o ps = only (λ p. isWanted (kind o (p .bytes))) ps

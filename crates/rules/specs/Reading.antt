@@ -15,6 +15,7 @@ use Rattle.rules.specs.declared.UnitAnswer.the-variants as of-unit
 use Rattle.rules.specs.declared.SceneAnswer.the-variants as of-scene
 use Rattle.rules.specs.Bytes.{pick, within, word32, word64}
 use Rattle.rules.specs.Refusals.{Fault, none, fault, unless, _orElse_}
+use Rattle.rules.specs.Editions.{isEdition}
 use Rattle.rules.specs.Opening.{goodSize, goodTime, goodPid}
 use Rattle.rules.specs.Record.{recordLength, sceneOffset}
 
@@ -22,6 +23,7 @@ use Rattle.rules.specs.Record.{recordLength, sceneOffset}
 unfoldable pub headerOf : List ℕ → Header
 headerOf r =
     record {
+      edition = word32 r 0;
       units = word32 r 8;
       scenes = word32 r 16;
       width = word32 r 24;
@@ -65,7 +67,7 @@ sceneAt r j =
 -- the header's conditions; `size` is the slice's length
 unfoldable pub allowedHeader : ℕ → List ℕ → Bool
 allowedHeader size r =
-    eqb (word32 r 0) 1
+    isEdition (word32 r 0)
     && eqb (word32 r 4) size && eqb (word32 r 4) (recordLength (word32 r 8) (word32 r 16))
     && eqb (word32 r 12) 64 && eqb (word32 r 20) (sceneOffset (word32 r 8))
     && within 1 750 (word32 r 8) && within 1 250 (word32 r 16) && within 1 750 (word32 r 40)
@@ -100,10 +102,10 @@ allowedRows r =
 unfoldable pub allowed : List ℕ → Bool
 allowed r = let rows = allowedRows r in pick (allowedHeader (length r) r) rows false
 
--- ---- refusals: 16 under 64 bytes, 17 another edition, 18 not allowed, 19 a row that is not there
+-- ---- refusals: 16 under 64 bytes, 17 an edition that there is not, 18 not allowed, 19 a row that is not there
 
 unfoldable pub readingFault : List ℕ → Fault
-readingFault r = unless (leb 64 (length r)) 16 orElse unless (eqb (word32 r 0) 1) 17 orElse unless (allowed r) 18
+readingFault r = unless (leb 64 (length r)) 16 orElse unless (isEdition (word32 r 0)) 17 orElse unless (allowed r) 18
 
 unfoldable pub rowFault : ℕ → ℕ → Fault
 rowFault rows j = unless (ltb j rows) 19

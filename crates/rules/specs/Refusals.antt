@@ -1,5 +1,5 @@
 -- Refusals: a number of document 01's table with its place, and the answers that are made of them. Each number stands at the definition that gives it:
---   opening  1, 2, 3  Opening.openingFault
+--   opening  1, 2, 3, 20  Opening.openingFault
 --   capture  4 Capture.tooLong, 5 Capture.wrongMagic, 6 Capture.wrongLink, 7 and 8 Capture.wrongFrameHeader, 9 Capture.tooManyUnits (beginsAt)
 --   luma     10 Pictures.lumaFault
 --   seal     11 Seal.captureUnfinished, 12 Seal.noPacket, 13 Seal.lumaUnfinished, 14 Seal.noPicture, 15 Seal.noRoom
@@ -32,12 +32,16 @@ abbrev pub answer : Fault → ℕ → Answer
 answer none n = Done n
 answer (fault k p) n = Refused k p
 
--- ---- the table's numbers: 1 to 19
+-- ---- the table's numbers, from 1 on
+
+-- the last of them: 20 joined with document 02, R-2
+abbrev pub lastNumber : ℕ
+lastNumber = 20
 
 abbrev pub InTable : ℕ → Type 0
-InTable k = (1 ≤ k) × (k ≤ 19)
+InTable k = (1 ≤ k) × (k ≤ lastNumber)
 
 -- a refusal's number. Those of the rules are in the table (proofs/Laws/Listed); a state that somebody else wrote on can
 -- hold another, and gets 18
 abbrev pub listed : ℕ → ℕ
-listed k = pick (within 1 19 k) k 18
+listed k = pick (within 1 lastNumber k) k 18

@@ -51,6 +51,7 @@ index o capture luma = indexFrom (units o capture) (unrepeated o luma) (pictureC
 unfoldable pub header : Opening → List ℕ → List ℕ → Header
 header o capture luma =
     record {
+      edition = o .edition;
       units = length (units o capture);
       scenes = length (scenes o luma);
       width = o .width;

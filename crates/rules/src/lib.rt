@@ -1,12 +1,17 @@
 // The types that the rules of document 01 speak of. The rules themselves are specs/, one file a chapter, in document 01's order.
 
-// What a sample is opened with: width W, height H, display time d of a picture in microseconds, packet identifier PID.
+// What a sample is opened with: width W, height H, display time d of a picture in microseconds, packet identifier PID, and the edition of the rules that it is
+// measured by (document 02, R-2).
 pub struct Opening {
     pub width: u32,
     pub height: u32,
     pub time: u32,
     pub pid: u32,
+    pub edition: u32,
 }
+
+// The last number of the table of refusals.
+pub const LAST_NUMBER: u64 = 20;
 
 // What a call answers: done, with its length, or refused, with document 01's number and the place.
 pub enum Answer {
@@ -41,8 +46,9 @@ pub struct Index {
     pub value: f64,
 }
 
-// The figures of a record's header. Edition 1, the record's length (4) and the rows' offsets (12, 20) follow from these.
+// The figures of a record's header. The record's length (4) and the rows' offsets (12, 20) follow from these.
 pub struct Header {
+    pub edition: u32, // 0
     pub units: u32, // 8
     pub scenes: u32, // 16
     pub width: u32, // 24: W

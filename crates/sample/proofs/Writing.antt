@@ -16,6 +16,7 @@ use Rattle.rules.specs.declared.UnitRow.{UnitRow}
 use Rattle.rules.specs.declared.SceneRow.{SceneRow}
 use Rattle.rules.specs.Bytes.{count}
 use Rattle.rules.specs.Refusals.{none, fault}
+use Rattle.rules.specs.Editions.{heedsSplices}
 use Rattle.rules.specs.Capture.{units}
 use Rattle.rules.specs.Pictures.{pictureCount}
 use Rattle.rules.specs.Histograms.{histograms}
@@ -79,7 +80,7 @@ pub index-is-rule : (table luma : List ℕ) (o : Opening) (fedCapture fedLuma : 
     (i : Index) → IndexIn c l i → i ≡ index o fedCapture fedLuma
 unfolding index indexFrom unrepeated
 index-is-rule table luma o fedCapture fedLuma c l fig k some-units some-pictures i e =
-    let ps = ofPid (o .pid) (wholeCells fedCapture) in
+    let ps = ofPid (heedsSplices (o .edition)) (o .pid) (wholeCells fedCapture) in
     let us : units o fedCapture ≡ unitsOf ps = units-cells o fedCapture ∙ unfold unitsIn in refl in
     let few = fig .few in
     let fm : l .pictures ≤ 750 = omega (arith, k .pictures, pictures-most o fedLuma) in
@@ -132,7 +133,7 @@ module _ (table luma : List ℕ) (o : Opening) (fedCapture fedLuma : List ℕ) (
   scenes-are = refl
 
   abbrev cells : List Cell
-  cells = ofPid (o .pid) (wholeCells fedCapture)
+  cells = ofPid (heedsSplices (o .edition)) (o .pid) (wholeCells fedCapture)
 
   units-are : units o fedCapture ≡ unitsOf cells
   units-are = units-cells o fedCapture ∙ unfold unitsIn in refl

@@ -51,6 +51,7 @@ IndexIn c l i = IndexFrom (l .fresh % 2 ^ 32) (l .pictures % 2 ^ 32) (c .packets
 abbrev pub headerBy : Opening → Summary → ℕ → ℕ → ℕ → Header
 headerBy o c pictures scenes index =
     record {
+      edition = o .edition;
       units = c .units;
       scenes = scenes;
       width = o .width;

@@ -34,7 +34,15 @@ pub fn open(
     ensures { λ r. ⌜ OpenPost o r (record { capture = record { walk = now (walk .exit); kept = now (kept .exit); numbers = now (numbers .exit); table = now (table .exit) }; luma = now (luma .exit); sums = now (sums .exit); bins = now (bins .exit); picture = now (picture .exit) }) ⌝ }
 {
     let number = figures::opening_fault(o);
-    capture::open(walk, kept, numbers, table, number, o.pid as u64);
+    capture::open(
+        walk,
+        kept,
+        numbers,
+        table,
+        number,
+        o.pid as u64,
+        o.edition as u64,
+    );
     luma::open(luma, sums, bins, picture, o)
 }
 
@@ -73,7 +81,7 @@ pub fn listed_number(number: u64) -> u64
     if number < 1 {
         return 18;
     }
-    if 19 < number {
+    if rules::LAST_NUMBER < number {
         return 18;
     }
     number
@@ -105,6 +113,7 @@ fn header_of(o: Opening, c: Summary, pictures: u32, scenes: u32, i: Index) -> He
     ensures { λ r. ⌜ r ≡ headerBy o c pictures scenes (indexBits i) ⌝ }
 {
     Header {
+        edition: o.edition,
         units: c.units,
         scenes: scenes,
         width: o.width,

@@ -58,7 +58,7 @@ pub fn luma(opening: Opening, piece: usize, times: usize) {
 
 /// Feeds frames of seven cells, and prints the best speed.
 pub fn capture(piece: usize, times: usize) {
-    let opening = Opening { width: 30, height: 30, display_time: 40_000, pid: 256 };
+    let opening = Opening { width: 30, height: 30, display_time: 40_000, pid: 256, edition: 1 };
     let (header, records) = capture_bytes();
     let rounds = ROUND / records.len();
     let mut best = Best::default();

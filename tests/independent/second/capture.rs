@@ -5,7 +5,7 @@
 //! in `partial`. Payload is passed over by count and never looked at. Every refusal from 5 to 9
 //! stands at the last byte of the field that shows it, which is the last byte taken in.
 
-use crate::opening::Refusal;
+use crate::opening::{Opening, Refusal};
 use crate::units::{TooManyUnits, Units};
 
 /// Most bytes of a capture; the next one is refusal 4.
@@ -16,6 +16,9 @@ pub const CELL: usize = 188;
 
 /// Bytes of a cell that are looked at.
 const CELL_HEAD: usize = 4;
+
+/// Bytes of an adaptation field that are looked at: its length, its flags.
+const ADAPTATION: usize = 2;
 
 /// Ethernet, IPv4 and UDP headers: cells begin behind them.
 pub const FRAME_HEAD: usize = 42;
@@ -29,6 +32,7 @@ enum Field {
     StoredLength,
     FrameHead,
     CellHead,
+    Adaptation,
 }
 
 impl Field {
@@ -38,12 +42,15 @@ impl Field {
             Field::Time => 8,
             Field::FrameHead => FRAME_HEAD,
             Field::CellHead => CELL_HEAD,
+            Field::Adaptation => ADAPTATION,
         }
     }
 }
 
 pub struct CaptureSide {
     pid: u32,
+    /// Whether a splice forgives a gap: from edition 2 on.
+    splices: bool,
     /// Bytes taken in: the offset of the next byte.
     taken: usize,
     /// Bytes to pass over before the next field.
@@ -64,9 +71,10 @@ pub struct CaptureSide {
 }
 
 impl CaptureSide {
-    pub fn new(pid: u32) -> Self {
+    pub fn new(opening: &Opening) -> Self {
         CaptureSide {
-            pid,
+            pid: opening.pid,
+            splices: opening.edition >= 2,
             taken: 0,
             skip: 0,
             field: Field::Magic,
@@ -165,8 +173,15 @@ impl CaptureSide {
             Field::StoredLength => self.begin_record(word(0) as usize),
             Field::FrameHead => self.begin_frame(bytes),
             Field::CellHead => {
-                self.take_cell(bytes).map_err(|TooManyUnits| self.refused_here(9))?;
-                self.finish_cell();
+                if self.take_cell(bytes).map_err(|TooManyUnits| self.refused_here(9))? {
+                    self.expect(0, Field::Adaptation);
+                } else {
+                    self.finish_cell(CELL - CELL_HEAD);
+                }
+            }
+            Field::Adaptation => {
+                self.take_adaptation(bytes);
+                self.finish_cell(CELL - CELL_HEAD - ADAPTATION);
             }
         }
         Ok(())
@@ -210,7 +225,9 @@ impl CaptureSide {
         let (cells, rest) = piece.split_at(whole * CELL);
         for (number, cell) in cells.chunks_exact(CELL).enumerate() {
             let last_of_head = self.taken + number * CELL + CELL_HEAD - 1;
-            self.take_cell(cell).map_err(|TooManyUnits| Refusal::at(9, last_of_head as u64))?;
+            if self.take_cell(cell).map_err(|TooManyUnits| Refusal::at(9, last_of_head as u64))? {
+                self.take_adaptation(&cell[CELL_HEAD..]);
+            }
         }
         self.taken += cells.len();
         self.cells_left -= whole;
@@ -220,27 +237,35 @@ impl CaptureSide {
         Ok(rest)
     }
 
-    /// After the head of a cell: its payload is passed over, then comes a cell or the next record.
-    fn finish_cell(&mut self) {
+    /// The rest of a cell is passed over, then comes a cell or the next record.
+    fn finish_cell(&mut self, rest: usize) {
         self.cells_left -= 1;
         if self.cells_left == 0 {
-            self.expect(CELL - CELL_HEAD + self.padding, Field::Time);
+            self.expect(rest + self.padding, Field::Time);
         } else {
-            self.expect(CELL - CELL_HEAD, Field::CellHead);
+            self.expect(rest, Field::CellHead);
         }
     }
 
-    /// Looks at the four head bytes of a cell.
-    fn take_cell(&mut self, cell: &[u8]) -> Result<(), TooManyUnits> {
+    /// Looks at the four head bytes of a cell; true if its adaptation field matters.
+    fn take_cell(&mut self, cell: &[u8]) -> Result<bool, TooManyUnits> {
         if cell[0] != 0x47 {
             self.bad_cells += 1;
-            return Ok(());
+            return Ok(false);
         }
         let identifier = u32::from(cell[1] & 0x1F) * 256 + u32::from(cell[2]);
         if identifier != self.pid {
-            return Ok(());
+            return Ok(false);
         }
-        self.units.take_cell(self.time, cell[1] & 0x40 != 0, cell[3] & 0x0F)
+        self.units.take_cell(self.time, cell[1] & 0x40 != 0, cell[3] & 0x0F)?;
+        Ok(self.splices && cell[3] & 0x20 != 0)
+    }
+
+    /// Looks at the front of an adaptation field: its length above 0, and the discontinuity indicator.
+    fn take_adaptation(&mut self, field: &[u8]) {
+        if field[0] > 0 && field[1] & 0x80 != 0 {
+            self.units.forgive_gap();
+        }
     }
 }
 

@@ -29,7 +29,7 @@ measure-again replay < SCRIPT
 measure-again show < RECORD
 measure-again sheet < RECORD
 measure-again sheet-into ROOM < RECORD
-measure-again measure W H D PID CAPTURE LUMA RECORD
+measure-again measure W H D PID CAPTURE LUMA RECORD [EDITION]
 measure-again make SEED KIND > SCRIPT
 measure-again kinds
 measure-again recut SEED < SCRIPT > SCRIPT
@@ -72,8 +72,9 @@ fn run(arguments: &[&str]) -> io::Result<bool> {
             lent::print_call(&mut out, "sheet", room, |buffer| sheet::write(&record, buffer))?;
         }
         ["kinds"] => print_kinds(&mut out)?,
-        ["measure", width, height, display_time, pid, capture, luma, record] => {
-            let Some(opening) = opening_of([width, height, display_time, pid]) else {
+        ["measure", width, height, display_time, pid, capture, luma, record, ref more @ ..] if more.len() < 2 => {
+            let edition = more.first().copied().unwrap_or("1");
+            let Some(opening) = opening_of([width, height, display_time, pid, edition]) else {
                 return Ok(false);
             };
             measure(opening, capture, luma, record)?;
@@ -115,12 +116,13 @@ fn print_kinds(out: &mut impl Write) -> io::Result<()> {
     writeln!(out, "{}: captures of 256 MiB, to be run once for each of seeds 0 to 3", make::LIMIT)
 }
 
-fn opening_of(values: [&str; 4]) -> Option<Opening> {
+fn opening_of(values: [&str; 5]) -> Option<Opening> {
     Some(Opening {
         width: values[0].parse().ok()?,
         height: values[1].parse().ok()?,
         display_time: values[2].parse().ok()?,
         pid: values[3].parse().ok()?,
+        edition: values[4].parse().ok()?,
     })
 }
 
@@ -155,7 +157,7 @@ fn feed_file(path: &str, mut feed: impl FnMut(&[u8]) -> Result<usize, Refusal>) 
 fn bench(what: &[&str]) -> Option<()> {
     match *what {
         ["luma", width, height, piece, times] => {
-            let opening = opening_of([width, height, "40000", "256"])?;
+            let opening = opening_of([width, height, "40000", "256", "1"])?;
             opening.check().ok()?;
             bench::luma(opening, positive(piece)?, positive(times)?);
         }

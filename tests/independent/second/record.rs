@@ -1,7 +1,7 @@
 //! The record: writing it, reading it, showing it.
 
 use crate::film::Scene;
-use crate::opening::{Opening, Refusal};
+use crate::opening::{Opening, Refusal, EDITIONS};
 use crate::units::{Unit, CELL_PAYLOAD};
 use std::fmt::Write;
 
@@ -51,7 +51,8 @@ pub fn write(figures: &Figures, units: &[Unit], scenes: &[Scene]) -> Vec<u8> {
     let mut words = |words: &[u32]| record.extend(words.iter().flat_map(|word| word.to_le_bytes()));
     let scene_offset = HEADER + ROW * units.len();
     let opening = &figures.opening;
-    words(&[1, length as u32, units.len() as u32, HEADER as u32, scenes.len() as u32, scene_offset as u32]);
+    words(&[opening.edition, length as u32]);
+    words(&[units.len() as u32, HEADER as u32, scenes.len() as u32, scene_offset as u32]);
     words(&[opening.width, opening.height, opening.display_time, opening.pid]);
     words(&[figures.pictures, figures.records, figures.passed_over, figures.bad_cells]);
     words(&halves(figures.index_bits));
@@ -85,7 +86,7 @@ impl<'r> View<'r> {
         if record.len() < HEADER {
             return Err(Refusal::unplaced(16));
         }
-        if word(record, 0) != 1 {
+        if !EDITIONS.contains(&word(record, 0)) {
             return Err(Refusal::unplaced(17));
         }
         let view = View { record, units: word(record, 8) as usize, scenes: word(record, 16) as usize };
@@ -102,7 +103,7 @@ impl<'r> View<'r> {
             && word(self.record, 12) as usize == HEADER
             && word(self.record, 20) as usize == length(self.units, 0)
             && (1..=750).contains(&figures.pictures)
-            && figures.opening.check().is_ok()
+            && figures.opening.check_figures().is_ok()
             && figures.passed_over <= figures.records
     }
 
@@ -133,7 +134,13 @@ impl<'r> View<'r> {
     pub fn figures(&self) -> Figures {
         let word = |place| word(self.record, place);
         Figures {
-            opening: Opening { width: word(24), height: word(28), display_time: word(32), pid: word(36) },
+            opening: Opening {
+                width: word(24),
+                height: word(28),
+                display_time: word(32),
+                pid: word(36),
+                edition: word(0),
+            },
             pictures: word(40),
             records: word(44),
             passed_over: word(48),
@@ -194,7 +201,7 @@ pub fn show(record: &[u8]) -> String {
 fn shown(record: &[u8]) -> Result<String, Refusal> {
     let view = View::open(record)?;
     let Figures { opening, pictures, records, passed_over, bad_cells, index_bits } = view.figures();
-    let Opening { width, height, display_time, pid } = opening;
+    let Opening { width, height, display_time, pid, .. } = opening;
     let mut lines = format!("sample {width} {height} {display_time} {pid} {pictures} ");
     let _ = writeln!(lines, "{records} {passed_over} {bad_cells} {index_bits:016X}");
     for number in 0..view.units {
@@ -223,7 +230,7 @@ mod tests {
     }
 
     fn example() -> Vec<u8> {
-        let opening = Opening { width: 30, height: 30, display_time: 40_000, pid: 256 };
+        let opening = Opening { width: 30, height: 30, display_time: 40_000, pid: 256, edition: 1 };
         let index_bits = 0x4008_0000_0000_0000;
         let figures = Figures { opening, pictures: 2, records: 1, passed_over: 0, bad_cells: 0, index_bits };
         let unit = Unit { least_time: 10_000_005, greatest_time: 10_000_005, cells: 1, lost: 0 };
@@ -254,6 +261,10 @@ mod tests {
         assert_eq!(show(&record[..127]), "refused 18\n");
         let mut changed = record.clone();
         changed[0] = 0;
+        assert_eq!(show(&changed), "refused 17\n");
+        changed[0] = 2;
+        assert_eq!(show(&changed), show(&record));
+        changed[1] = 1;
         assert_eq!(show(&changed), "refused 17\n");
         changed = record.clone();
         changed[64 + 28] = 1;

@@ -21,7 +21,7 @@ impl Sample {
     /// Opens a sample. A refused opening leaves a state that answers every call with its number.
     pub fn open(opening: Opening) -> Self {
         let sides = opening.check().map(|()| {
-            Box::new(Sides { capture: CaptureSide::new(opening.pid), luma: LumaSide::new(&opening) })
+            Box::new(Sides { capture: CaptureSide::new(&opening), luma: LumaSide::new(&opening) })
         });
         Sample { opening, sides }
     }
@@ -92,7 +92,7 @@ mod tests {
     use super::*;
     use crate::record::show;
 
-    const OPENING: Opening = Opening { width: 30, height: 30, display_time: 40_000, pid: 256 };
+    const OPENING: Opening = Opening { width: 30, height: 30, display_time: 40_000, pid: 256, edition: 1 };
 
     /// The capture of document 01's example: one record at 10 s 5 µs with one cell of PID 256.
     fn example_capture() -> Vec<u8> {
@@ -155,6 +155,60 @@ mod tests {
                     assert_eq!(sample.feed_capture(bytes), answer);
                 }
                 assert_eq!(seal(&sample, 500).0, Err((number, at as u64)));
+            }
+        }
+    }
+
+    /// The capture of a cell with counter 0 and one with counter 5 and these bytes 3 (high half), 4 and 5.
+    fn spliced_capture(bytes: [u8; 3]) -> Vec<u8> {
+        let mut capture = example_capture();
+        let at = capture.len() - 188;
+        capture.extend_from_within(at..);
+        for place in [24 + 8, 24 + 12] {
+            capture[place..place + 2].copy_from_slice(&418u16.to_le_bytes());
+        }
+        capture[40 + 16..40 + 18].copy_from_slice(&404u16.to_be_bytes());
+        capture[40 + 38..40 + 40].copy_from_slice(&384u16.to_be_bytes());
+        capture[at + 188 + 3..][..3].copy_from_slice(&[bytes[0] | 5, bytes[1], bytes[2]]);
+        capture
+    }
+
+    #[test]
+    fn a_splice_forgives_its_own_gap_from_edition_2_on() {
+        let cells = [([0x30, 1, 0x80], true), ([0x20, 255, 0xFF], true), ([0x30, 0, 0x80], false)];
+        let others = [([0x10, 1, 0x80], false), ([0xD0, 1, 0x80], false), ([0x30, 1, 0x7F], false)];
+        for (bytes, spliced) in cells.into_iter().chain(others) {
+            for edition in [1, 2] {
+                let lost = if spliced && edition > 1 { 0 } else { 4 };
+                let capture = spliced_capture(bytes);
+                for piece in 1..=capture.len() {
+                    let mut sample = Sample::open(Opening { edition, ..OPENING });
+                    for bytes in capture.chunks(piece) {
+                        assert_eq!(sample.feed_capture(bytes), Ok(bytes.len()));
+                    }
+                    sample.feed_luma(&[0; 900]).unwrap();
+                    let record = sample.record().unwrap();
+                    assert_eq!((record[0], record[64 + 20], record[64 + 24]), (edition as u8, 2, lost));
+                }
+            }
+        }
+    }
+
+    #[test]
+    fn the_751st_unit_is_refused_at_byte_3_of_its_cell() {
+        let mut record = example_capture().split_off(24);
+        record[16 + 42 + 1] |= 0x40;
+        record[16 + 42 + 3] |= 0x20;
+        let mut capture = example_capture()[..24].to_vec();
+        capture.extend(record.repeat(751));
+        let place = 24 + 750 * 246 + 16 + 42 + 3;
+        for (edition, piece) in [(1, 1), (1, 1_000), (2, 1), (2, 7), (2, capture.len())] {
+            let mut sample = Sample::open(Opening { edition, ..OPENING });
+            let mut fed = 0;
+            for bytes in capture.chunks(piece) {
+                fed += bytes.len();
+                let answer = if fed > place { Err(Refusal::at(9, place as u64)) } else { Ok(bytes.len()) };
+                assert_eq!(sample.feed_capture(bytes), answer);
             }
         }
     }

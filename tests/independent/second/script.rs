@@ -17,14 +17,13 @@ pub enum Call {
 
 /// The opening's values; nothing if the script ends within the five words.
 pub fn read_opening(script: &mut impl Read) -> Option<Opening> {
-    let opening = Opening {
+    Some(Opening {
         width: read_word(script)?,
         height: read_word(script)?,
         display_time: read_word(script)?,
         pid: read_word(script)?,
-    };
-    read_word(script)?;
-    Some(opening)
+        edition: read_word(script)?,
+    })
 }
 
 /// The next call; nothing where the run ends.
@@ -52,7 +51,7 @@ fn read_word(script: &mut impl Read) -> Option<u32> {
 }
 
 pub fn write_opening(script: &mut impl Write, opening: &Opening) -> io::Result<()> {
-    for word in [opening.width, opening.height, opening.display_time, opening.pid, 1] {
+    for word in [opening.width, opening.height, opening.display_time, opening.pid, opening.edition] {
         script.write_all(&word.to_le_bytes())?;
     }
     Ok(())

@@ -81,7 +81,7 @@ mod tests {
     use crate::opening::Opening;
     use crate::record::{self, Figures};
 
-    const OPENING: Opening = Opening { width: 1920, height: 1080, display_time: 40_000, pid: 256 };
+    const OPENING: Opening = Opening { width: 1920, height: 1080, display_time: 40_000, pid: 256, edition: 1 };
 
     const UNIT: Unit = Unit { least_time: u64::MAX - 1, greatest_time: u64::MAX, cells: 23_342_213, lost: u32::MAX };
 

@@ -22,6 +22,8 @@ pub struct TooManyUnits;
 pub struct Units {
     rows: Vec<Unit>,
     last_counter: u8,
+    /// What the last cell's gap added to lost.
+    last_lost: u32,
 }
 
 impl Units {
@@ -39,6 +41,7 @@ impl Units {
             self.rows.push(Unit { least_time: time, greatest_time: time, cells: 0, lost: 0 });
         }
         self.last_counter = counter;
+        self.last_lost = lost;
         if let Some(unit) = self.rows.last_mut() {
             unit.least_time = unit.least_time.min(time);
             unit.greatest_time = unit.greatest_time.max(time);
@@ -46,6 +49,14 @@ impl Units {
             unit.lost += lost;
         }
         Ok(())
+    }
+
+    /// The last cell turns out to be spliced: its own gap adds no loss.
+    pub fn forgive_gap(&mut self) {
+        if let Some(unit) = self.rows.last_mut() {
+            unit.lost -= self.last_lost;
+            self.last_lost = 0;
+        }
     }
 }
 
@@ -76,6 +87,18 @@ mod tests {
         let first = Unit { least_time: 7, greatest_time: 7, cells: 1, lost: 0 };
         let second = Unit { least_time: 5, greatest_time: 6, cells: 2, lost: 2 };
         assert_eq!(units.rows(), [first, second]);
+    }
+
+    #[test]
+    fn a_forgiven_gap_leaves_the_counter_for_later_ones() {
+        let mut units = Units::default();
+        units.take_cell(0, true, 9).unwrap();
+        units.forgive_gap();
+        units.take_cell(0, false, 12).unwrap();
+        units.take_cell(0, false, 7).unwrap();
+        units.forgive_gap();
+        units.take_cell(0, false, 9).unwrap();
+        assert_eq!(units.rows()[0].lost, 2 + 1);
     }
 
     #[test]

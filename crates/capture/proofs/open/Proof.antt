@@ -16,9 +16,13 @@ element-write-numbers c = search needs
 element-write-numbers-2 : tie.Need-element-write-numbers-2
 element-write-numbers-2 c = search needs
 
+element-write-numbers-3 : tie.Need-element-write-numbers-3
+element-write-numbers-3 c = search needs
+
 returns : tie.Need-returns
 returns c =
-    opens _ (c .before .before .before .before .before .args .number) (c .before .before .before .before .before .args .pid) (c .before .before .«open» .ensures) (simp length-set refl) (length-replicate {A = ℕ} 3750 0) refl
+    let a = c .before .before .before .before .before .args in
+    opens _ (a .number) (a .pid) (a .edition) (c .before .before .«open» .ensures) (simp length-set refl) (length-replicate {A = ℕ} 3750 0) refl
 
 pub open-spec : {M : Type 1} → statement M
 open-spec =
@@ -27,4 +31,5 @@ open-spec =
     open-requires
     element-write-numbers
     element-write-numbers-2
+    element-write-numbers-3
     returns)

@@ -29,10 +29,13 @@ cast-t10 : tie.Need-cast-t10
 cast-t10 c = search needs
 
 cast-t11 : tie.Need-cast-t11
-cast-t11 c = search needs
+cast-t11 c = omega (arith, c .struct-known9)
 
 cast-t12 : tie.Need-cast-t12
 cast-t12 c = omega (arith, c .struct-known10)
+
+cast-t13 : tie.Need-cast-t13
+cast-t13 c = omega (arith, c .struct-known11)
 
 returns : tie.Need-returns
 returns c = search needs
@@ -51,4 +54,5 @@ put-header-spec =
     cast-t10
     cast-t11
     cast-t12
+    cast-t13
     returns)

@@ -33,6 +33,9 @@ word32-requires-9 c κs = search needs
 word32-requires-10 : tie.Need-word32-requires-10
 word32-requires-10 c κs = search needs
 
+word32-requires-11 : tie.Need-word32-requires-11
+word32-requires-11 c κs = search needs
+
 word64-requires : tie.Need-word64-requires
 word64-requires c κs = search needs
 
@@ -48,17 +51,19 @@ returns c =
     let c₈ = c₇ .before in
     let c₉ = c₈ .before in
     let c₁₀ = c₉ .before in
+    let c₁₁ = c₁₀ .before in
     rw (
-      c₁₀ .word32 .ensures,
-      c₉ .word322 .ensures,
-      c₈ .word323 .ensures,
-      c₇ .word324 .ensures,
-      c₆ .word325 .ensures,
-      c₅ .word326 .ensures,
-      c₄ .word327 .ensures,
-      c₃ .word328 .ensures,
-      c₂ .word329 .ensures,
-      c .before .word3210 .ensures,
+      c₁₁ .word32 .ensures,
+      c₁₀ .word322 .ensures,
+      c₉ .word323 .ensures,
+      c₈ .word324 .ensures,
+      c₇ .word325 .ensures,
+      c₆ .word326 .ensures,
+      c₅ .word327 .ensures,
+      c₄ .word328 .ensures,
+      c₃ .word329 .ensures,
+      c₂ .word3210 .ensures,
+      c .before .word3211 .ensures,
       c .word64 .ensures,
     )
 
@@ -76,5 +81,6 @@ header-figures-spec =
     word32-requires-8
     word32-requires-9
     word32-requires-10
+    word32-requires-11
     word64-requires
     returns)

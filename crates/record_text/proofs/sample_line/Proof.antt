@@ -23,10 +23,10 @@ cast-t13 : tie.Need-cast-t13
 cast-t13 c = search needs
 
 cast-t14 : tie.Need-cast-t14
-cast-t14 c = search needs
+cast-t14 c = omega (arith, c .struct-known6)
 
 cast-t15 : tie.Need-cast-t15
-cast-t15 c = search needs
+cast-t15 c = omega (arith, c .struct-known7)
 
 cast-t16 : tie.Need-cast-t16
 cast-t16 c = omega (arith, c .struct-known8)

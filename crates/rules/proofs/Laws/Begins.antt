@@ -294,7 +294,7 @@ data Follows (n : ℕ) : List Arrival → List Arrival → Type 0 where
   stops : {bs : List Arrival} → All (Behind n) bs → Follows n [] bs
   next : {a b : Arrival} {xs bs : List Arrival} → b .place ≡ a .place → b .begins ≡ a .begins → a .place + 3 < n → Follows n xs bs → Follows n (a ∷ xs) (b ∷ bs)
 
-after-late : (n : ℕ) (q : Packet) {qs : List Packet} → All (After n) qs → All (Behind n) (arrivalsAfter q qs)
+after-late : (n : ℕ) (q : Packet) {qs : List Packet} → All (After n) qs → All (Behind n) (arrivalsAfter false q qs)
 unfolding arrivalsAfter
 after-late n q empty = empty
 after-late n q (and {x} h hs) = and h (after-late n x hs)
@@ -303,12 +303,12 @@ start-alike : {n : ℕ} {p q : Packet} → Alike n p q → startMark (q .bytes) 
 unfolding startMark
 start-alike a = rw (a .bytes 1 (omega arith))
 
-after-follows : {n : ℕ} (p q : Packet) {ps qs : List Packet} → Extends n ps qs → Follows n (arrivalsAfter p ps) (arrivalsAfter q qs)
+after-follows : {n : ℕ} (p q : Packet) {ps qs : List Packet} → Extends n ps qs → Follows n (arrivalsAfter false p ps) (arrivalsAfter false q qs)
 unfolding arrivalsAfter
 after-follows {n} p q (ends h) = stops (after-late n q h)
 after-follows p q (pair {p = p′} {q = q′} a e) = next (a .place) (start-alike a) (a .early) (after-follows p′ q′ e)
 
-arrivals-follow : {n : ℕ} {ps qs : List Packet} → Extends n ps qs → Follows n (arrivals ps) (arrivals qs)
+arrivals-follow : {n : ℕ} {ps qs : List Packet} → Extends n ps qs → Follows n (arrivals false ps) (arrivals false qs)
 unfolding arrivals
 arrivals-follow (ends empty) = stops empty
 arrivals-follow {n} (ends (and {x} h hs)) = stops (and h (after-late n x hs))

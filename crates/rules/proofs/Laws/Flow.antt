@@ -12,7 +12,7 @@ use Rattle.rules.specs.Bytes.{pick, byte, count, only}
 use Rattle.rules.specs.Refusals.{Fault, none, fault}
 use Rattle.rules.specs.Frames.{frameTime, frameSize}
 use Rattle.rules.specs.Packets.{Packet, carries, packetsFrom, packetsOf, packets, shown, whole, skipped, identifier, kind, isBad, isWanted, startMark, counter, wantedOf, badOf}
-use Rattle.rules.specs.Units.{Arrival, beginnings}
+use Rattle.rules.specs.Units.{Arrival, lossBetween, beginnings}
 use Rattle.rules.specs.Capture.{wholeFrames, unfinished, allFrames, wholeWanted, shownWanted, badCount, beginsAt, tooManyUnits}
 use Rattle.rules.proofs.Laws.Lists.{only-append, count-append}
 use Rattle.rules.proofs.Laws.UnitsMore.{beginnings-more, arrivalAfter, beginsAfter, begins-nine}
@@ -158,6 +158,7 @@ module _ {b c : List ℕ} (a : Same4 b c) where
 
   arrival-same : (ps : List Packet) (τ q : ℕ) →
       arrivalAfter ps (record { time = τ; place = q; bytes = c }) ≡ arrivalAfter ps (record { time = τ; place = q; bytes = b })
+  unfolding lossBetween
   arrival-same [] τ q = refl
   arrival-same (x ∷ ps) τ q = rw (start-same, counter-same)
 

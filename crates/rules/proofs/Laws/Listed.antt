@@ -11,7 +11,8 @@ use borrow.Author.Tests.{le-leb, lt-leb, leb-true}
 use Rattle.rules.specs.declared.Opening.{Opening}
 use Rattle.rules.specs.declared.UnitRow.{UnitRow}
 use Rattle.rules.specs.Bytes.{pick, byte, word32}
-use Rattle.rules.specs.Refusals.{Fault, none, fault, unless, _orElse_, InTable, listed}
+use Rattle.rules.specs.Refusals.{Fault, none, fault, unless, _orElse_, lastNumber, InTable, listed}
+use Rattle.rules.specs.Editions.{isEdition}
 use Rattle.rules.specs.Opening.{goodSize, goodTime, goodPid, openingFault}
 use Rattle.rules.specs.Frames.{microseconds, storedLength}
 use Rattle.rules.specs.Units.{Arrival, beginnings}
@@ -25,25 +26,25 @@ use Rattle.rules.specs.Reading.{allowed, readingFault, rowFault, unitFau
 
 -- ---- a number in the table, below it and above it
 
-pub in-table : (k : ℕ) → 1 ≤ k → k ≤ 19 → k ≡ listed k
-in-table k h g = rw (le-leb 1 k h, le-leb k 19 g)
+pub in-table : (k : ℕ) → 1 ≤ k → k ≤ lastNumber → k ≡ listed k
+in-table k h g = rw (le-leb 1 k h, le-leb k lastNumber g)
 
 pub below-table : (k : ℕ) → k < 1 → 18 ≡ listed k
 below-table k h = rw (lt-leb 1 k h)
 
-pub above-table : (k : ℕ) → 19 < k → 18 ≡ listed k
-above-table k h = rw (le-leb 1 k (omega arith), lt-leb k 19 h)
+pub above-table : (k : ℕ) → lastNumber < k → 18 ≡ listed k
+above-table k h = rw (le-leb 1 k (omega arith), lt-leb k lastNumber h)
 
 -- what is listed is in the table
 pub listed-in : (k : ℕ) → InTable (listed k)
 listed-in k = low (leb 1 k) refl
   where
-    high : (b : Bool) → leb k 19 ≡ b → 1 ≤ k → InTable (pick b k 18)
-    high true e h = (h, leb-true k 19 e)
+    high : (b : Bool) → leb k lastNumber ≡ b → 1 ≤ k → InTable (pick b k 18)
+    high true e h = (h, leb-true k lastNumber e)
     high false e h = (omega arith, omega arith)
 
-    low : (b : Bool) → leb 1 k ≡ b → InTable (pick (b && leb k 19) k 18)
-    low true e = high (leb k 19) refl (leb-true 1 k e)
+    low : (b : Bool) → leb 1 k ≡ b → InTable (pick (b && leb k lastNumber) k 18)
+    low true e = high (leb k lastNumber) refl (leb-true 1 k e)
     low false e = (omega arith, omega arith)
 
 -- ---- refusals
@@ -83,7 +84,8 @@ unfolding openingFault
 opening o =
     of-either (unless (goodSize (o .width) (o .height)) 1) _ (of-unless (goodSize (o .width) (o .height)) 1 refl)
     (of-either (unless (goodTime (o .time)) 2) _ (of-unless (goodTime (o .time)) 2 refl)
-    (of-unless (goodPid (o .pid)) 3 refl))
+    (of-either (unless (goodPid (o .pid)) 3) _ (of-unless (goodPid (o .pid)) 3 refl)
+    (of-unless (isEdition (o .edition)) 20 refl)))
 
 of-header : (size place : ℕ) (f : List ℕ) → Numbered (wrongFrameHeader size place f)
 unfolding wrongFrameHeader
@@ -175,7 +177,7 @@ pub reading : (r : List ℕ) → Numbered (readingFault r)
 unfolding readingFault
 reading r =
     of-either (unless (leb 64 (length r)) 16) _ (of-unless (leb 64 (length r)) 16 refl)
-    (of-either (unless (eqb (word32 r 0) 1) 17) _ (of-unless (eqb (word32 r 0) 1) 17 refl)
+    (of-either (unless (isEdition (word32 r 0)) 17) _ (of-unless (isEdition (word32 r 0)) 17 refl)
     (of-unless (allowed r) 18 refl))
 
 of-row : (rows j : ℕ) → Numbered (rowFault rows j)

@@ -11,6 +11,9 @@ opening-fault-requires c κs = search needs
 cast-open : tie.Need-cast-open
 cast-open c = search needs
 
+cast-open-2 : tie.Need-cast-open-2
+cast-open-2 c = search needs
+
 open-requires : tie.Need-open-requires
 open-requires c κs = search needs
 
@@ -19,11 +22,11 @@ open-requires-2 c κs = search needs
 
 returns : tie.Need-returns
 returns c =
-    let f = c .before .before .before .before .before .before .before .before .before .before .before .opening-fault .ensures in
+    let f = c .before .before .before .before .before .before .before .before .before .before .before .before .opening-fault .ensures in
     record {
       answer = c .open2 .ensures .answer;
       means = record {
-        captured = c .before .before .before .before .before .«open» .ensures (c .before .before .before .before .before .before .before .before .before .before .before .before .args .o) (number-none (f .shown)) (number-some (f .shown)) refl;
+        captured = c .before .before .before .before .before .«open» .ensures (c .before .before .before .before .before .before .before .before .before .before .before .before .before .args .o) (number-none (f .shown)) (number-some (f .shown)) refl refl;
         drawn = c .open2 .ensures .means;
       };
     }
@@ -34,6 +37,7 @@ open-spec =
     (tie.spec
     opening-fault-requires
     cast-open
+    cast-open-2
     open-requires
     open-requires-2
     returns)

@@ -48,6 +48,8 @@ pub struct CaptureMaker<'r> {
     seconds: u32,
     /// One cell of PID in so many begins a unit.
     pub start_every: usize,
+    /// Whether cells are mostly spliced, with gaps, and worth cutting inside their first bytes.
+    pub splicing: bool,
     pub side: Side,
 }
 
@@ -56,7 +58,7 @@ impl<'r> CaptureMaker<'r> {
     pub fn bare(random: &'r mut Prng, pid: u32) -> Self {
         let counter = random.byte() & 15;
         let seconds = random.pick(&[0, 10, 1_700_000_000, u32::MAX - 40]);
-        CaptureMaker { random, pid, counter, seconds, start_every: 6, side: Side::default() }
+        CaptureMaker { random, pid, counter, seconds, start_every: 6, splicing: false, side: Side::default() }
     }
 
     /// A maker that has made a good file header.
@@ -120,8 +122,22 @@ impl<'r> CaptureMaker<'r> {
         };
         let microseconds = self.random.pick(&[0, 5, 500_000, 999_998, 999_999]);
         self.record_head(microseconds, frame.len() as u32);
+        let cells = self.side.bytes.len() + FRAME_HEAD;
         self.side.bytes.extend(frame);
+        if self.splicing {
+            self.mark_cells(cells);
+        }
         self.side.mark_end();
+    }
+
+    /// Marks places behind the first bytes of each cell from this place on.
+    fn mark_cells(&mut self, start: usize) {
+        let end = self.side.bytes.len();
+        for cell in (start..end).step_by(CELL) {
+            let place = cell + self.random.between(1, 6);
+            let places = [place, place + self.random.between(1, 2)];
+            self.side.ends.extend(places.iter().filter(|&&place| place < end));
+        }
     }
 
     fn record_head(&mut self, microseconds: u32, stored_length: u32) {
@@ -208,6 +224,7 @@ impl<'r> CaptureMaker<'r> {
         let step = match kind {
             0 | 1 => self.random.between(2, 15) as u8,
             2 => 0,
+            _ if self.splicing && self.random.once_in(2) => self.random.below(16) as u8,
             _ => 1,
         };
         let mut identifier = self.pid;
@@ -232,7 +249,19 @@ impl<'r> CaptureMaker<'r> {
         cell[1] = (identifier >> 8) as u8 & 0x1F | self.random.byte() & 0xA0 | u8::from(start) << 6;
         cell[2] = identifier as u8;
         cell[3] = self.random.byte() & 0xF0 | self.counter;
+        if self.splicing || self.random.once_in(2) {
+            self.adaptation(&mut cell);
+        }
         cell
+    }
+
+    /// An adaptation field: its length, which may be 0, and its flags; what follows is ignored.
+    fn adaptation(&mut self, cell: &mut [u8; CELL]) {
+        if !self.random.once_in(4) {
+            cell[3] |= 0x20;
+        }
+        cell[4] = self.random.pick(&[0, 1, 1, 7, 183, 255]);
+        cell[5] = self.random.pick(&[0x80, 0x80, 0xFF, 0x7F, 0x00]);
     }
 
     /// So many units: as many cells of PID with a start mark, others between them.

@@ -7,7 +7,7 @@ use crate::prng::Prng;
 use crate::script::{write_call, write_opening, Call, LONGEST_PIECE};
 use std::io::{self, Write};
 
-const OPENING: Opening = Opening { width: 30, height: 30, display_time: 40_000, pid: 256 };
+const OPENING: Opening = Opening { width: 30, height: 30, display_time: 40_000, pid: 256, edition: 1 };
 
 /// Gathers capture bytes and writes them in pieces of 1 MiB.
 struct Pieces<W> {

@@ -13,13 +13,14 @@ use std::io::{self, Write};
 use weave::{weave, Cutting, Plan, Side};
 
 /// Names of the families, and what each of them is about.
-pub const KINDS: [(&str, &str); 13] = [
+pub const KINDS: [(&str, &str); 14] = [
     ("valid", "small valid samples of every kind, cut anywhere, seals between"),
     ("scenes", "scene starts, repeats, runs, changes; cut strengths near their bounds"),
     ("shapes", "every level k, surplus columns and rows"),
     ("frames", "skipped frames of every kind, padding, bad and foreign cells, lost cells, times"),
     ("openings", "refused openings and openings on the bounds"),
     ("faults", "wrong magic, link type, microseconds, stored length, and feeding on"),
+    ("splices", "spliced cells with and without a length byte, gaps, cells cut behind each of their first bytes"),
     ("units", "749 to 760 units"),
     ("pictures", "749 to 751 pictures, up to 250 scenes"),
     ("ends", "captures and pictures that aren't finished, headers alone, nothing at all"),
@@ -59,12 +60,13 @@ fn plan(random: &mut Prng, kind: &str) -> Plan {
         "mixed" if random.once_in(8) => any_opening(random),
         "scenes" => scene_opening(random),
         "valid" => small_opening(random),
+        "splices" => Opening { edition: random.pick(&[1, 2, 2, 2]), width: 15, height: 30, ..small_opening(random) },
         "mixed" if random.once_in(2) => small_opening(random),
         _ => Opening { width: 15, height: 30, ..small_opening(random) },
     };
     let capture_family = match kind {
-        "frames" | "faults" | "units" | "ends" => kind,
-        "mixed" => random.pick(&["valid", "few", "frames", "faults", "units", "ends"]),
+        "frames" | "splices" | "faults" | "units" | "ends" => kind,
+        "mixed" => random.pick(&["valid", "few", "frames", "splices", "faults", "units", "ends"]),
         "valid" => "valid",
         _ => "few",
     };
@@ -75,6 +77,7 @@ fn plan(random: &mut Prng, kind: &str) -> Plan {
     };
     let cutting = match kind {
         "tiny" => Cutting::Tiny,
+        "splices" => Cutting::AtEnds,
         _ => random.pick(&[Cutting::Any, Cutting::AtEnds]),
     };
     let seal_every = if kind == "seals" { 2 } else { 25 };
@@ -87,7 +90,13 @@ fn plan(random: &mut Prng, kind: &str) -> Plan {
 fn opening_of(random: &mut Prng, (width, height): (u32, u32)) -> Opening {
     let display_time = random.pick(&[10_000, 39_999, 40_000, 40_001, 199_999, 200_000, 200_000]);
     let pid = random.pick(&[0, 1, 256, 256, 257, 4_096, 8_190, 8_191]);
-    Opening { width, height, display_time, pid }
+    Opening { width, height, display_time, pid, edition: any_edition(random) }
+}
+
+/// A rule edition, mostly an allowed one.
+fn any_edition(random: &mut Prng) -> u32 {
+    let refused = random.pick(&[0, 3, 256 + 1, u32::MAX]);
+    if random.once_in(20) { refused } else { random.pick(&[1, 1, 2, 2, 2]) }
 }
 
 fn small_opening(random: &mut Prng) -> Opening {
@@ -150,7 +159,8 @@ fn any_opening(random: &mut Prng) -> Opening {
     let bad_time = random.pick(&[0, 9_999, 200_001, u32::MAX]);
     let display_time = random.pick(&[10_000, 40_000, 200_000, bad_time]);
     let pid = random.pick(&[0, 8_191, 8_191, 8_192, 8_192 + 256, u32::MAX]);
-    Opening { width, height, display_time, pid }
+    let edition = random.pick(&[0, 1, 1, 2, 2, 3, 256 + 1]);
+    Opening { width, height, display_time, pid, edition }
 }
 
 fn capture(random: &mut Prng, family: &str, pid: u32) -> Side {
@@ -173,6 +183,10 @@ fn capture(random: &mut Prng, family: &str, pid: u32) -> Side {
             if longest {
                 maker.longest_record();
             }
+        }
+        "splices" => {
+            maker.splicing = true;
+            maker.records(2 + count, 1);
         }
         "units" => {
             maker.start_every = 1_000;

@@ -6,7 +6,7 @@ use crate::sample::Sample;
 use crate::script::{write_call, write_opening, Call, LONGEST_BUFFER, LONGEST_PIECE};
 use std::io::{self, Write};
 
-/// The bytes of one side, and where its header, records or pictures end.
+/// The bytes of one side, and where its header, records or pictures end or other cuts are worth while.
 #[derive(Default)]
 pub struct Side {
     pub bytes: Vec<u8>,

@@ -30,6 +30,9 @@ element-write-numbers-7 c = search needs
 element-write-numbers-8 : tie.Need-element-write-numbers-8
 element-write-numbers-8 c = search needs
 
+element-write-numbers-9 : tie.Need-element-write-numbers-9
+element-write-numbers-9 c = search needs
+
 returns : tie.Need-returns
 returns c =
     record { size = simp length-set; loads = λ e. stored (c .before .args .numbers .now) (c .before .args .t) (omega arith) }
@@ -46,4 +49,5 @@ store-spec =
     element-write-numbers-6
     element-write-numbers-7
     element-write-numbers-8
+    element-write-numbers-9
     returns)

@@ -1,4 +1,4 @@
--- `opening_fault` meets its contract: the rule tries 1, 2, 3 in this order, as the code does.
+-- `opening_fault` meets its contract: the rule tries 1, 2, 3, 20 in this order, as the code does.
 use native.Mathlib.Omega.{arith}
 use mathlib.Core.Path.{sym, _∙_}
 use borrow.Author.Needs.{needs}
@@ -36,15 +36,36 @@ returns-3 c =
       few = omega arith;
     }
 
+is-edition-requires : tie.Need-is-edition-requires
+is-edition-requires c κs = search needs
+
 returns-4 : tie.Need-returns-4
 unfolding openingFault
 returns-4 c =
     record {
-      shown = simp (sym (c .before .before .before .before .before .good-size .ensures) ∙ not-false _ (c .before .before .before .before .if1 .left), sym (c .before .before .before .good-time .ensures) ∙ not-false _ (c .before .before .if2 .left), sym (c .before .good-pid .ensures) ∙ not-false _ (c .if3 .left));
+      shown = simp (
+        sym (c .before .before .before .before .before .before .before .good-size .ensures) ∙ not-false _ (c .before .before .before .before .before .before .if1 .left),
+        sym (c .before .before .before .before .before .good-time .ensures) ∙ not-false _ (c .before .before .before .before .if2 .left),
+        sym (c .before .before .before .good-pid .ensures) ∙ not-false _ (c .before .before .if3 .left),
+        sym (c .before .is-edition .ensures) ∙ not-true _ (c .if4 .taken),
+      );
+      few = omega arith;
+    }
+
+returns-5 : tie.Need-returns-5
+unfolding openingFault
+returns-5 c =
+    record {
+      shown = simp (
+        sym (c .before .before .before .before .before .before .before .good-size .ensures) ∙ not-false _ (c .before .before .before .before .before .before .if1 .left),
+        sym (c .before .before .before .before .before .good-time .ensures) ∙ not-false _ (c .before .before .before .before .if2 .left),
+        sym (c .before .before .before .good-pid .ensures) ∙ not-false _ (c .before .before .if3 .left),
+        sym (c .before .is-edition .ensures) ∙ not-false _ (c .if4 .left),
+      );
       few = omega arith;
     }
 
 pub opening-fault-spec : {M : Type 1} → statement M
 opening-fault-spec =
     tie.close
-    (tie.spec good-size-requires returns good-time-requires returns-2 good-pid-requires returns-3 returns-4)
+    (tie.spec good-size-requires returns good-time-requires returns-2 good-pid-requires returns-3 is-edition-requires returns-4 returns-5)

@@ -31,11 +31,17 @@ cast-luma-4 c = search needs
 element-write-luma-5 : tie.Need-element-write-luma-5
 element-write-luma-5 c = search needs
 
+cast-luma-5 : tie.Need-cast-luma-5
+cast-luma-5 c = search needs
+
+element-write-luma-6 : tie.Need-element-write-luma-6
+element-write-luma-6 c = search needs
+
 returns : tie.Need-returns
 returns c =
-    let a = c .before .before .before .before .before .before .before .before .args in
-    opened (a .o) (a .f) (record { width = omega arith; height = omega arith; time = omega arith; pid = omega arith })
-    (c .before .before .before .before .before .before .before .before .pre)
+    let a = c .before .before .before .before .before .before .before .before .before .args in
+    opened (a .o) (a .f) (record { width = omega arith; height = omega arith; time = omega arith; pid = omega arith; edition = omega arith })
+    (c .before .before .before .before .before .before .before .before .before .pre)
 
 pub begin-spec : {M : Type 1} → statement M
 begin-spec =
@@ -50,4 +56,6 @@ begin-spec =
     element-write-luma-4
     cast-luma-4
     element-write-luma-5
+    cast-luma-5
+    element-write-luma-6
     returns)

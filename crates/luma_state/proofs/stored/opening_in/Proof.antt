@@ -26,10 +26,21 @@ element-copy-out-low-4 c = search needs
 low-requires-4 : tie.Need-low-requires-4
 low-requires-4 c κs = search needs
 
+element-copy-out-low-5 : tie.Need-element-copy-out-low-5
+element-copy-out-low-5 c = search needs
+
+low-requires-5 : tie.Need-low-requires-5
+low-requires-5 c κs = search needs
+
 returns : tie.Need-returns
 returns c =
-    rw
-    (c .before .before .before .before .before .before .low .ensures, c .before .before .before .before .low2 .ensures, c .before .before .low3 .ensures, c .low4 .ensures)
+    rw (
+      c .before .before .before .before .before .before .before .before .low .ensures,
+      c .before .before .before .before .before .before .low2 .ensures,
+      c .before .before .before .before .low3 .ensures,
+      c .before .before .low4 .ensures,
+      c .low5 .ensures,
+    )
 
 pub opening-in-spec : {M : Type 1} → statement M
 opening-in-spec =
@@ -43,4 +54,6 @@ opening-in-spec =
     low-requires-3
     element-copy-out-low-4
     low-requires-4
+    element-copy-out-low-5
+    low-requires-5
     returns)
