@@ -100,10 +100,25 @@ fn measure(o: Opening, capture_name: &[u8], luma_name: &[u8], record_name: &[u8]
         &mut picture,
         o,
     );
-    if !side::feed_capture(capture_name, &mut walk, &mut kept, &mut numbers, &mut table) {
+    let mut piece = io::large_buffer();
+    if !side::feed_capture(
+        capture_name,
+        &mut piece,
+        &mut walk,
+        &mut kept,
+        &mut numbers,
+        &mut table,
+    ) {
         return;
     }
-    if !side::feed_luma(luma_name, &mut luma, &mut sums, &mut bins, &mut picture) {
+    if !side::feed_luma(
+        luma_name,
+        &mut piece,
+        &mut luma,
+        &mut sums,
+        &mut bins,
+        &mut picture,
+    ) {
         return;
     }
     seal(&walk, &kept, &numbers, &table, &luma, record_name);

@@ -33,17 +33,17 @@ fn open_side(name: &[u8]) -> i32 {
     fd
 }
 
-// One piece of the capture.
+// One piece of the capture; what is read goes to the lent piece, so that no turn has to clear one.
 fn capture_turn(
     fd: i32,
     name: &[u8],
+    piece: &mut [u8],
     walk: &mut WalkWords,
     kept: &mut Collected,
     numbers: &mut Numbers,
     table: &mut Table,
 ) -> u8 {
-    let mut piece = io::large_buffer();
-    let got = libc::read(fd, &mut piece);
+    let got = libc::read(fd, piece);
     if got < 0 {
         os::fail(name);
         return FAILED;
@@ -51,7 +51,7 @@ fn capture_turn(
     if got == 0 {
         return LAST;
     }
-    let n = io::count(got, &piece);
+    let n = io::count(got, piece);
     turn_of(sample::feed_capture(walk, kept, numbers, table, &piece[..n]))
 }
 
@@ -59,13 +59,13 @@ fn capture_turn(
 fn luma_turn(
     fd: i32,
     name: &[u8],
+    piece: &mut [u8],
     luma: &mut [u64; 1600],
     sums: &mut [u32; 240],
     bins: &mut [u32; 720],
     picture: &mut [u8; 14104],
 ) -> u8 {
-    let mut piece = io::large_buffer();
-    let got = libc::read(fd, &mut piece);
+    let got = libc::read(fd, piece);
     if got < 0 {
         os::fail(name);
         return FAILED;
@@ -73,7 +73,7 @@ fn luma_turn(
     if got == 0 {
         return LAST;
     }
-    let n = io::count(got, &piece);
+    let n = io::count(got, piece);
     turn_of(sample::feed_luma(luma, sums, bins, picture, &piece[..n]))
 }
 
@@ -81,6 +81,7 @@ fn luma_turn(
 // from a number that no run uses up.
 pub fn feed_capture(
     name: &[u8],
+    piece: &mut [u8],
     walk: &mut WalkWords,
     kept: &mut Collected,
     numbers: &mut Numbers,
@@ -93,7 +94,7 @@ pub fn feed_capture(
     let mut turn = MORE;
     let mut turns = u64::MAX;
     while turns > 0 && turn == MORE {
-        turn = capture_turn(fd, name, walk, kept, numbers, table);
+        turn = capture_turn(fd, name, piece, walk, kept, numbers, table);
         turns -= 1;
     }
     libc::close(fd);
@@ -103,6 +104,7 @@ pub fn feed_capture(
 // Feeds the whole luma; answers whether it could be read.
 pub fn feed_luma(
     name: &[u8],
+    piece: &mut [u8],
     luma: &mut [u64; 1600],
     sums: &mut [u32; 240],
     bins: &mut [u32; 720],
@@ -115,7 +117,7 @@ pub fn feed_luma(
     let mut turn = MORE;
     let mut turns = u64::MAX;
     while turns > 0 && turn == MORE {
-        turn = luma_turn(fd, name, luma, sums, bins, picture);
+        turn = luma_turn(fd, name, piece, luma, sums, bins, picture);
         turns -= 1;
     }
     libc::close(fd);
