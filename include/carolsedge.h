@@ -17,6 +17,8 @@
 #include <stddef.h>
 #include <stdint.h>
 
+#define CAROLSEDGE_VERSION "0.1.0" /* of this header and its library; the Rust crate and the command have the same */
+
 #ifdef __cplusplus
 #define CAROLSEDGE_ASSERT(fact, words) static_assert(fact, words)
 extern "C" {

@@ -48,6 +48,9 @@ pub use record::{sheet, Header, Record, Scene, Unit};
 pub use refusal::Refusal;
 pub use sample::{Opening, Sample};
 
+/// The version of this crate, and of the library's header (`CAROLSEDGE_VERSION`).
+pub const VERSION: &str = env!("CARGO_PKG_VERSION");
+
 /// The newest edition of the rules (`docs/RULE.md`, 1). The editions are 1 to this one.
 pub const NEWEST_EDITION: u32 = 2;
 
