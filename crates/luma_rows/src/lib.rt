@@ -78,7 +78,7 @@ fn end_row(
     keep(&mut kept, picture, base, w);
     luma_blocks::finish_row(picture, sums, g.side, w, s.line);
     let slot = luma_state::slot_of(s.pictures);
-    luma_tiles::count_row(bins, slot, picture, w, g.lines, s.line);
+    luma_tiles::count_row(bins, slot, picture, w, g.lines, s.line, g.second, g.third);
     let m = luma_changes::compare_run(luma_state::moves_in(s), &kept, 0, picture, base, w);
     next_row(g, s, m)
 }
@@ -122,7 +122,7 @@ fn plain_row(bins: &mut Bins, picture: &mut Picture, g: Grid, s: Progress, rest:
     let m = luma_changes::compare_run(luma_state::moves_in(s), picture, base, rest, 0, w);
     put(picture, base, rest, w);
     let own = luma_state::slot_of(s.pictures);
-    luma_tiles::count_row(bins, own, picture, w, g.lines, s.line);
+    luma_tiles::count_row(bins, own, picture, w, g.lines, s.line, g.second, g.third);
     let t = moved_to(s, 1, 0, g.width);
     next_row(g, t, m)
 }

@@ -1,7 +1,7 @@
 -- The scalars in the words, and a place inside a picture. No code.
 use Prim.Native.Nat.{ℕ, suc, _+_, _-_, _/_, _≤_}
 use native.Mathlib.Omega.{arith}
-use native.Mathlib.Nat.{mul-le-mul, mul-le-mul-right, mul-comm, div-mul-le-self}
+use native.Mathlib.Nat.{mul-le-mul, mul-le-mul-right, mul-comm, div-mul-le-self, div-le-self}
 use mathlib.Core.Path.{_≡_, refl, ap, _∙_}
 use mathlib.Core.List.{List, [], _∷_, _++_}
 use mathlib.Core.Bool.{true, false}
@@ -14,6 +14,7 @@ use Rattle.rules.specs.Pictures.{pictureSize}
 use Rattle.luma_laws.proofs.Blocks.{side-some}
 use Rattle.rules.specs.Seal.{reduced}
 use Rattle.luma_laws.proofs.Sizes.{good, sizes}
+use Rattle.luma_laws.proofs.Columns.{boundary-is}
 use Rattle.luma_laws.proofs.Full.{full-reduced}
 use Rattle.luma_state.specs.declared.Grid.{Grid}
 use Rattle.luma_state.specs.declared.Progress.{Progress}
@@ -39,7 +40,14 @@ fits-of o e =
       room = rw (mul-comm (o .height / side o) (columns o)) (z .pixels-high);
       rows = rw (mul-comm (o .width) (o .height)) (mul-le-mul-right (o .width) (div-mul-le-self (o .height) (side o)));
       small = mul-le-mul (g .width-high) (g .height-high);
+      boundary = boundary-is 1 (columns o);
+      boundary-2 = boundary-is 2 (columns o);
     }
+
+-- of a refused opening too
+pub columns-most : (o : Opening) → columns o ≤ o .width
+unfolding columns
+columns-most o = div-le-self (o .width) (side o)
 
 -- ---- a place inside a picture
 

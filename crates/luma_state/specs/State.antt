@@ -1,7 +1,7 @@
 -- What the lent arrays of the luma side stand for. The luma words' scalars are `Progress` and the opening; the other words hold what is known of the whole
 -- pictures. `sums` are the block sums of the current block row, `bins` a ring of five pictures' histograms, `picture` the pixels: those of the block rows that
 -- are done are the current picture's, the others the previous one's.
-use Prim.Native.Nat.{ℕ, _+_, _*_, _%_, _^_, _≤_, _<_}
+use Prim.Native.Nat.{ℕ, _+_, _*_, _/_, _%_, _^_, _≤_, _<_}
 use mathlib.Core.Path.{_≡_}
 use mathlib.Core.List.{List, [], _++_, map}
 use mathlib.Core.Bool.{not}
@@ -12,6 +12,7 @@ use Rattle.rules.specs.Refusals.{none, fault, _orElse_}
 use Rattle.rules.specs.Opening.{openingFault, side, columns, lines}
 use Rattle.rules.specs.Pictures.{pictureSize, lumaFault, pixels}
 use Rattle.rules.specs.Histograms.{histograms}
+use Rattle.rules.specs.Columns.{Boundary}
 use Rattle.rules.specs.Cuts.{cutScore}
 use Rattle.rules.specs.Changes.{repeats, changes}
 use Rattle.rules.specs.Seal.{reduced}
@@ -57,9 +58,22 @@ openingIn w =
       edition = getD w 16 0 % 2 ^ 32;
     }
 
--- W, 2^k, w, h, and a picture's bytes
+-- the number of boundary k of w columns (`Fits` has that it is the boundary)
+abbrev pub boundaryAt : ℕ → ℕ → ℕ
+boundaryAt k w = (k * w + 2) / 3
+
+-- W, 2^k, w, h, a picture's bytes, and the tiles' boundaries
 abbrev pub gridOf : Opening → Grid
-gridOf o = record { width = o .width; side = side o; columns = columns o; lines = lines o; bytes = pictureSize o }
+gridOf o =
+    record {
+      width = o .width;
+      side = side o;
+      columns = columns o;
+      lines = lines o;
+      bytes = pictureSize o;
+      second = boundaryAt 1 (columns o);
+      third = boundaryAt 2 (columns o);
+    }
 
 -- how the pixels of the block rows that are done moved against the previous picture's
 abbrev pub movesIn : Progress → Moves
@@ -78,6 +92,8 @@ pub record Fits (g : Grid) : Type 0 where
   pub room : g .lines * g .columns ≤ 14101
   pub rows : g .lines * g .side * g .width ≤ g .bytes
   pub small : g .bytes ≤ 2088960
+  pub boundary : Boundary 1 (g .columns) (g .second)
+  pub boundary-2 : Boundary 2 (g .columns) (g .third)
 
 -- ---- whole pictures, with the pixels pxs
 

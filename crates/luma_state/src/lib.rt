@@ -16,12 +16,15 @@ pub use stored::placed;
 pub use stored::store;
 
 // The sizes of a sample's pictures: rows of `width` bytes, blocks of `side` by `side` of them, `columns` by `lines` pixels, `bytes` in all.
+// The second and the third tile column begin at the columns `second` and `third`.
 pub struct Grid {
     pub width: usize,
     pub side: usize,
     pub columns: usize,
     pub lines: usize,
     pub bytes: usize,
+    pub second: usize,
+    pub third: usize,
 }
 
 // The scalars of the state: the refusal that stands, bytes fed, whole pictures and those that are not repeated, the place in the current picture, and how its

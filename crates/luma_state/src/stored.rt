@@ -1,5 +1,7 @@
 // What stands in the lent words between calls: the luma side's numbers and its opening.
 ghost use mathlib.Core.Path.{_≡_};
+ghost use Prim.Native.Nat.{_^_, _≤_, _<_};
+ghost use Rattle.rules.specs.Columns.{Boundary};
 ghost use Rattle.luma_state.specs.State.{loaded, openingIn, gridOf};
 ghost use Rattle.luma_state.specs.Contract.{Stored, Placed};
 use crate::Grid;
@@ -61,16 +63,28 @@ pub fn opening_in(luma: &Words) -> Opening
     }
 }
 
+// Boundary k of w columns: the least c with 3c at least k × w.
+fn boundary(k: u64, w: u64) -> u64
+    requires { ⌜ (k ≤ 2) × (w < 2 ^ 32) ⌝ }
+    ensures { λ r. ⌜ (Boundary k w r) × (r < 2 ^ 32) ⌝ }
+{
+    (k * w + 2) / 3
+}
+
 pub fn grid_of(o: Opening) -> Grid
     ensures { λ r. ⌜ r ≡ gridOf o ⌝ }
 {
     let z = figures::sizes_of(o);
+    let second = boundary(1, z.columns);
+    let third = boundary(2, z.columns);
     Grid {
         width: o.width as usize,
         side: z.side as usize,
         columns: z.columns as usize,
         lines: z.lines as usize,
         bytes: z.picture as usize,
+        second: second as usize,
+        third: third as usize,
     }
 }
 

@@ -6,6 +6,7 @@ use lib.ListN.{length, getD}
 use lib.Dec.{eqb}
 use Rattle.rules.specs.Bytes.{pick}
 use Rattle.rules.specs.Histograms.{inBin}
+use Rattle.rules.specs.Columns.{Boundary}
 use Rattle.luma_laws.specs.Tallies.{binTally}
 use Rattle.luma_blocks.specs.Sums.{run}
 
@@ -46,7 +47,9 @@ pub record CountedRow (w h r base : ℕ) (pixels before after : List ℕ) : Type
   pub more : (p : List ℕ) → length p ≡ r * w → Counts w h base p before → Counts w h base (p ++ run pixels (r * w) w) after
 
 -- what `count_row` asks
-pub record Row (w h r base : ℕ) (pixels : List ℕ) : Type 0 where
+pub record Row (w h r base second third : ℕ) (pixels : List ℕ) : Type 0 where
+  pub boundary : Boundary 1 w second
+  pub boundary-2 : Boundary 2 w third
   pub wide : 3 ≤ w
   pub few : w ≤ 240
   pub inside : r < h

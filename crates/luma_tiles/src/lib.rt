@@ -80,15 +80,22 @@ fn count_last(counts: &mut Bins, base: usize, t: usize, pixels: &[u8], from: usi
     }
 }
 
-// Row r of the pixels, in the counts from `base` on. The tiles' columns begin at 0, `second` and `third`, and no tile has fewer than the last.
-pub fn count_row(counts: &mut Bins, base: usize, pixels: &[u8], w: usize, h: usize, r: usize)
-    requires { ⌜ Row w h r base (now pixels) ⌝ }
+// Row r of the pixels, in the counts from `base` on. The tiles' columns begin at 0 and at the two boundaries, and no tile has fewer than the last.
+pub fn count_row(
+    counts: &mut Bins,
+    base: usize,
+    pixels: &[u8],
+    w: usize,
+    h: usize,
+    r: usize,
+    second: usize,
+    third: usize,
+)
+    requires { ⌜ Row w h r base second third (now pixels) ⌝ }
     ensures { λ _. ⌜ CountedRow w h r base (now (pixels .entry)) (now (counts .entry)) (now (counts .exit)) ⌝ }
 {
     let from = r * w;
     let t = 3 * (3 * r / h);
-    let second = (w + 2) / 3;
-    let third = (2 * w + 2) / 3;
     let m = w - third;
     count_columns(
         counts,

@@ -9,6 +9,7 @@ pub mod Units
 pub mod Capture
 pub mod Pictures
 pub mod Histograms
+pub mod Columns
 pub mod Counted
 pub mod Cuts
 pub mod Scenes

@@ -33,6 +33,8 @@ count-row-requires c κs =
     let p = c .before .before .before .before .before .before .before .before .before .before .before .pre in
     let a = c .before .before .before .before .before .before .before .before .before .before .before .args in
     record {
+      boundary = p .fits .boundary;
+      boundary-2 = p .fits .boundary-2;
       wide = omega (arith, p .fits .wide);
       few = omega (arith, p .fits .narrow);
       inside = p .line;

@@ -30,6 +30,8 @@ count-row-requires : tie.Need-count-row-requires
 count-row-requires c κs =
     let p = c .before .before .before .before .before .before .before .before .before .before .before .before .pre in
     record {
+      boundary = p .fits .boundary;
+      boundary-2 = p .fits .boundary-2;
       wide = omega (arith, p .fits .wide);
       few = omega (arith, p .fits .narrow);
       inside = p .line;

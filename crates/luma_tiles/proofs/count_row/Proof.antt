@@ -2,6 +2,7 @@ use mathlib.Core.Path.{refl}
 use native.Mathlib.Omega.{arith}
 use Rattle.rules.specs.Histograms.{third}
 use Rattle.luma_laws.proofs.Histograms.{third-small}
+use Rattle.luma_laws.proofs.Columns.{edges}
 use Rattle.luma_tiles.proofs.Laws.{row-counted}
 use borrow.Author.Needs.{needs}
 use Rattle.luma_tiles.proofs.count_row.Statement.{statement}
@@ -18,66 +19,78 @@ div-t c = search needs
 
 mul-t-2 : tie.Need-mul-t-2
 unfolding third
-mul-t-2 c = omega (arith, third-small (c .before .args .h) (c .before .args .r) (c .before .pre .inside))
-
-add-second : tie.Need-add-second
-add-second c = search needs
-
-mul-third : tie.Need-mul-third
-mul-third c = search needs
-
-add-third : tie.Need-add-third
-add-third c = search needs
+mul-t-2 c =
+    omega (arith, third-small (c .before .args .h) (c .before .args .r) (c .before .pre .inside))
 
 sub-m : tie.Need-sub-m
-sub-m c = search needs
+sub-m c =
+    let e = edges (c .before .pre .boundary) (c .before .pre .boundary-2) in omega arith
 
 add-count-columns : tie.Need-add-count-columns
-add-count-columns c = search needs
+add-count-columns c =
+    let e = edges (c .before .before .pre .boundary) (c .before .before .pre .boundary-2) in omega arith
 
 add-count-columns-2 : tie.Need-add-count-columns-2
-add-count-columns-2 c = search needs
+add-count-columns-2 c =
+    let e = edges (c .before .before .pre .boundary) (c .before .before .pre .boundary-2) in omega arith
 
 count-columns-requires : tie.Need-count-columns-requires
 unfolding third
-count-columns-requires c κs = record { slot = omega arith; tiles = omega (arith, third-small (c .before .before .args .h) (c .before .before .args .r) (c .before .before .pre .inside)); first = omega arith; second = omega arith; third = omega arith }
+count-columns-requires c κs =
+    let e = edges (c .before .before .pre .boundary) (c .before .before .pre .boundary-2) in
+    let t = third-small (c .before .before .args .h) (c .before .before .args .r) (c .before .before .pre .inside) in
+    record { slot = omega arith; tiles = omega arith; first = omega arith; second = omega arith; third = omega arith }
 
 add-count-last : tie.Need-add-count-last
-add-count-last c = search needs
+add-count-last c =
+    let e = edges (c .before .before .before .before .pre .boundary) (c .before .before .before .before .pre .boundary-2) in omega arith
 
 sub-count-last : tie.Need-sub-count-last
-sub-count-last c = search needs
+sub-count-last c =
+    let e = edges (c .before .before .before .before .pre .boundary) (c .before .before .before .before .pre .boundary-2) in omega arith
 
 count-last-requires : tie.Need-count-last-requires
 unfolding third
-count-last-requires c κs = (omega arith, omega (arith, third-small (c .before .before .before .before .args .h) (c .before .before .before .before .args .r) (c .before .before .before .before .pre .inside)), omega arith, omega arith)
+count-last-requires c κs =
+    let e = edges (c .before .before .before .before .pre .boundary) (c .before .before .before .before .pre .boundary-2) in
+    let t = third-small (c .before .before .before .before .args .h) (c .before .before .before .before .args .r) (c .before .before .before .before .pre .inside) in
+    (omega arith, omega arith, omega arith, omega arith)
 
 add-count-last-2 : tie.Need-add-count-last-2
 unfolding third
-add-count-last-2 c = omega (arith, third-small (c .before .before .before .before .before .before .args .h) (c .before .before .before .before .before .before .args .r) (c .before .before .before .before .before .before .pre .inside))
+add-count-last-2 c =
+    let t = third-small (c .before .before .before .before .before .before .args .h) (c .before .before .before .before .before .before .args .r) (c .before .before .before .before .before .before .pre .inside) in omega arith
 
 add-count-last-3 : tie.Need-add-count-last-3
-add-count-last-3 c = search needs
+add-count-last-3 c =
+    let e = edges (c .before .before .before .before .before .before .pre .boundary) (c .before .before .before .before .before .before .pre .boundary-2) in omega arith
 
 add-count-last-4 : tie.Need-add-count-last-4
-add-count-last-4 c = search needs
+add-count-last-4 c =
+    let e = edges (c .before .before .before .before .before .before .pre .boundary) (c .before .before .before .before .before .before .pre .boundary-2) in omega arith
 
 sub-count-last-2 : tie.Need-sub-count-last-2
-sub-count-last-2 c = search needs
+sub-count-last-2 c =
+    let e = edges (c .before .before .before .before .before .before .pre .boundary) (c .before .before .before .before .before .before .pre .boundary-2) in omega arith
 
 sub-count-last-3 : tie.Need-sub-count-last-3
-sub-count-last-3 c = search needs
+sub-count-last-3 c =
+    let e = edges (c .before .before .before .before .before .before .pre .boundary) (c .before .before .before .before .before .before .pre .boundary-2) in omega arith
 
 count-last-requires-2 : tie.Need-count-last-requires-2
 unfolding third
-count-last-requires-2 c κs = (omega arith, omega (arith, third-small (c .before .before .before .before .before .before .args .h) (c .before .before .before .before .before .before .args .r) (c .before .before .before .before .before .before .pre .inside)), omega arith, omega arith)
+count-last-requires-2 c κs =
+    let e = edges (c .before .before .before .before .before .before .pre .boundary) (c .before .before .before .before .before .before .pre .boundary-2) in
+    let t = third-small (c .before .before .before .before .before .before .args .h) (c .before .before .before .before .before .before .args .r) (c .before .before .before .before .before .before .pre .inside) in
+    (omega arith, omega arith, omega arith, omega arith)
 
 returns : tie.Need-returns
 unfolding third
 returns c =
     let a = c .before .before .before .before .before .before .before .args in
     let p = c .before .before .before .before .before .before .before .pre in
-    row-counted (a .w) (a .h) (a .r) (a .base) _ _ _ (a .pixels .now) refl refl refl (p .wide) (p .there) (c .before .before .before .before .count-columns .ensures) (c .before .before .count-last .ensures) (c .count-last2 .ensures)
+    let e = edges (p .boundary) (p .boundary-2) in
+    row-counted (a .w) (a .h) (a .r) (a .base) _ _ _ (a .pixels .now) (e .second) (e .third) refl (p .wide) (p .there) (c .before .before .before .before .count-columns .ensures) (c .before .before .count-last .ensures) (c .count-last2 .ensures)
 
 pub count-row-spec : {M : Type 1} → statement M
 count-row-spec =
@@ -87,9 +100,6 @@ count-row-spec =
     mul-t
     div-t
     mul-t-2
-    add-second
-    mul-third
-    add-third
     sub-m
     add-count-columns
     add-count-columns-2

@@ -1,15 +1,33 @@
+use Prim.Native.Nat.{_≤_, _<_, _^_}
+use native.Mathlib.Omega.{arith}
+use mathlib.Core.Path.{ap}
 use borrow.Author.Needs.{needs}
+use Rattle.figures.specs.declared.opening.Sizes.{Sizes}
+use Rattle.luma_laws.proofs.Columns.{boundary-is, boundary-one}
+use Rattle.luma_state.proofs.Kept.{columns-most}
 use Rattle.luma_state.proofs.stored.grid_of.Statement.{statement}
 use Rattle.luma_state.proofs.stored.grid_of.Tie as tie
 
 sizes-of-requires : tie.Need-sizes-of-requires
 sizes-of-requires c κs = search needs
 
-cast-t3 : tie.Need-cast-t3
-cast-t3 c = search needs
+boundary-requires : tie.Need-boundary-requires
+boundary-requires c κs =
+    (omega arith, omega (arith, columns-most (c .before .args .o), ap (λ (z : Sizes). z .columns) (c .sizes-of .ensures)))
+
+boundary-requires-2 : tie.Need-boundary-requires-2
+boundary-requires-2 c κs =
+    (omega arith, omega (arith, columns-most (c .before .before .args .o), ap (λ (z : Sizes). z .columns) (c .before .sizes-of .ensures)))
+
+cast-t5 : tie.Need-cast-t5
+cast-t5 c = search needs
 
 returns : tie.Need-returns
-returns c = rw (c .before .sizes-of .ensures)
+returns c =
+    let z = c .before .before .before .sizes-of .result in
+    rw
+    (boundary-one (c .before .before .boundary .ensures .0) (boundary-is 1 (z .columns)), boundary-one (c .before .boundary2 .ensures .0) (boundary-is 2 (z .columns)), c .before .before .before .sizes-of .ensures)
 
 pub grid-of-spec : {M : Type 1} → statement M
-grid-of-spec = tie.close (tie.spec sizes-of-requires cast-t3 returns)
+grid-of-spec =
+    tie.close (tie.spec sizes-of-requires boundary-requires boundary-requires-2 cast-t5 returns)
