@@ -5,10 +5,12 @@
  *
  * What a caller owes, of every call:
  *  - A pointer to an array or a structure is valid for the whole of it and aligned. A pointer with a length is valid for so many bytes; it is not null,
- *    even where the length is 0 (the carolsedge_sample_ functions take null with length 0).
+ *    even where the length is 0 (the carolsedge_sample_ and carolsedge_survey_ functions take null with length 0).
  *  - Memory that a call writes to overlaps no other memory of the same call, and nobody else uses it meanwhile.
- *  - A sample is opened before it is fed or sealed. Memory that somebody else wrote on gets free answers; the calls are safe on any contents of it.
- * Calls on different samples may run at the same time. A sample is plain memory: between calls it may be copied, stored and moved.
+ *  - A sample or a survey is opened before its other calls. Memory that somebody else wrote on gets free answers; the
+ *    calls are safe on any contents of it.
+ * Calls on different samples and surveys may run at the same time. Both are plain memory: between calls they may be
+ * copied, stored and moved.
  */
 #ifndef CAROLSEDGE_H
 #define CAROLSEDGE_H
@@ -39,7 +41,7 @@ enum {
     CAROLSEDGE_REFUSED_FRAME_LENGTH = 8,    /* a frame's stored length above 65,535; place: its last byte */
     CAROLSEDGE_REFUSED_UNITS = 9,           /* a 751st unit begins; place: byte 3 of the packet that begins it */
     CAROLSEDGE_REFUSED_LUMA_LENGTH = 10,    /* a byte of the luma past 750 pictures; place: that byte */
-    CAROLSEDGE_REFUSED_CAPTURE_INSIDE = 11, /* seal: the capture ends inside its header or a frame; place: its bytes fed */
+    CAROLSEDGE_REFUSED_CAPTURE_INSIDE = 11, /* seal, survey: it ends inside its header or a frame; place: its bytes fed */
     CAROLSEDGE_REFUSED_NO_PACKET = 12,      /* seal: no packet of PID */
     CAROLSEDGE_REFUSED_LUMA_INSIDE = 13,    /* seal: the luma ends inside a picture; place: its bytes fed */
     CAROLSEDGE_REFUSED_NO_PICTURE = 14,     /* seal: no picture */
@@ -48,7 +50,8 @@ enum {
     CAROLSEDGE_REFUSED_EDITION = 17,        /* reading: an edition that there is not */
     CAROLSEDGE_REFUSED_RECORD = 18,         /* reading: not allowed */
     CAROLSEDGE_REFUSED_ROW = 19,            /* reading: a row's number at or past the count */
-    CAROLSEDGE_REFUSED_OPENING_EDITION = 20 /* opening: an edition that there is not; tried after 3 */
+    CAROLSEDGE_REFUSED_OPENING_EDITION = 20, /* opening: an edition that there is not; tried after 3 */
+    CAROLSEDGE_REFUSED_NO_GOOD_PACKET = 21   /* survey: a complete capture without a good packet; tried after 11 */
 };
 
 /* ---- a sample */
@@ -131,6 +134,46 @@ static inline uint32_t carolsedge_sample_seal(const struct carolsedge_sample *s,
  * stands. Proved: what is written is what the rules give for the whole list. */
 bool carolsedge_replay(const uint8_t *script, size_t length, uint8_t *out, size_t room);
 
+/* ---- a survey: which identifier of a capture has most good packets (docs/RULE.md, 21) */
+
+enum { CAROLSEDGE_IDENTIFIERS = 8192 };
+
+/* The whole state of a survey. Its contents are the library's own. */
+struct carolsedge_survey {
+    uint64_t walk[CAROLSEDGE_WALK_WORDS]; /* the walk through the capture's frames, collected bytes, counts */
+    uint8_t kept[CAROLSEDGE_COLLECTED_BYTES];
+    uint32_t counts[CAROLSEDGE_IDENTIFIERS];
+};
+CAROLSEDGE_ASSERT(sizeof(struct carolsedge_survey) <= 65536, "the state of a survey stays within 64 KiB");
+
+void carolsedge_open_survey(uint64_t *walk, uint8_t *kept, uint32_t *counts);
+uint32_t carolsedge_feed_survey(uint64_t *walk, uint8_t *kept, uint32_t *counts, const uint8_t *piece, size_t length,
+                                uint64_t *value);
+uint32_t carolsedge_ask_survey(const uint64_t *walk, const uint32_t *counts, uint64_t *value, uint64_t *count);
+
+/* Opens a fresh survey. It takes no figures, and nothing refuses it. */
+static inline void carolsedge_survey_open(struct carolsedge_survey *s)
+{
+    carolsedge_open_survey(s->walk, s->kept, s->counts);
+}
+
+/* Feeds a piece of the capture, of any length. *value is the length, or the refusal's place (4 to 8, which later feeds
+ * and questions repeat). */
+static inline uint32_t carolsedge_survey_feed(struct carolsedge_survey *s, const uint8_t *piece, size_t length,
+                                              uint64_t *value)
+{
+    const uint8_t none = 0;
+    return carolsedge_feed_survey(s->walk, s->kept, s->counts, length ? piece : &none, length, value);
+}
+
+/* Asks what was fed so far: *value is the identifier with most good packets, the lowest among equals, and *count is
+ * how many it has. Refused: 4 to 8, 11 or 21; *value is the place, and *count is 0. The state does not change, so
+ * feeding may go on. Proved of any contents of the state: an identifier is below 8192 and its count above 0. */
+static inline uint32_t carolsedge_survey_ask(const struct carolsedge_survey *s, uint64_t *value, uint64_t *count)
+{
+    return carolsedge_ask_survey(s->walk, s->counts, value, count);
+}
+
 /* ---- a record */
 
 struct carolsedge_header {
@@ -166,9 +209,9 @@ uint32_t carolsedge_read_header(const uint8_t *record, size_t length, struct car
 uint32_t carolsedge_read_unit(const uint8_t *record, size_t length, size_t j, struct carolsedge_unit *row);
 uint32_t carolsedge_read_scene(const uint8_t *record, size_t length, size_t j, struct carolsedge_scene *row);
 
-/* A printed sheet of a record: lines of 100 columns and a line feed, on pages of 60 lines (docs/RULE.md, 17). The pages
- * go to the front of the buffer, and *value is their length; bytes behind them stand. Refused: 16, 17 or 18 with place
- * 0, then 15; the buffer stands, and *value is the place, so that a room of 0 asks how long the sheet is. */
+/* A printed sheet of a record: lines of 100 columns and a line feed, on pages of 60 lines (docs/RULE.md, 20). The
+ * pages go to the front of the buffer, and *value is their length; bytes behind them stand. Refused: 16, 17 or 18
+ * with place 0, then 15; the buffer stands, and *value is the place, so that a room of 0 asks for the length. */
 uint32_t carolsedge_sheet(const uint8_t *record, size_t length, uint8_t *buffer, size_t room, uint64_t *value);
 
 #ifdef __cplusplus

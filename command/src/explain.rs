@@ -35,7 +35,7 @@ const MENDS: &[&str] = &[
     "Cut the capture by time (editcap -F pcap -i 20 IN OUT), and measure each part with its own pictures.",
     "Cut by time: 750 pictures are 30 seconds at 25 a second (editcap -F pcap -i 20 IN OUT, and ffmpeg -ss .. -t 20).",
     "The capture is cut short, or still being written: end tcpdump by an interrupt, and copy the file whole.",
-    "Give --pid of the video's packets: tshark -r CAPTURE -T fields -e mp2t.pid | tr , '\\n' | sort | uniq -c",
+    "Give --pid of the video's packets: carolsedge survey CAPTURE names the identifier with most packets.",
     "See that --size is the size of the pictures, that a sample has one byte (8 bits), and that the file is whole.",
     "See that the decoder gives pictures: ffmpeg -i IN -vf extractplanes=y -fps_mode passthrough OUT.y4m",
     "Lend a buffer of the length that the place names; no record is longer than 32,064 bytes.",
@@ -44,6 +44,7 @@ const MENDS: &[&str] = &[
     "The file was altered or cut, or has bytes behind the record: look for another copy.",
     "Ask for rows from 0 up to, but without, the count in the record's header.",
     "Give --edition of the rules as 1 or 2, or leave it out: the newest is taken then.",
+    "See that a transport stream was captured: plain UDP over IPv4, unencrypted, all bytes of a frame (tcpdump -s 0).",
 ];
 
 const DAMAGED: &str =

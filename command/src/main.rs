@@ -13,6 +13,7 @@ mod sheet;
 mod show;
 mod signals;
 mod stop;
+mod survey;
 mod words;
 
 use std::ffi::OsString;
@@ -27,7 +28,8 @@ pub struct Subcommand {
     run: fn(Vec<OsString>) -> Result<(), Stop>,
 }
 
-const SUBCOMMANDS: &[Subcommand] = &[measure::SUBCOMMAND, show::SUBCOMMAND, sheet::SUBCOMMAND, explain::SUBCOMMAND];
+const SUBCOMMANDS: &[Subcommand] =
+    &[survey::SUBCOMMAND, measure::SUBCOMMAND, show::SUBCOMMAND, sheet::SUBCOMMAND, explain::SUBCOMMAND];
 
 const VERSION: &str = concat!("carolsedge ", env!("CARGO_PKG_VERSION"), "\n");
 

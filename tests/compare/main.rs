@@ -19,7 +19,13 @@ use std::sync::Mutex;
 use std::thread;
 
 /// Verbs of the independent program that read standard input, each with what makes its inputs.
-const FILTERS: [(&str, &str); 3] = [("show", "records"), ("sheet", "records"), ("sheet-into", "records")];
+const FILTERS: [(&str, &str); 5] = [
+    ("show", "records"),
+    ("sheet", "records"),
+    ("sheet-into", "records"),
+    ("survey", "captures"),
+    ("survey-replay", "make-survey"),
+];
 
 /// What was compared so far.
 #[derive(Default)]

@@ -1,4 +1,4 @@
-/* Functions with one fault each (FAULT, 1 to 11) in the place of the library's own, by the linker's --wrap: the forged
+/* Functions with one fault each (FAULT, 1 to 13) in the place of the library's own, by the linker's --wrap: the forged
  * calls have to notice every one. */
 #include <stddef.h>
 #include <stdint.h>
@@ -9,6 +9,8 @@ uint32_t __real_carolsedge_feed_capture(uint64_t *, uint8_t *, uint64_t *, uint6
 uint32_t __real_carolsedge_feed_luma(uint64_t *, uint32_t *, uint32_t *, uint8_t *, const uint8_t *, size_t, uint64_t *);
 uint32_t __real_carolsedge_seal(const uint64_t *, const uint8_t *, const uint64_t *, const uint64_t *, const uint64_t *, uint8_t *, size_t, uint64_t *);
 uint32_t __real_carolsedge_sheet(const uint8_t *, size_t, uint8_t *, size_t, uint64_t *);
+uint32_t __real_carolsedge_feed_survey(uint64_t *, uint8_t *, uint32_t *, const uint8_t *, size_t, uint64_t *);
+uint32_t __real_carolsedge_ask_survey(const uint64_t *, const uint32_t *, uint64_t *, uint64_t *);
 uint32_t __real_carolsedge_read_header(const uint8_t *, size_t, struct carolsedge_header *);
 uint32_t __real_carolsedge_read_unit(const uint8_t *, size_t, size_t, struct carolsedge_unit *);
 
@@ -63,5 +65,21 @@ uint32_t __wrap_carolsedge_sheet(const uint8_t *record, size_t length, uint8_t *
         buffer[*value] = 0;
     if (FAULT == 11 && k == 15) /* forgets the length needed */
         *value = 1;
+    return k;
+}
+
+uint32_t __wrap_carolsedge_feed_survey(uint64_t *walk, uint8_t *kept, uint32_t *counts, const uint8_t *piece,
+                                       size_t length, uint64_t *value)
+{
+    if (FAULT == 12) /* counts an identifier past the last */
+        counts[8192]++;
+    return __real_carolsedge_feed_survey(walk, kept, counts, piece, length, value);
+}
+
+uint32_t __wrap_carolsedge_ask_survey(const uint64_t *walk, const uint32_t *counts, uint64_t *value, uint64_t *count)
+{
+    uint32_t k = __real_carolsedge_ask_survey(walk, counts, value, count);
+    if (FAULT == 13 && k == 21) /* identifier 0 where no packet is good */
+        *value = 0, k = 0;
     return k;
 }

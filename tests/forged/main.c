@@ -3,7 +3,8 @@
  * in some of the calls, and what is left of a page is compared afterwards. A call that takes longer than LIMIT seconds, an answer past the
  * table's last number, a refusal that wrote to its buffer, and an opening that answers something else than the rule says end the run too.
  *
- * Usage: forged CALLS SEED. Makes so many calls of each function (of sheet a tenth, of replay, which makes several, a twentieth), and prints what they answered.
+ * Usage: forged CALLS SEED. Makes so many calls of each function (of sheet and of a survey's a tenth, of replay, which
+ * makes several, a twentieth), and prints what they answered.
  */
 #define _GNU_SOURCE
 #include <inttypes.h>
@@ -22,9 +23,12 @@
 #define LIMIT 5 /* seconds that a call may take */
 #endif
 
-enum { OPEN, FEED_CAPTURE, FEED_LUMA, SEAL, READ_HEADER, READ_UNIT, READ_SCENE, SHEET, REPLAY, FUNCTIONS };
-static const char *const name[FUNCTIONS] = {"open", "feed_capture", "feed_luma", "seal", "read_header", "read_unit", "read_scene", "sheet", "replay"};
-enum { LAST_NUMBER = 20 }; /* of the table of refusals */
+enum { OPEN, FEED_CAPTURE, FEED_LUMA, SEAL, READ_HEADER, READ_UNIT, READ_SCENE, SHEET, REPLAY,
+       OPEN_SURVEY, FEED_SURVEY, ASK_SURVEY, FUNCTIONS };
+static const char *const name[FUNCTIONS] = {"open", "feed_capture", "feed_luma", "seal", "read_header", "read_unit",
+                                             "read_scene", "sheet", "replay", "open_survey", "feed_survey",
+                                             "ask_survey"};
+enum { LAST_NUMBER = 21 }; /* of the table of refusals */
 static uint64_t answers[FUNCTIONS][LAST_NUMBER + 1], calls[FUNCTIONS], longest, seed;
 static volatile int under_way;
 static volatile sig_atomic_t ticks;
@@ -137,6 +141,7 @@ static uint32_t end(uint32_t number)
 
 enum { TRUE_STATES = 24, TRUE_RECORDS = 8 };
 static struct carolsedge_sample truth[TRUE_STATES];
+static struct carolsedge_survey surveyed[TRUE_STATES];
 static uint8_t true_record[TRUE_RECORDS][CAROLSEDGE_RECORD_MOST];
 static size_t true_length[TRUE_RECORDS];
 
@@ -180,12 +185,16 @@ static void make_true(int i)
     static uint8_t piece[65536];
     uint64_t value;
     struct carolsedge_sample *s = &truth[i];
+    struct carolsedge_survey *v = &surveyed[i];
+    carolsedge_survey_open(v);
     carolsedge_sample_open(s, 40, 30, 200000, 256, 1 + (uint32_t)i % CAROLSEDGE_NEWEST_EDITION);
     size_t n = file_header(piece);
     carolsedge_sample_feed_capture(s, piece, n, &value);
+    carolsedge_survey_feed(v, piece, n, &value);
     for (int j = 0; j < 1 + 40 * i; j++) {
         n = frame(piece, (uint32_t)j, 1 + below(7));
         carolsedge_sample_feed_capture(s, piece, n, &value);
+        carolsedge_survey_feed(v, piece, n, &value);
     }
     for (int j = 0; j < 1 + 25 * i; j++) {
         memset(piece, j / 6 % 2 ? 200 : 20, 1200);
@@ -206,6 +215,7 @@ static void make_true(int i)
 /* ---- forging */
 
 static struct room walk, kept, numbers, table, luma, sums, bins, picture, out, header, lent, script, pages;
+static struct room survey_walk, survey_kept, counts;
 
 /* The words of a lent array, by one way of forging. */
 static void forge(uint8_t *p, size_t size, const void *true_words, size_t word, int way)
@@ -504,6 +514,80 @@ static void call_replay(void)
     check_slack(&script), check_slack(&out);
 }
 
+/* A survey's state, forged as a sample's is. */
+static void forge_survey(void)
+{
+    const struct carolsedge_survey *t = &surveyed[below(TRUE_STATES)];
+    int way = (int)below(8);
+    forge(lend(&survey_walk, sizeof t->walk), sizeof t->walk, t->walk, 8, way);
+    forge(lend(&survey_kept, sizeof t->kept), sizeof t->kept, t->kept, 1, way);
+    forge(lend(&counts, sizeof t->counts), sizeof t->counts, t->counts, 4, way);
+}
+
+static void alter_survey(void)
+{
+    uint64_t *w = (uint64_t *)(void *)at(&survey_walk);
+    uint32_t *c = (uint32_t *)(void *)at(&counts);
+    switch (below(4)) {
+    case 0: w[0] = 0, w[2] = 24 + below(1000), w[3] = below(80), w[5] = below(200); break; /* through the walk */
+    case 1: w[0] = 0, w[2] = 1000, w[3] = 0; break; /* ready for a question */
+    case 2: w[below(CAROLSEDGE_WALK_WORDS)] = figure(), c[below(CAROLSEDGE_IDENTIFIERS)] = (uint32_t)figure(); break;
+    default: break;
+    }
+}
+
+static void check_survey(void)
+{
+    check_slack(&survey_walk), check_slack(&survey_kept), check_slack(&counts), check_slack(&lent);
+}
+
+static void call_feed_survey(void)
+{
+    size_t n;
+    const uint8_t *piece = piece_of(&n);
+    uint64_t *value = (uint64_t *)(void *)lend(&lent, 8);
+    begin(FEED_SURVEY);
+    end(carolsedge_feed_survey((uint64_t *)(void *)at(&survey_walk), at(&survey_kept), (uint32_t *)(void *)at(&counts),
+                               piece, n, value));
+    check_survey();
+}
+
+/* What a question reads cannot be written meanwhile. An identifier is below 8192 and has some packets. */
+static void call_ask_survey(void)
+{
+    uint64_t *value = (uint64_t *)(void *)lend(&lent, 16), *count = value + 1;
+    int guarded = below(16) == 0;
+    if (guarded)
+        protect(&survey_walk, PROT_READ), protect(&counts, PROT_READ);
+    begin(ASK_SURVEY);
+    uint32_t k = end(carolsedge_ask_survey((const uint64_t *)(void *)at(&survey_walk),
+                                           (const uint32_t *)(void *)at(&counts), value, count));
+    if (guarded)
+        protect(&survey_walk, PROT_READ | PROT_WRITE), protect(&counts, PROT_READ | PROT_WRITE);
+    if (k == CAROLSEDGE_DONE ? *value >= CAROLSEDGE_IDENTIFIERS || *count == 0 : *count != 0)
+        fail("an identifier or a count that is none");
+    check_survey();
+}
+
+static void call_open_survey(void)
+{
+    begin(OPEN_SURVEY);
+    carolsedge_open_survey((uint64_t *)(void *)at(&survey_walk), at(&survey_kept), (uint32_t *)(void *)at(&counts));
+    end(CAROLSEDGE_DONE);
+    check_survey();
+}
+
+static void round_of_surveys(void)
+{
+    forge_survey();
+    for (int i = 0; i < 4; i++)
+        call_feed_survey(), alter_survey(), call_ask_survey(), alter_survey();
+    call_open_survey();
+    call_ask_survey();
+    if (answers[ASK_SURVEY][CAROLSEDGE_REFUSED_CAPTURE_INSIDE] == 0)
+        fail("a fresh survey is not inside its header");
+}
+
 /* A forged state, and a few calls on it. */
 static void round_of_calls(uint64_t most)
 {
@@ -522,6 +606,8 @@ static void round_of_calls(uint64_t most)
         call_sheet();
     if (calls[REPLAY] < most / 20)
         call_replay();
+    if (calls[FEED_SURVEY] < most / 10)
+        round_of_surveys();
 }
 
 int main(int words, char **word)
@@ -537,7 +623,10 @@ int main(int words, char **word)
     luma = room_of(sizeof truth->luma), sums = room_of(sizeof truth->sums), bins = room_of(sizeof truth->bins);
     picture = room_of(sizeof truth->picture), out = room_of(CAROLSEDGE_RECORD_MOST + 100), header = room_of(128), lent = room_of(128), script = room_of(4096);
     pages = room_of(CAROLSEDGE_SHEET_MOST + 100);
-    while (calls[SEAL] < most || calls[OPEN] < most || calls[READ_HEADER] < most || calls[SHEET] < most / 10 || calls[REPLAY] < most / 20)
+    survey_walk = room_of(sizeof surveyed->walk), survey_kept = room_of(sizeof surveyed->kept);
+    counts = room_of(sizeof surveyed->counts);
+    while (calls[SEAL] < most || calls[OPEN] < most || calls[READ_HEADER] < most || calls[SHEET] < most / 10 ||
+           calls[REPLAY] < most / 20 || calls[FEED_SURVEY] < most / 10)
         round_of_calls(most);
     for (int f = 0; f < FUNCTIONS; f++) {
         printf("forged: %-12s %" PRIu64 " calls; answers", name[f], calls[f]);

@@ -43,10 +43,12 @@ mod raw;
 mod record;
 mod refusal;
 mod sample;
+mod survey;
 
 pub use record::{sheet, Header, Record, Scene, Unit};
 pub use refusal::Refusal;
 pub use sample::{Opening, Sample};
+pub use survey::{Most, Survey};
 
 /// The version of this crate, and of the library's header (`CAROLSEDGE_VERSION`).
 pub const VERSION: &str = env!("CARGO_PKG_VERSION");

@@ -13,6 +13,14 @@ pub struct State {
     picture: [u8; 14104],
 }
 
+/// The memory that a survey lends to its calls. Every call is safe on any contents of it.
+#[derive(Clone)]
+pub struct SurveyState {
+    walk: [u64; 16],
+    kept: [u8; 64],
+    counts: [u32; 8192],
+}
+
 pub type Figures = [u64; 12];
 pub type UnitFigures = [u64; 5];
 pub type SceneFigures = [u64; 7];
@@ -73,6 +81,21 @@ extern "C" {
         length: usize,
         j: usize,
         row: &mut SceneFigures,
+    ) -> u32;
+    fn carolsedge_open_survey(walk: &mut [u64; 16], kept: &mut [u8; 64], counts: &mut [u32; 8192]);
+    fn carolsedge_feed_survey(
+        walk: &mut [u64; 16],
+        kept: &mut [u8; 64],
+        counts: &mut [u32; 8192],
+        piece: *const u8,
+        length: usize,
+        value: &mut u64,
+    ) -> u32;
+    fn carolsedge_ask_survey(
+        walk: &[u64; 16],
+        counts: &[u32; 8192],
+        value: &mut u64,
+        count: &mut u64,
     ) -> u32;
     fn carolsedge_sheet(
         record: *const u8,
@@ -172,6 +195,48 @@ impl State {
             )
         };
         (number, value)
+    }
+}
+
+impl SurveyState {
+    /// The state of a fresh survey.
+    pub fn open() -> Box<SurveyState> {
+        let mut state = Box::new(SurveyState {
+            walk: [0; 16],
+            kept: [0; 64],
+            counts: [0; 8192],
+        });
+        let SurveyState { walk, kept, counts } = &mut *state;
+        // SAFETY: the arrays have the sizes that the function writes to, and are borrowed apart.
+        unsafe { carolsedge_open_survey(walk, kept, counts) };
+        state
+    }
+
+    /// The refusal's number, or 0, and the value.
+    pub fn feed(&mut self, piece: &[u8]) -> (u32, u64) {
+        let mut value = 0;
+        // SAFETY: the arrays have the sizes that the function uses; pointer and length are a slice's; all are borrowed
+        // apart.
+        let number = unsafe {
+            carolsedge_feed_survey(
+                &mut self.walk,
+                &mut self.kept,
+                &mut self.counts,
+                piece.as_ptr(),
+                piece.len(),
+                &mut value,
+            )
+        };
+        (number, value)
+    }
+
+    /// The refusal's number, or 0; the identifier, or the place; and the count.
+    pub fn ask(&self) -> (u32, u64, u64) {
+        let (mut value, mut count) = (0, 0);
+        // SAFETY: the arrays have the sizes that the function reads; the numbers are borrowed apart.
+        let number =
+            unsafe { carolsedge_ask_survey(&self.walk, &self.counts, &mut value, &mut count) };
+        (number, value, count)
     }
 }
 

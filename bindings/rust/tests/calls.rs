@@ -1,5 +1,5 @@
 //! The calls from Rust: document 01's worked sample, cuts, every refusal with its place, and that a refusal leaves lent memory as it was.
-use carolsedge::{sheet, Opening, Record, Refusal, Sample, Scene, Unit};
+use carolsedge::{sheet, Most, Opening, Record, Refusal, Sample, Scene, Survey, Unit};
 use carolsedge::{NEWEST_EDITION, RECORD_MOST, SHEET_MOST};
 
 const BLACK: Opening = Opening {
@@ -406,4 +406,67 @@ fn words() {
         error.to_string(),
         "refused 12: the capture has no packet with the identifier"
     );
+}
+
+fn surveyed(capture: &[u8], piece: usize) -> Result<Most, Refusal> {
+    let mut survey = Survey::open();
+    for bytes in capture.chunks(piece) {
+        let fed = survey.feed(bytes);
+        assert!(fed == Ok(bytes.len()) || fed == survey.ask().map(|_| 0));
+    }
+    survey.ask()
+}
+
+// Every cutting ends alike.
+fn survey(capture: &[u8]) -> Result<Most, Refusal> {
+    let whole = surveyed(capture, capture.len().max(1));
+    for piece in [1, 3, 16, 58, 188, 300] {
+        assert_eq!(surveyed(capture, piece), whole, "pieces of {piece}");
+    }
+    whole
+}
+
+#[test]
+fn surveys() {
+    let capture = |packets: &[[u8; 188]]| [file_header(), frame(1, 2, &carrying(packets))].concat();
+    let good = |pid| packet(pid, false, 0);
+    let mut bad = good(256);
+    bad[0] = 0x46;
+    let mut damaged = good(256);
+    damaged[1] |= 0x80;
+    let most = |pid, packets| Ok(Most { pid, packets });
+    assert_eq!(
+        survey(&capture(&[good(257), good(256), good(257)])),
+        most(257, 2)
+    );
+    assert_eq!(survey(&capture(&[good(8191), good(0)])), most(0, 1));
+    assert_eq!(survey(&capture(&[good(8191)])), most(8191, 1));
+    assert_eq!(survey(&capture(&[bad, bad, good(300)])), most(300, 1));
+    assert_eq!(
+        survey(&capture(&[damaged, damaged, good(300)])),
+        most(256, 2)
+    );
+    assert_eq!(survey(&capture(&[bad])), Err(refusal(21, 0)));
+    assert_eq!(survey(&file_header()), Err(refusal(21, 0)));
+    assert_eq!(survey(&[]), Err(refusal(11, 0)));
+    assert_eq!(
+        survey(&[capture(&[bad]), vec![0]].concat()),
+        Err(refusal(11, 271))
+    );
+    assert_eq!(survey(&[0; 30]), Err(refusal(5, 3)));
+    assert_eq!(
+        survey(&[file_header(), frame(0, 1_000_000, &[])].concat()),
+        Err(refusal(7, 31))
+    );
+    let mut early = Survey::open();
+    let bytes = capture(&[good(9)]);
+    early.feed(&bytes[..100]).unwrap();
+    assert_eq!(early.ask(), Err(refusal(11, 100)));
+    let mut other = early.clone();
+    early.feed(&bytes[100..]).unwrap();
+    assert_eq!(
+        (early.ask(), other.ask()),
+        (most(9, 1), Err(refusal(11, 100)))
+    );
+    assert_eq!(other.feed(&[]), Ok(0));
 }

@@ -1,4 +1,5 @@
 pub mod Answers
 pub mod Listed
 pub mod Lists
+pub mod Surveys
 pub mod Unplaced

@@ -14,8 +14,11 @@ use Rattle.rules.specs.Seal.{sealedLength, noRoom, sealFault, captureAnswer, lu
 use Rattle.rules.specs.Reading.{readingFault, unitFault, sceneFault, headerOf, unitAt, sceneAt, orHeader, orUnit}
 use Rattle.rules.specs.Reading.{orScene, headerAnswer, unitAnswer, sceneAnswer}
 use Rattle.rules.specs.Sheet.{sheetLength, sheetAnswer}
+use Rattle.rules.specs.Capture.{formatFault}
+use Rattle.rules.specs.Survey.{goodPackets, identifiers, withMost, surveyFeedAnswer, surveyFault, orMost, surveyAnswer}
 use Rattle.rules.proofs.Laws.Listed.{Numbered, of-either, opening, capture, luma, seal, reading, unit, scene, room}
-use Rattle.carolsedge.specs.Numbers.{numberOf, headerNumber, unitNumber, sceneNumber}
+use Rattle.rules.proofs.Laws.Listed.{format, survey}
+use Rattle.carolsedge.specs.Numbers.{numberOf, headerNumber, unitNumber, sceneNumber, mostNumber}
 
 -- reading's, then 15
 pub sheet : (r : List ℕ) (n : ℕ) → Numbered (readingFault r orElse noRoom n (sheetLength r))
@@ -75,3 +78,18 @@ pub sheet-number : (r : List ℕ) (n : ℕ) →
     numberOf (sheetAnswer r n) ≡ numberIn (readingFault r orElse noRoom n (sheetLength r))
 unfolding sheetAnswer
 sheet-number r n = of-answer (readingFault r orElse noRoom n (sheetLength r)) (sheetLength r) (sheet r n)
+
+pub survey-feed-number : (c : List ℕ) (n : ℕ) → numberOf (surveyFeedAnswer c n) ≡ numberIn (formatFault c)
+unfolding surveyFeedAnswer
+survey-feed-number c n = of-answer (formatFault c) n (format c)
+
+of-most : (f : Fault) (id n : ℕ) → Numbered f → mostNumber (orMost f id n) ≡ numberIn f
+of-most none id n x = refl
+of-most (fault k p) id n x = x
+
+pub survey-number : (c : List ℕ) → mostNumber (surveyAnswer c) ≡
+    numberIn (surveyFault c (goodPackets c (withMost (goodPackets c) identifiers)))
+unfolding surveyAnswer
+survey-number c =
+    let best = withMost (goodPackets c) identifiers in
+    of-most (surveyFault c (goodPackets c best)) best (goodPackets c best) (survey c (goodPackets c best))

@@ -5,6 +5,7 @@ use mathlib.Core.List.{List}
 use lib.ListN.{length}
 use Rattle.rules.specs.declared.Opening.{Opening}
 use Rattle.rules.specs.declared.Answer.{Answer}
+use Rattle.rules.specs.declared.SurveyAnswer.{SurveyAnswer}
 use Rattle.rules.specs.Reading.{headerAnswer, unitAnswer, sceneAnswer}
 use Rattle.rules.specs.Sheet.{sheetAnswer, sheetBuffer}
 use Rattle.rules.specs.Calls.{Question, Reply, lentAfter}
@@ -14,7 +15,9 @@ use Rattle.luma.specs.Contract as side-luma
 use Rattle.sample.specs.State.{State, Words}
 use Rattle.sample.specs.Contract.{OpenPost, Asked}
 use Rattle.carolsedge.specs.Numbers.{numberOf, valueOf, replyNumber, replyValue, headerNumber, unitNumber}
-use Rattle.carolsedge.specs.Numbers.{sceneNumber}
+use Rattle.carolsedge.specs.Numbers.{sceneNumber, mostNumber, mostValue, mostCount}
+use Rattle.survey.specs.State as state-survey
+use Rattle.survey.specs.Contract as of-survey
 use Rattle.carolsedge.specs.Figures.{headerInto, unitInto, sceneInto}
 
 -- the opening, the number, the state after
@@ -64,3 +67,19 @@ pub record SheetPrinted (bytes before : List ℕ) (number value : ℕ) (after : 
   pub numbered : number ≡ numberOf (sheetAnswer bytes (length before))
   pub valued : value ≡ valueOf (sheetAnswer bytes (length before))
   pub printed : after ≡ sheetBuffer bytes before
+
+-- the survey's state before, the piece, the number, the value, the state after
+pub record SurveyFed (before : state-survey.State) (piece : List ℕ) (number value : ℕ) (after : state-survey.State) :
+    Type 0 where
+  pub answer : Answer
+  pub made : of-survey.FeedPost before piece answer after
+  pub numbered : number ≡ numberOf answer
+  pub valued : value ≡ valueOf answer
+
+-- the survey's words and counts, the number, the value, the count
+pub record SurveyTold (walk counts : List ℕ) (number value count : ℕ) : Type 0 where
+  pub answer : SurveyAnswer
+  pub made : of-survey.AskPost walk counts answer
+  pub numbered : number ≡ mostNumber answer
+  pub valued : value ≡ mostValue answer
+  pub counted : count ≡ mostCount answer

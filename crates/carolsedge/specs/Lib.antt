@@ -2,3 +2,4 @@ pub mod Numbers
 pub mod Figures
 pub mod Contract
 pub mod Calls
+pub mod Surveys

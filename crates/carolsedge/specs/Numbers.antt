@@ -5,9 +5,11 @@ use Rattle.rules.specs.declared.Answer.the-variants.{Done, Refused}
 use Rattle.rules.specs.declared.HeaderAnswer.{HeaderAnswer}
 use Rattle.rules.specs.declared.UnitAnswer.{UnitAnswer}
 use Rattle.rules.specs.declared.SceneAnswer.{SceneAnswer}
+use Rattle.rules.specs.declared.SurveyAnswer.{SurveyAnswer}
 use Rattle.rules.specs.declared.HeaderAnswer.the-variants as of-header
 use Rattle.rules.specs.declared.UnitAnswer.the-variants as of-unit
 use Rattle.rules.specs.declared.SceneAnswer.the-variants as of-scene
+use Rattle.rules.specs.declared.SurveyAnswer.the-variants as of-survey
 use Rattle.rules.specs.Refusals.{listed}
 use Rattle.rules.specs.Calls.{Reply, sealedInto}
 
@@ -38,3 +40,16 @@ unitNumber (of-unit.Refused k p) = listed k
 abbrev pub sceneNumber : SceneAnswer → ℕ
 sceneNumber (of-scene.Given s) = 0
 sceneNumber (of-scene.Refused k p) = listed k
+
+-- of a survey's answer, which has a third number, how many packets the identifier has
+abbrev pub mostNumber : SurveyAnswer → ℕ
+mostNumber (of-survey.Most id n) = 0
+mostNumber (of-survey.Refused k p) = listed k
+
+abbrev pub mostValue : SurveyAnswer → ℕ
+mostValue (of-survey.Most id n) = id
+mostValue (of-survey.Refused k p) = p
+
+abbrev pub mostCount : SurveyAnswer → ℕ
+mostCount (of-survey.Most id n) = n
+mostCount (of-survey.Refused k p) = 0

@@ -1,6 +1,6 @@
 // The calls as C functions. A slice goes as a pointer and a length, an array as a pointer. Each function is thin: it
-// hands its memory to the call of `sample`, `record_view` or `record_sheet` and splits the answer into numbers. A number
-// is 0 where the call is done, and otherwise that of document 01's table.
+// hands its memory to the call of `sample`, `record_view`, `record_sheet` or `survey` and splits the answer into
+// numbers. A number is 0 where the call is done, and otherwise that of document 01's table.
 ghost use mathlib.Core.Path.{_≡_};
 ghost use Rattle.replay.specs.Script.{Replayed};
 ghost use Rattle.rules.specs.Refusals.{listed};
@@ -8,7 +8,10 @@ ghost use Rattle.rules.specs.Calls.{seal};
 ghost use Rattle.carolsedge.specs.Numbers.{numberOf, valueOf};
 ghost use Rattle.carolsedge.specs.Figures.{figuresOf, unitFigures, sceneFigures};
 ghost use Rattle.carolsedge.specs.Contract.{Opened, FedCapture, FedLuma, Told, HeaderRead, UnitRead, SceneRead};
-ghost use Rattle.carolsedge.specs.Contract.{SheetPrinted};
+ghost use Rattle.carolsedge.specs.Contract.{SheetPrinted, SurveyFed, SurveyTold};
+ghost use Rattle.survey.specs.State.{stateOf};
+ghost use Rattle.survey.specs.Contract as of-survey;
+ghost use Rattle.carolsedge.specs.Numbers.{mostNumber, mostValue, mostCount};
 use capture::Numbers;
 use capture_units::Table;
 use capture_walk::Collected;
@@ -19,14 +22,16 @@ use rules::HeaderAnswer;
 use rules::Opening;
 use rules::SceneAnswer;
 use rules::SceneRow;
+use rules::SurveyAnswer;
 use rules::UnitAnswer;
 use rules::UnitRow;
+use survey::Counts;
 
 // A refusal's number.
 fn listed_number(number: u64) -> u32
     ensures { λ r. ⌜ r ≡ listed number ⌝ }
 {
-    sample::listed_number(number) as u32
+    figures::listed_number(number) as u32
 }
 
 fn number_of(a: Answer) -> u32
@@ -238,4 +243,92 @@ pub extern "C" fn carolsedge_sheet(bytes: &[u8], buffer: &mut [u8], value: &mut 
     let a = record_sheet::sheet(bytes, buffer);
     *value = value_of(a);
     number_of(a)
+}
+
+// ---- a survey
+
+fn most_number(a: SurveyAnswer) -> u32
+    ensures { λ r. ⌜ r ≡ mostNumber a ⌝ }
+{
+    match a {
+        SurveyAnswer::Most {
+            identifier: _,
+            count: _,
+        } => 0,
+        SurveyAnswer::Refused { number, place: _ } => listed_number(number),
+    }
+}
+
+fn most_value(a: SurveyAnswer) -> u64
+    ensures { λ r. ⌜ r ≡ mostValue a ⌝ }
+{
+    match a {
+        SurveyAnswer::Most {
+            identifier,
+            count: _,
+        } => identifier,
+        SurveyAnswer::Refused { number: _, place } => place,
+    }
+}
+
+fn most_count(a: SurveyAnswer) -> u64
+    ensures { λ r. ⌜ r ≡ mostCount a ⌝ }
+{
+    match a {
+        SurveyAnswer::Most {
+            identifier: _,
+            count,
+        } => count,
+        SurveyAnswer::Refused {
+            number: _,
+            place: _,
+        } => 0,
+    }
+}
+
+// Opens a fresh survey.
+#[no_mangle]
+pub extern "C" fn carolsedge_open_survey(
+    walk: &mut WalkWords,
+    kept: &mut Collected,
+    counts: &mut Counts,
+)
+    ensures { λ _. ⌜ of-survey.Opened (stateOf (now (walk .exit)) (now (kept .exit)) (now (counts .exit))) ⌝ }
+{
+    survey::open(walk, kept, counts);
+}
+
+// Feeds a piece of the capture to a survey. The value is the piece's length, or the refusal's place.
+#[no_mangle]
+pub extern "C" fn carolsedge_feed_survey(
+    walk: &mut WalkWords,
+    kept: &mut Collected,
+    counts: &mut Counts,
+    piece: &[u8],
+    value: &mut u64,
+) -> u32
+    ensures { λ r. ⌜ SurveyFed (stateOf (now (walk .entry)) (now (kept .entry)) (now (counts .entry)))
+        (now (piece .entry)) r (now (value .exit))
+        (stateOf (now (walk .exit)) (now (kept .exit)) (now (counts .exit))) ⌝ }
+{
+    let a = survey::feed(walk, kept, counts, piece);
+    *value = value_of(a);
+    number_of(a)
+}
+
+// Asks a survey. The value is the identifier with most good packets, or the refusal's place; the count is how many it
+// has, or 0.
+#[no_mangle]
+pub extern "C" fn carolsedge_ask_survey(
+    walk: &WalkWords,
+    counts: &Counts,
+    value: &mut u64,
+    count: &mut u64,
+) -> u32
+    ensures { λ r. ⌜ SurveyTold (now (walk .entry)) (now (counts .entry)) r (now (value .exit)) (now (count .exit)) ⌝ }
+{
+    let a = survey::ask(walk, counts);
+    *value = most_value(a);
+    *count = most_count(a);
+    most_number(a)
 }

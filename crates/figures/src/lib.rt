@@ -3,6 +3,7 @@ mod editions;
 mod gaps;
 mod numbers;
 pub mod opening;
+mod refusals;
 
 pub use editions::heeds_splices;
 pub use editions::is_edition;
@@ -17,3 +18,4 @@ pub use opening::good_size;
 pub use opening::good_time;
 pub use opening::opening_fault;
 pub use opening::sizes_of;
+pub use refusals::listed_number;

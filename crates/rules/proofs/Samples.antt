@@ -34,20 +34,20 @@ use Rattle.rules.proofs.Worked.{Case}
 -- ---- the parts that samples are made of
 
 -- a libpcap header of this first word and this link type
-abbrev fileHeader : ℕ → ℕ → List ℕ
+abbrev pub fileHeader : ℕ → ℕ → List ℕ
 fileHeader magic link = le32 magic ++ replicate 16 0 ++ le32 link
 
-abbrev goodHeader : List ℕ
+abbrev pub goodHeader : List ℕ
 goodHeader = fileHeader 0xA1B2C3D4 1
 
 -- a frame's header, and a frame with n packets of 188 bytes
-abbrev frameHeader : ℕ → ℕ → ℕ → List ℕ
+abbrev pub frameHeader : ℕ → ℕ → ℕ → List ℕ
 frameHeader secs micros stored = le32 secs ++ le32 micros ++ le32 stored ++ le32 stored
 
-abbrev big16 : ℕ → List ℕ
+abbrev pub big16 : ℕ → List ℕ
 big16 n = (n / 256) ∷ (n % 256) ∷ []
 
-abbrev frameWith : ℕ → ℕ → ℕ → List ℕ → List ℕ
+abbrev pub frameWith : ℕ → ℕ → ℕ → List ℕ → List ℕ
 frameWith secs micros n cells =
     frameHeader secs micros (42 + 188 * n)
     ++ replicate 12 0 ++ 0x08 ∷ 0x00 ∷ 0x45 ∷ 0 ∷ []
@@ -56,7 +56,7 @@ frameWith secs micros n cells =
     ++ cells
 
 -- a packet of this identifier: with its start mark (0x40) or without (0), and its counter
-abbrev packetOf : ℕ → ℕ → ℕ → List ℕ
+abbrev pub packetOf : ℕ → ℕ → ℕ → List ℕ
 packetOf pid mark n = 0x47 ∷ (mark + pid / 256) ∷ (pid % 256) ∷ (0x10 + n) ∷ replicate 184 0xFF
 
 -- a packet of this identifier with its counter n and a discontinuity indicator in an adaptation field of m bytes

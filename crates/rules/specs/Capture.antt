@@ -89,6 +89,13 @@ beginsAt (a ∷ more) = fault 9 (a .place + 3)
 unfoldable pub tooManyUnits : Opening → List ℕ → Fault
 tooManyUnits o capture = beginsAt (drop 750 (beginnings (shownWanted o capture)))
 
+-- what the joined bytes show first of 4 to 8, to one who knows no opening
+unfoldable pub formatFault : List ℕ → Fault
+formatFault capture =
+    earlier (tooLong capture)
+    (earlier (wrongMagic capture)
+    (earlier (wrongLink capture) (wrongFrame (length capture) 24 (allFrames capture))))
+
 -- what the capture's joined bytes show first
 unfoldable pub captureFault : Opening → List ℕ → Fault
 captureFault o capture =

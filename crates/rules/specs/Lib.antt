@@ -21,3 +21,4 @@ pub mod Seal
 pub mod Calls
 pub mod Digits
 pub mod Sheet
+pub mod Survey

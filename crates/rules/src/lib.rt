@@ -11,7 +11,7 @@ pub struct Opening {
 }
 
 // The last number of the table of refusals.
-pub const LAST_NUMBER: u64 = 20;
+pub const LAST_NUMBER: u64 = 21;
 
 // What a call answers: done, with its length, or refused, with document 01's number and the place.
 pub enum Answer {
@@ -75,5 +75,11 @@ pub enum UnitAnswer {
 
 pub enum SceneAnswer {
     Given(SceneRow),
+    Refused { number: u64, place: u64 },
+}
+
+// What a survey answers: the identifier with most good packets and how many it has, or a refusal (document 02, R-4).
+pub enum SurveyAnswer {
+    Most { identifier: u64, count: u64 },
     Refused { number: u64, place: u64 },
 }

@@ -74,24 +74,11 @@ pub fn feed_luma(
 
 // ---- sealing
 
-// A refusal's number, one of document 01's table. Only a state that somebody else wrote on can hold another.
-pub fn listed_number(number: u64) -> u64
-    ensures { λ r. ⌜ r ≡ listed number ⌝ }
-{
-    if number < 1 {
-        return 18;
-    }
-    if rules::LAST_NUMBER < number {
-        return 18;
-    }
-    number
-}
-
 fn refused(number: u64, place: u64) -> Answer
     ensures { λ r. ⌜ r ≡ Answer.Refused (listed number) place ⌝ }
 {
     Answer::Refused {
-        number: listed_number(number),
+        number: figures::listed_number(number),
         place: place,
     }
 }

@@ -1,24 +1,16 @@
-//! The capture side: a libpcap file, little-endian, fed in pieces of any length.
+//! A capture: a libpcap file, little-endian, fed in pieces of any length. Its cells go to whoever takes them in.
 //!
 //! The file is read as a row of *fields*, each with bytes to pass over before it. A field that lies
 //! whole in a piece is read where it lies; only a field cut by the end of a piece is put together
 //! in `partial`. Payload is passed over by count and never looked at. Every refusal from 5 to 9
 //! stands at the last byte of the field that shows it, which is the last byte taken in.
 
-use crate::opening::{Opening, Refusal};
-use crate::units::{TooManyUnits, Units};
+use crate::cells::{TakeCells, ADAPTATION, CELL, CELL_HEAD};
+use crate::opening::Refusal;
+use crate::units::TooManyUnits;
 
 /// Most bytes of a capture; the next one is refusal 4.
 pub const MOST_CAPTURE_BYTES: usize = 268_435_456;
-
-/// Bytes of a cell (a transport stream packet).
-pub const CELL: usize = 188;
-
-/// Bytes of a cell that are looked at.
-const CELL_HEAD: usize = 4;
-
-/// Bytes of an adaptation field that are looked at: its length, its flags.
-const ADAPTATION: usize = 2;
 
 /// Ethernet, IPv4 and UDP headers: cells begin behind them.
 pub const FRAME_HEAD: usize = 42;
@@ -47,10 +39,7 @@ impl Field {
     }
 }
 
-pub struct CaptureSide {
-    pid: u32,
-    /// Whether a splice forgives a gap: from edition 2 on.
-    splices: bool,
+pub struct Capture<T> {
     /// Bytes taken in: the offset of the next byte.
     taken: usize,
     /// Bytes to pass over before the next field.
@@ -66,15 +55,12 @@ pub struct CaptureSide {
     refusal: Option<Refusal>,
     pub records: u32,
     pub passed_over: u32,
-    pub bad_cells: u32,
-    pub units: Units,
+    pub cells: T,
 }
 
-impl CaptureSide {
-    pub fn new(opening: &Opening) -> Self {
-        CaptureSide {
-            pid: opening.pid,
-            splices: opening.edition >= 2,
+impl<T: TakeCells> Capture<T> {
+    pub fn new(cells: T) -> Self {
+        Capture {
             taken: 0,
             skip: 0,
             field: Field::Magic,
@@ -87,8 +73,7 @@ impl CaptureSide {
             refusal: None,
             records: 0,
             passed_over: 0,
-            bad_cells: 0,
-            units: Units::default(),
+            cells,
         }
     }
 
@@ -173,14 +158,14 @@ impl CaptureSide {
             Field::StoredLength => self.begin_record(word(0) as usize),
             Field::FrameHead => self.begin_frame(bytes),
             Field::CellHead => {
-                if self.take_cell(bytes).map_err(|TooManyUnits| self.refused_here(9))? {
+                if self.cells.take_head(self.time, bytes).map_err(|TooManyUnits| self.refused_here(9))? {
                     self.expect(0, Field::Adaptation);
                 } else {
                     self.finish_cell(CELL - CELL_HEAD);
                 }
             }
             Field::Adaptation => {
-                self.take_adaptation(bytes);
+                self.cells.take_adaptation(bytes);
                 self.finish_cell(CELL - CELL_HEAD - ADAPTATION);
             }
         }
@@ -225,8 +210,9 @@ impl CaptureSide {
         let (cells, rest) = piece.split_at(whole * CELL);
         for (number, cell) in cells.chunks_exact(CELL).enumerate() {
             let last_of_head = self.taken + number * CELL + CELL_HEAD - 1;
-            if self.take_cell(cell).map_err(|TooManyUnits| Refusal::at(9, last_of_head as u64))? {
-                self.take_adaptation(&cell[CELL_HEAD..]);
+            let taken = self.cells.take_head(self.time, &cell[..CELL_HEAD]);
+            if taken.map_err(|TooManyUnits| Refusal::at(9, last_of_head as u64))? {
+                self.cells.take_adaptation(&cell[CELL_HEAD..]);
             }
         }
         self.taken += cells.len();
@@ -244,27 +230,6 @@ impl CaptureSide {
             self.expect(rest + self.padding, Field::Time);
         } else {
             self.expect(rest, Field::CellHead);
-        }
-    }
-
-    /// Looks at the four head bytes of a cell; true if its adaptation field matters.
-    fn take_cell(&mut self, cell: &[u8]) -> Result<bool, TooManyUnits> {
-        if cell[0] != 0x47 {
-            self.bad_cells += 1;
-            return Ok(false);
-        }
-        let identifier = u32::from(cell[1] & 0x1F) * 256 + u32::from(cell[2]);
-        if identifier != self.pid {
-            return Ok(false);
-        }
-        self.units.take_cell(self.time, cell[1] & 0x40 != 0, cell[3] & 0x0F)?;
-        Ok(self.splices && cell[3] & 0x20 != 0)
-    }
-
-    /// Looks at the front of an adaptation field: its length above 0, and the discontinuity indicator.
-    fn take_adaptation(&mut self, field: &[u8]) {
-        if field[0] > 0 && field[1] & 0x80 != 0 {
-            self.units.forgive_gap();
         }
     }
 }

@@ -3,6 +3,7 @@
 
 mod bench;
 mod capture;
+mod cells;
 mod film;
 mod lent;
 mod luma;
@@ -16,6 +17,7 @@ mod replay;
 mod sample;
 mod script;
 mod sheet;
+mod survey;
 mod units;
 
 use opening::{Opening, Refusal};
@@ -23,6 +25,8 @@ use sample::Sample;
 use std::fs::File;
 use std::io::{self, BufReader, BufWriter, Read, Write};
 use std::process::ExitCode;
+use std::str::FromStr;
+use survey::{Found, Survey};
 
 const USAGE: &str = "\
 measure-again replay < SCRIPT
@@ -30,10 +34,15 @@ measure-again show < RECORD
 measure-again sheet < RECORD
 measure-again sheet-into ROOM < RECORD
 measure-again measure W H D PID CAPTURE LUMA RECORD [EDITION]
+measure-again survey CAPTURE
+measure-again survey < CAPTURE
+measure-again survey-replay < SCRIPT
 measure-again make SEED KIND > SCRIPT
+measure-again make-survey SEED [limit] > SCRIPT
 measure-again kinds
 measure-again recut SEED < SCRIPT > SCRIPT
 measure-again records SEED > RECORD
+measure-again captures SEED > CAPTURE
 measure-again bench luma W H PIECE TIMES
 measure-again bench capture PIECE TIMES
 ";
@@ -41,9 +50,10 @@ measure-again bench capture PIECE TIMES
 fn main() -> ExitCode {
     let arguments: Vec<String> = std::env::args().skip(1).collect();
     let arguments: Vec<&str> = arguments.iter().map(String::as_str).collect();
-    match run(&arguments) {
-        Ok(true) => ExitCode::SUCCESS,
-        Ok(false) => {
+    let mut out = BufWriter::with_capacity(1 << 20, io::stdout());
+    match run(&arguments, &mut out).and_then(|()| out.flush()) {
+        Ok(()) => ExitCode::SUCCESS,
+        Err(error) if error.kind() == io::ErrorKind::InvalidInput => {
             eprint!("{USAGE}");
             ExitCode::from(2)
         }
@@ -56,45 +66,74 @@ fn main() -> ExitCode {
     }
 }
 
-/// Runs one subcommand; false if the arguments aren't any.
-fn run(arguments: &[&str]) -> io::Result<bool> {
-    let script = || BufReader::with_capacity(1 << 20, io::stdin());
-    let mut out = BufWriter::with_capacity(1 << 20, io::stdout());
+/// What arguments that aren't any subcommand's end with.
+fn usage() -> io::Error {
+    io::Error::from(io::ErrorKind::InvalidInput)
+}
+
+fn number<T: FromStr>(word: &str) -> io::Result<T> {
+    word.parse().map_err(|_| usage())
+}
+
+fn positive(word: &str) -> io::Result<usize> {
+    number(word).and_then(|number| if number > 0 { Ok(number) } else { Err(usage()) })
+}
+
+/// The bytes of a buffer to be lent; 1 MiB is the most.
+fn room(word: &str) -> io::Result<usize> {
+    number(word).and_then(|room| if room <= script::LONGEST_PIECE { Ok(room) } else { Err(usage()) })
+}
+
+fn opening_of(values: [&str; 5]) -> io::Result<Opening> {
+    Ok(Opening {
+        width: number(values[0])?,
+        height: number(values[1])?,
+        display_time: number(values[2])?,
+        pid: number(values[3])?,
+        edition: number(values[4])?,
+    })
+}
+
+/// Runs one subcommand.
+fn run(arguments: &[&str], out: &mut impl Write) -> io::Result<()> {
     match *arguments {
-        ["replay"] => replay::replay(script(), out)?,
-        ["show"] => out.write_all(record::show(&standard_input()?).as_bytes())?,
-        ["sheet"] => out.write_all(&sheet::print(&standard_input()?))?,
-        ["sheet-into", room] => {
-            let Some(room) = room_of(room) else {
-                return Ok(false);
-            };
+        ["replay"] => replay::replay(script(), out),
+        ["show"] => out.write_all(record::show(&standard_input()?).as_bytes()),
+        ["sheet"] => out.write_all(&sheet::print(&standard_input()?)),
+        ["sheet-into", bytes] => {
             let record = standard_input()?;
-            lent::print_call(&mut out, "sheet", room, |buffer| sheet::write(&record, buffer))?;
+            lent::print_call(out, "sheet", room(bytes)?, |buffer| sheet::write(&record, buffer))
         }
-        ["kinds"] => print_kinds(&mut out)?,
         ["measure", width, height, display_time, pid, capture, luma, record, ref more @ ..] if more.len() < 2 => {
             let edition = more.first().copied().unwrap_or("1");
-            let Some(opening) = opening_of([width, height, display_time, pid, edition]) else {
-                return Ok(false);
-            };
-            measure(opening, capture, luma, record)?;
+            measure(opening_of([width, height, display_time, pid, edition])?, capture, luma, record)
         }
-        ["make", seed, kind] => match seed.parse() {
-            Ok(seed) => return make::make(seed, kind, out),
-            Err(_) => return Ok(false),
-        },
-        ["recut", seed] => match seed.parse() {
-            Ok(seed) => recut::recut(seed, script(), out)?,
-            Err(_) => return Ok(false),
-        },
-        ["records", seed] => match seed.parse() {
-            Ok(seed) => out.write_all(&records::random_record(seed))?,
-            Err(_) => return Ok(false),
-        },
-        ["bench", ref what @ ..] => return Ok(bench(what).is_some()),
-        _ => return Ok(false),
+        ["survey"] => print_survey(io::stdin(), out),
+        ["survey", capture] => print_survey(File::open(capture)?, out),
+        ["survey-replay"] => replay::replay_survey(script(), out),
+        ["recut", seed] => recut::recut(number(seed)?, script(), out),
+        ["bench", ref what @ ..] => bench(what),
+        _ => run_maker(arguments, out),
     }
-    Ok(true)
+}
+
+/// Runs one of the subcommands that make inputs.
+fn run_maker(arguments: &[&str], out: &mut impl Write) -> io::Result<()> {
+    match *arguments {
+        ["kinds"] => print_kinds(out),
+        ["make", seed, kind] => {
+            if make::make(number(seed)?, kind, out)? { Ok(()) } else { Err(usage()) }
+        }
+        ["make-survey", seed] => make::make_survey(number(seed)?, out),
+        ["make-survey", seed, make::LIMIT] => make::make_survey_limit(number(seed)?, out),
+        ["records", seed] => out.write_all(&records::random_record(number(seed)?)),
+        ["captures", seed] => out.write_all(&make::capture_file(number(seed)?)),
+        _ => Err(usage()),
+    }
+}
+
+fn script() -> impl Read {
+    BufReader::with_capacity(1 << 20, io::stdin())
 }
 
 /// Standard input, but no more of it than it takes to see that it is too long for a record.
@@ -104,11 +143,6 @@ fn standard_input() -> io::Result<Vec<u8>> {
     Ok(bytes)
 }
 
-/// The bytes of a buffer to be lent; 1 MiB is the most.
-fn room_of(number: &str) -> Option<usize> {
-    number.parse().ok().filter(|&room| room <= script::LONGEST_PIECE)
-}
-
 fn print_kinds(out: &mut impl Write) -> io::Result<()> {
     for (name, about) in make::KINDS {
         writeln!(out, "{name}: {about}")?;
@@ -116,21 +150,11 @@ fn print_kinds(out: &mut impl Write) -> io::Result<()> {
     writeln!(out, "{}: captures of 256 MiB, to be run once for each of seeds 0 to 3", make::LIMIT)
 }
 
-fn opening_of(values: [&str; 5]) -> Option<Opening> {
-    Some(Opening {
-        width: values[0].parse().ok()?,
-        height: values[1].parse().ok()?,
-        display_time: values[2].parse().ok()?,
-        pid: values[3].parse().ok()?,
-        edition: values[4].parse().ok()?,
-    })
-}
-
 /// Reads both files, seals, and writes the record unless it is refused.
 fn measure(opening: Opening, capture: &str, luma: &str, record: &str) -> io::Result<()> {
     let mut sample = Sample::open(opening);
-    feed_file(capture, |piece| sample.feed_capture(piece))?;
-    feed_file(luma, |piece| sample.feed_luma(piece))?;
+    feed_all(File::open(capture)?, |piece| sample.feed_capture(piece))?;
+    feed_all(File::open(luma)?, |piece| sample.feed_luma(piece))?;
     let mut buffer = vec![0; record::LONGEST];
     match sample.seal(&mut buffer) {
         Ok(length) => {
@@ -142,9 +166,17 @@ fn measure(opening: Opening, capture: &str, luma: &str, record: &str) -> io::Res
     Ok(())
 }
 
+fn print_survey(capture: impl Read, out: &mut impl Write) -> io::Result<()> {
+    let mut survey = Survey::new();
+    feed_all(capture, |piece| survey.feed(piece))?;
+    match survey.answer() {
+        Ok(Found { pid, count }) => writeln!(out, "survey {pid} {count}"),
+        Err(Refusal { number, place }) => writeln!(out, "refused {number} {place}"),
+    }
+}
+
 /// Feeds a file in long pieces, until its end or a refusal: what comes later on that side is ignored.
-fn feed_file(path: &str, mut feed: impl FnMut(&[u8]) -> Result<usize, Refusal>) -> io::Result<()> {
-    let mut file = File::open(path)?;
+fn feed_all(mut file: impl Read, mut feed: impl FnMut(&[u8]) -> Result<usize, Refusal>) -> io::Result<()> {
     let mut piece = vec![0; 1 << 20];
     loop {
         let length = file.read(&mut piece)?;
@@ -154,19 +186,15 @@ fn feed_file(path: &str, mut feed: impl FnMut(&[u8]) -> Result<usize, Refusal>) 
     }
 }
 
-fn bench(what: &[&str]) -> Option<()> {
+fn bench(what: &[&str]) -> io::Result<()> {
     match *what {
         ["luma", width, height, piece, times] => {
             let opening = opening_of([width, height, "40000", "256", "1"])?;
-            opening.check().ok()?;
+            opening.check().map_err(|_| usage())?;
             bench::luma(opening, positive(piece)?, positive(times)?);
         }
         ["capture", piece, times] => bench::capture(positive(piece)?, positive(times)?),
-        _ => return None,
+        _ => return Err(usage()),
     }
-    Some(())
-}
-
-fn positive(number: &str) -> Option<usize> {
-    number.parse().ok().filter(|&number| number > 0)
+    Ok(())
 }

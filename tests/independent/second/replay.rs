@@ -1,9 +1,10 @@
-//! `replay`: runs a script and prints a line a call.
+//! `replay` and `survey-replay`: run a script and print a line a call.
 
 use crate::lent::print_call;
 use crate::opening::Refusal;
 use crate::sample::Sample;
-use crate::script::{read_call, read_opening, Call};
+use crate::script::{read_call, read_opening, read_survey_call, Call};
+use crate::survey::{Found, Survey};
 use std::io::{self, Read, Write};
 
 pub fn replay(mut script: impl Read, mut out: impl Write) -> io::Result<()> {
@@ -20,6 +21,20 @@ pub fn replay(mut script: impl Read, mut out: impl Write) -> io::Result<()> {
             Call::Capture(piece) => print_feed(&mut out, "capture", sample.feed_capture(&piece))?,
             Call::Luma(piece) => print_feed(&mut out, "luma", sample.feed_luma(&piece))?,
             Call::Seal(room) => print_call(&mut out, "seal", room, |buffer| sample.seal(buffer))?,
+        }
+    }
+    out.flush()
+}
+
+pub fn replay_survey(mut script: impl Read, mut out: impl Write) -> io::Result<()> {
+    let mut survey = Survey::new();
+    while let Some(call) = read_survey_call(&mut script) {
+        match call {
+            Some(piece) => print_feed(&mut out, "capture", survey.feed(&piece))?,
+            None => match survey.answer() {
+                Ok(Found { pid, count }) => writeln!(out, "survey {pid} {count}")?,
+                Err(Refusal { number, place }) => writeln!(out, "survey refused {number} {place}")?,
+            },
         }
     }
     out.flush()

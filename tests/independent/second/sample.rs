@@ -1,6 +1,7 @@
 //! A sample: opened, fed on two sides, sealed into a record.
 
-use crate::capture::CaptureSide;
+use crate::capture::Capture;
+use crate::cells::SampleCells;
 use crate::lent;
 use crate::luma::LumaSide;
 use crate::opening::{Opening, Refusal};
@@ -8,7 +9,7 @@ use crate::record::{self, Figures, Index};
 
 /// The two sides of an opening that wasn't refused.
 struct Sides {
-    capture: CaptureSide,
+    capture: Capture<SampleCells>,
     luma: LumaSide,
 }
 
@@ -21,7 +22,8 @@ impl Sample {
     /// Opens a sample. A refused opening leaves a state that answers every call with its number.
     pub fn open(opening: Opening) -> Self {
         let sides = opening.check().map(|()| {
-            Box::new(Sides { capture: CaptureSide::new(&opening), luma: LumaSide::new(&opening) })
+            let capture = Capture::new(SampleCells::new(&opening));
+            Box::new(Sides { capture, luma: LumaSide::new(&opening) })
         });
         Sample { opening, sides }
     }
@@ -48,7 +50,7 @@ impl Sample {
         let sides = self.sides.as_ref().map_err(|&refusal| refusal)?;
         sides.ready()?;
         let Sides { capture, luma } = &**sides;
-        let units = capture.units.rows();
+        let units = capture.cells.units.rows();
         let cells = units.iter().map(|unit| unit.cells).sum();
         let lost = units.iter().map(|unit| unit.lost).sum();
         let index = Index::new(luma.film.unrepeated(), luma.film.pictures(), cells, lost);
@@ -57,7 +59,7 @@ impl Sample {
             pictures: luma.film.pictures(),
             records: capture.records,
             passed_over: capture.passed_over,
-            bad_cells: capture.bad_cells,
+            bad_cells: capture.cells.bad,
             index_bits: index.index.to_bits(),
         };
         Ok(record::write(&figures, units, &luma.film.scenes(self.opening.display_time)))
@@ -74,7 +76,7 @@ impl Sides {
         if !capture.between_records() {
             return Err(Refusal::at(11, capture.bytes_fed()));
         }
-        if capture.units.rows().is_empty() {
+        if capture.cells.units.rows().is_empty() {
             return Err(Refusal::unplaced(12));
         }
         if !luma.between_pictures() {

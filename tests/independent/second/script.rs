@@ -1,4 +1,4 @@
-//! Scripts: five words (W, H, d, PID, rule edition), then calls. See FORMAT.md.
+//! Scripts: five words (W, H, d, PID, rule edition), then calls; a survey's have calls alone. See FORMAT.md.
 
 use crate::opening::Opening;
 use std::io::{self, Read, Write};
@@ -28,20 +28,37 @@ pub fn read_opening(script: &mut impl Read) -> Option<Opening> {
 
 /// The next call; nothing where the run ends.
 pub fn read_call(script: &mut impl Read) -> Option<Call> {
+    match read_letter(script)? {
+        b'C' => read_piece(script).map(Call::Capture),
+        b'L' => read_piece(script).map(Call::Luma),
+        b'S' => read_length(script, LONGEST_BUFFER).map(Call::Seal),
+        _ => None,
+    }
+}
+
+/// The next call of a survey: a piece to feed, or a question (`None` within); nothing where the run ends.
+pub fn read_survey_call(script: &mut impl Read) -> Option<Option<Vec<u8>>> {
+    match read_letter(script)? {
+        b'C' => read_piece(script).map(Some),
+        b'Q' => Some(None),
+        _ => None,
+    }
+}
+
+fn read_letter(script: &mut impl Read) -> Option<u8> {
     let mut letter = [0];
     script.read_exact(&mut letter).ok()?;
-    let longest = match letter[0] {
-        b'C' | b'L' => LONGEST_PIECE,
-        b'S' => LONGEST_BUFFER,
-        _ => return None,
-    };
-    let length = usize::try_from(read_word(script)?).ok().filter(|&length| length <= longest)?;
-    if letter[0] == b'S' {
-        return Some(Call::Seal(length));
-    }
-    let mut piece = vec![0; length];
+    Some(letter[0])
+}
+
+fn read_piece(script: &mut impl Read) -> Option<Vec<u8>> {
+    let mut piece = vec![0; read_length(script, LONGEST_PIECE)?];
     script.read_exact(&mut piece).ok()?;
-    Some(if letter[0] == b'C' { Call::Capture(piece) } else { Call::Luma(piece) })
+    Some(piece)
+}
+
+fn read_length(script: &mut impl Read, longest: usize) -> Option<usize> {
+    usize::try_from(read_word(script)?).ok().filter(|&length| length <= longest)
 }
 
 fn read_word(script: &mut impl Read) -> Option<u32> {
@@ -66,4 +83,9 @@ pub fn write_call(script: &mut impl Write, call: &Call) -> io::Result<()> {
     script.write_all(&[letter])?;
     script.write_all(&(length as u32).to_le_bytes())?;
     script.write_all(piece)
+}
+
+/// A survey's question.
+pub fn write_question(script: &mut impl Write) -> io::Result<()> {
+    script.write_all(b"Q")
 }

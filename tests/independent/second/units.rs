@@ -32,6 +32,7 @@ impl Units {
     }
 
     /// Takes in one cell of PID, carried by a record of this time.
+    #[inline]
     pub fn take_cell(&mut self, time: u64, start_mark: bool, counter: u8) -> Result<(), TooManyUnits> {
         let lost = if self.rows.is_empty() { 0 } else { lost_between(self.last_counter, counter) };
         if self.rows.is_empty() || start_mark {

@@ -18,10 +18,11 @@ use Rattle.rules.specs.Frames.{microseconds, storedLength}
 use Rattle.rules.specs.Units.{Arrival, beginnings}
 use Rattle.rules.specs.Capture.{allFrames, units, shownWanted, showing, earlier, tooLong, wrongMagic, wrongLink}
 use Rattle.rules.specs.Capture.{wrongFrameHeader, wrongFrame, beginsAt, tooManyUnits, captureFault}
-use Rattle.rules.specs.Capture.{captureInside}
+use Rattle.rules.specs.Capture.{captureInside, formatFault}
 use Rattle.rules.specs.Pictures.{pictureSize, pictureCount, lumaFault}
 use Rattle.rules.specs.Seal.{sealedLength, captureUnfinished, noPacket, lumaUnfinished, noPicture, noRoom}
 use Rattle.rules.specs.Seal.{sealFault}
+use Rattle.rules.specs.Survey.{noGood, surveyFault}
 use Rattle.rules.specs.Reading.{allowed, readingFault, rowFault, unitFault, sceneFault}
 
 -- ---- a number in the table, below it and above it
@@ -133,6 +134,24 @@ capture o c =
     (of-earlier (wrongMagic c) (earlier (wrongLink c) (earlier frames many)) (of-magic c)
     (of-earlier (wrongLink c) (earlier frames many) (of-link c)
     (of-earlier frames many (of-frames (length c) 24 (allFrames c)) (of-many o c))))
+
+-- 4 to 8
+pub format : (c : List ℕ) → Numbered (formatFault c)
+unfolding formatFault
+format c =
+    let frames = wrongFrame (length c) 24 (allFrames c) in
+    of-earlier (tooLong c) (earlier (wrongMagic c) (earlier (wrongLink c) frames)) (of-long c)
+    (of-earlier (wrongMagic c) (earlier (wrongLink c) frames) (of-magic c)
+    (of-earlier (wrongLink c) frames (of-link c) (of-frames (length c) 24 (allFrames c))))
+
+-- 4 to 8, 11, 21
+pub survey : (c : List ℕ) (most : ℕ) → Numbered (surveyFault c most)
+unfolding surveyFault captureUnfinished noGood
+survey c most =
+    of-either (formatFault c) _ (format c)
+    (of-either (pick (captureInside c) (fault 11 (length c)) none) _
+    (of-pick (captureInside c) (fault 11 (length c)) none refl tt)
+    (of-pick (eqb most 0) (fault 21 0) none refl tt))
 
 pub luma : (o : Opening) (l : List ℕ) → Numbered (lumaFault o l)
 unfolding lumaFault

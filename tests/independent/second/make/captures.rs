@@ -1,7 +1,8 @@
 //! Random captures: bytes of a libpcap file, and where its records end.
 
 use super::weave::Side;
-use crate::capture::{CELL, FRAME_HEAD};
+use crate::capture::FRAME_HEAD;
+use crate::cells::CELL;
 use crate::prng::Prng;
 
 /// Ways in which a record fails to carry, as far as possible one condition alone.
@@ -241,6 +242,28 @@ impl<'r> CaptureMaker<'r> {
         }
         let start = self.random.once_in(self.start_every);
         self.cell_of(first, identifier, start)
+    }
+
+    /// A carrying record of one good cell for each of these identifiers.
+    pub fn listed_record(&mut self, identifiers: &[u32]) {
+        let mut frame = self.frame_head(8 + identifiers.len() * CELL);
+        for &identifier in identifiers {
+            let start = self.random.once_in(self.start_every);
+            let mut cell = self.cell_of(0x47, identifier, start);
+            cell[1] &= 0x7F;
+            frame.extend(cell);
+        }
+        self.record(&frame);
+    }
+
+    /// A carrying record of so many bad cells.
+    pub fn bad_record(&mut self, cells: usize) {
+        let mut frame = self.frame_head(8 + cells * CELL);
+        for _ in 0..cells {
+            let first = self.random.pick(&[0x46, 0x57, 0xB8, 0]);
+            frame.extend(self.cell_of(first, self.pid, false));
+        }
+        self.record(&frame);
     }
 
     fn cell_of(&mut self, first: u8, identifier: u32, start: bool) -> [u8; CELL] {

@@ -4,7 +4,7 @@ use super::captures::CaptureMaker;
 use crate::capture::MOST_CAPTURE_BYTES;
 use crate::opening::Opening;
 use crate::prng::Prng;
-use crate::script::{write_call, write_opening, Call, LONGEST_PIECE};
+use crate::script::{write_call, write_opening, write_question, Call, LONGEST_PIECE};
 use std::io::{self, Write};
 
 const OPENING: Opening = Opening { width: 30, height: 30, display_time: 40_000, pid: 256, edition: 1 };
@@ -37,9 +37,25 @@ impl<W: Write> Pieces<W> {
 /// By seed modulo 4: 0 and 1 the last record ends with the last allowed byte (1: one piece goes past
 /// it); 2 wrong microseconds end with the last allowed byte (refusal 7); 3 with the surplus one (4).
 pub fn make(seed: u64, mut script: impl Write) -> io::Result<()> {
-    let mut random = Prng::new(seed);
     write_opening(&mut script, &OPENING)?;
     write_call(&mut script, &Call::Luma(vec![0; 1800]))?;
+    feed_capture(seed, &mut script)?;
+    finish(script)
+}
+
+/// The same capture for a survey.
+pub fn make_survey(seed: u64, mut script: impl Write) -> io::Result<()> {
+    feed_capture(seed, &mut script)?;
+    write_question(&mut script)?;
+    for piece in [Vec::new(), vec![7], vec![1, 2, 3], Vec::new()] {
+        write_call(&mut script, &Call::Capture(piece))?;
+        write_question(&mut script)?;
+    }
+    script.flush()
+}
+
+fn feed_capture(seed: u64, script: impl Write) -> io::Result<()> {
+    let mut random = Prng::new(seed);
     let mut maker = CaptureMaker::new(&mut random, OPENING.pid);
     maker.carrying_record(7);
     maker.carrying_record(7);
@@ -61,8 +77,7 @@ pub fn make(seed: u64, mut script: impl Write) -> io::Result<()> {
     } else if case == 1 {
         pieces.add(&[0; 100])?;
     }
-    pieces.flush()?;
-    finish(pieces.script)
+    pieces.flush()
 }
 
 /// Seals and feeds at the bound, past it, and on the other side.

@@ -3,6 +3,7 @@
 mod captures;
 mod films;
 mod limit;
+mod surveys;
 mod weave;
 
 use crate::opening::Opening;
@@ -10,6 +11,8 @@ use crate::prng::Prng;
 use captures::{CaptureMaker, Fault};
 use films::{FilmMaker, Style};
 use std::io::{self, Write};
+pub use limit::make_survey as make_survey_limit;
+pub use surveys::{capture_file, make as make_survey};
 use weave::{weave, Cutting, Plan, Side};
 
 /// Names of the families, and what each of them is about.

@@ -49,23 +49,23 @@ pub struct Plan {
 }
 
 /// One side while it is woven.
-struct Thread {
+pub struct Thread {
     side: Side,
     at: usize,
     next_end: usize,
 }
 
 impl Thread {
-    fn new(side: Side) -> Self {
+    pub fn new(side: Side) -> Self {
         Thread { side, at: 0, next_end: 0 }
     }
 
-    fn left(&self) -> usize {
+    pub fn left(&self) -> usize {
         self.side.bytes.len() - self.at
     }
 
     /// Bytes to the next end of a record or picture, or to the end of all.
-    fn bytes_to_end(&mut self) -> usize {
+    pub fn bytes_to_end(&mut self) -> usize {
         while self.side.ends.get(self.next_end).is_some_and(|&end| end <= self.at) {
             self.next_end += 1;
         }
@@ -73,11 +73,11 @@ impl Thread {
     }
 
     /// Whether the bytes so far end with a header, a record or a picture.
-    fn at_rest(&self) -> bool {
+    pub fn at_rest(&self) -> bool {
         self.side.ends.binary_search(&self.at).is_ok()
     }
 
-    fn take(&mut self, length: usize) -> Vec<u8> {
+    pub fn take(&mut self, length: usize) -> Vec<u8> {
         let end = self.at + length.min(self.left()).min(LONGEST_PIECE);
         let piece = self.side.bytes[self.at..end].to_vec();
         self.at = end;
@@ -111,6 +111,26 @@ pub fn weave(random: &mut Prng, plan: Plan, mut script: impl Write) -> io::Resul
     weaver.end()
 }
 
+/// The length of the next piece of a side.
+pub fn piece_length(random: &mut Prng, cutting: Cutting, to_end: usize, left: usize) -> usize {
+    let kind = random.below(20);
+    match (cutting, kind) {
+        (Cutting::Tiny, _) => random.pick(&[0, 1, 1, 2, 3]),
+        (Cutting::AtEnds, 3..) => to_end,
+        (_, 0) => 0,
+        (_, 1 | 2) => 1,
+        (_, 3) => 2,
+        (_, 4) => 3,
+        (_, 5) => 7,
+        (_, 6) => 188,
+        (_, 7..=9) => random.below(left.min(6_000) + 1),
+        (_, 10) => to_end.saturating_sub(1),
+        (_, 11) => to_end + 1,
+        (_, 12) => left / 2,
+        _ => to_end,
+    }
+}
+
 impl<W: Write> Weaver<'_, W> {
     /// Feeds one piece of either side; without a cutting, the longest possible.
     fn feed(&mut self, capture: &mut Thread, luma: &mut Thread, cutting: Option<Cutting>) -> io::Result<()> {
@@ -124,29 +144,10 @@ impl<W: Write> Weaver<'_, W> {
         let thread = if from_capture { capture } else { luma };
         let length = match cutting {
             None => thread.left(),
-            Some(cutting) => self.piece_length(cutting, thread.bytes_to_end(), thread.left()),
+            Some(cutting) => piece_length(self.random, cutting, thread.bytes_to_end(), thread.left()),
         };
         let piece = thread.take(length);
         self.call(if from_capture { Call::Capture(piece) } else { Call::Luma(piece) })
-    }
-
-    fn piece_length(&mut self, cutting: Cutting, to_end: usize, left: usize) -> usize {
-        let kind = self.random.below(20);
-        match (cutting, kind) {
-            (Cutting::Tiny, _) => self.random.pick(&[0, 1, 1, 2, 3]),
-            (Cutting::AtEnds, 3..) => to_end,
-            (_, 0) => 0,
-            (_, 1 | 2) => 1,
-            (_, 3) => 2,
-            (_, 4) => 3,
-            (_, 5) => 7,
-            (_, 6) => 188,
-            (_, 7..=9) => self.random.below(left.min(6_000) + 1),
-            (_, 10) => to_end.saturating_sub(1),
-            (_, 11) => to_end + 1,
-            (_, 12) => left / 2,
-            _ => to_end,
-        }
     }
 
     fn call(&mut self, call: Call) -> io::Result<()> {

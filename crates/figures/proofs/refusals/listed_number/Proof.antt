@@ -1,7 +1,7 @@
 -- `listed_number` meets its contract, by its two tests. Assumes nothing.
 use Rattle.rules.proofs.Laws.Listed.{in-table, below-table, above-table}
-use Rattle.sample.proofs.listed_number.Statement.{statement}
-use Rattle.sample.proofs.listed_number.Tie as tie
+use Rattle.figures.proofs.refusals.listed_number.Statement.{statement}
+use Rattle.figures.proofs.refusals.listed_number.Tie as tie
 
 returns : tie.Need-returns
 returns c = below-table (c .before .args .number) (c .if1 .taken)

@@ -1,0 +1,44 @@
+//! carolsedge survey: which identifier of a capture has most packets.
+use crate::input::Input;
+use crate::output;
+use crate::stop::Stop;
+use crate::words::Words;
+use crate::Subcommand;
+use carolsedge::Survey;
+use std::ffi::OsString;
+
+pub const SUBCOMMAND: Subcommand =
+    Subcommand { name: "survey", summary: "name the identifier with most packets of a capture", help: HELP, run };
+
+const HELP: &str = "\
+usage: carolsedge survey CAPTURE
+
+Counts the good packets (those that start with 0x47) of every identifier in a
+capture, a file or - for standard input, and prints
+
+  survey PID COUNT
+
+with the identifier that has most, the lowest among equals, and how many it has.
+That is usually the picture: give it to carolsedge measure as --pid.
+
+Exit status: 0 printed, 1 refused, 2 wrong words or a file's error.
+";
+
+/// How many bytes are read and fed at a time.
+const PIECE: usize = 1 << 16;
+
+fn run(words: Vec<OsString>) -> Result<(), Stop> {
+    let words = Words::part(words, &[], &[])?;
+    let plain = words.plain(&["CAPTURE"], 0)?;
+    let mut input = Input::open(plain[0].as_deref().unwrap_or_default())?;
+    let mut survey = Survey::open();
+    let mut piece = vec![0; PIECE];
+    loop {
+        let n = input.read(&mut piece)?;
+        if n == 0 || survey.feed(&piece[..n]).is_err() {
+            break;
+        }
+    }
+    let most = survey.ask().map_err(|refusal| Stop::refused(refusal, Vec::new()))?;
+    output::print(&format!("survey {} {}\n", most.pid, most.packets))
+}

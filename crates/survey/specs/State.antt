@@ -1,0 +1,51 @@
+-- What a survey's lent arrays stand for: the walk's words and collected bytes, and the counts.
+use Prim.Native.Nat.{ℕ, _<_}
+use mathlib.Core.Path.{_≡_}
+use mathlib.Core.List.{List}
+use mathlib.Core.Bool.{Bool, true, false, _&&_}
+use lib.ListN.{length, getD}
+use lib.Dec.{eqb}
+use Rattle.rules.specs.Bytes.{count}
+use Rattle.rules.specs.Refusals.{none}
+use Rattle.capture_cells.specs.declared.Condition.{Condition}
+use Rattle.capture_cells.specs.declared.Condition.the-variants.{Good, Damaged, Bad}
+use Rattle.capture_cells.specs.declared.Cell.{Cell}
+use Rattle.capture_walk.specs.declared.types.Walk.{Walk}
+use Rattle.capture_walk.specs.Format.{formatFault, wholeCells}
+use Rattle.capture_walk.specs.State as of-walk
+
+pub record State : Type 0 where
+  pub walk : List ℕ
+  pub kept : List ℕ
+  pub counts : List ℕ
+
+abbrev pub stateOf : List ℕ → List ℕ → List ℕ → State
+stateOf walk kept counts = record { walk = walk; kept = kept; counts = counts }
+
+-- a cell starts with 0x47, marked as damaged or not: the rules' isGood (proofs/Counts, starts-good)
+abbrev pub startsRight : Condition → Bool
+startsRight Good = true
+startsRight Damaged = true
+startsRight Bad = false
+
+-- how many of some cells start with 0x47 and have this identifier: the rules' goodOf (proofs/Counts, tally-good)
+unfoldable pub tally : List Cell → ℕ → ℕ
+tally cs id = count (λ c. startsRight (c .condition) && eqb (c .identifier) id) cs
+
+abbrev pub countIn : List ℕ → ℕ → ℕ
+countIn t id = getD t id 0
+
+-- the table holds the counts of the cells
+pub record Table (t : List ℕ) (cs : List Cell) : Type 0 where
+  pub at : (id : ℕ) → id < 8192 → getD t id 0 ≡ tally cs id
+
+-- the walk stands for the joined bytes, and the table, as long as they show no refusal, for their whole cells
+pub record Surveys (kept t : List ℕ) (s : Walk) (joined : List ℕ) : Type 0 where
+  pub walk : of-walk.Stands kept s joined
+  pub room : length t ≡ 8192
+  pub table : formatFault joined ≡ none → Table t (wholeCells joined)
+
+-- as they lie in the lent arrays between calls
+pub record Means (st : State) (joined : List ℕ) : Type 0 where
+  pub room : length (st .walk) ≡ 16
+  pub surveys : Surveys (st .kept) (st .counts) (of-walk.loaded (st .walk)) joined

@@ -1,0 +1,70 @@
+//! Cells (transport stream packets of 188 bytes), and who takes them in: the sample takes those of its PID.
+
+use crate::opening::Opening;
+use crate::units::{TooManyUnits, Units};
+
+/// Bytes of a cell.
+pub const CELL: usize = 188;
+
+/// Bytes of a cell that are looked at first.
+pub const CELL_HEAD: usize = 4;
+
+/// Bytes of an adaptation field that are looked at: its length, its flags.
+pub const ADAPTATION: usize = 2;
+
+/// Whoever takes in the cells of carrying records.
+pub trait TakeCells {
+    /// Looks at the head of a cell, in a record of this time; true if its adaptation field matters.
+    fn take_head(&mut self, time: u64, head: &[u8]) -> Result<bool, TooManyUnits>;
+
+    /// Looks at the front of the adaptation field of the cell whose head came last.
+    fn take_adaptation(&mut self, field: &[u8]);
+}
+
+/// Whether a cell is good: it starts with 0x47. The others are bad cells.
+#[inline]
+pub fn good(head: &[u8]) -> bool {
+    head[0] == 0x47
+}
+
+#[inline]
+pub fn identifier(head: &[u8]) -> u32 {
+    u32::from(head[1] & 0x1F) * 256 + u32::from(head[2])
+}
+
+/// What a sample keeps of the cells.
+pub struct SampleCells {
+    pid: u32,
+    /// Whether a splice forgives a gap: from edition 2 on.
+    splices: bool,
+    pub bad: u32,
+    pub units: Units,
+}
+
+impl SampleCells {
+    pub fn new(opening: &Opening) -> Self {
+        SampleCells { pid: opening.pid, splices: opening.edition >= 2, bad: 0, units: Units::default() }
+    }
+}
+
+impl TakeCells for SampleCells {
+    #[inline]
+    fn take_head(&mut self, time: u64, head: &[u8]) -> Result<bool, TooManyUnits> {
+        if !good(head) {
+            self.bad += 1;
+            return Ok(false);
+        }
+        if identifier(head) != self.pid {
+            return Ok(false);
+        }
+        self.units.take_cell(time, head[1] & 0x40 != 0, head[3] & 0x0F)?;
+        Ok(self.splices && head[3] & 0x20 != 0)
+    }
+
+    /// A spliced cell has a field longer than 0, with the discontinuity indicator.
+    fn take_adaptation(&mut self, field: &[u8]) {
+        if field[0] > 0 && field[1] & 0x80 != 0 {
+            self.units.forgive_gap();
+        }
+    }
+}
