@@ -57,7 +57,7 @@ enum {
 /* ---- a sample */
 
 enum {
-    CAROLSEDGE_NEWEST_EDITION = 2, /* the editions of the rules are 1 to this one (docs/RULE.md, 1) */
+    CAROLSEDGE_NEWEST_EDITION = 3, /* the editions of the rules are 1 to this one (docs/RULE.md, 1) */
     CAROLSEDGE_WALK_WORDS = 16,
     CAROLSEDGE_COLLECTED_BYTES = 64,
     CAROLSEDGE_NUMBERS = 16,
@@ -94,8 +94,9 @@ uint32_t carolsedge_feed_luma(uint64_t *luma, uint32_t *sums, uint32_t *bins, ui
 uint32_t carolsedge_seal(const uint64_t *walk, const uint8_t *kept, const uint64_t *numbers, const uint64_t *table,
                          const uint64_t *luma, uint8_t *buffer, size_t length, uint64_t *value);
 
-/* Opens a sample: width W and height H of a picture, its display time d in microseconds, packet identifier PID, and the
- * edition of the rules, 1 or 2, that it is measured by. Refused: 1, 2, 3 or 20, which its feeds and seals then repeat. */
+/* Opens a sample: width W and height H of a picture, its display time d in microseconds, packet identifier PID, and
+ * the edition of the rules, 1 to 3, that it is measured by. Refused: 1, 2, 3 or 20, which its feeds and seals then
+ * repeat. */
 static inline uint32_t carolsedge_sample_open(struct carolsedge_sample *s, uint32_t width, uint32_t height, uint32_t time,
                                               uint32_t pid, uint32_t edition)
 {

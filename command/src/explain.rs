@@ -43,7 +43,7 @@ const MENDS: &[&str] = &[
     "The file is no record, or one of a later edition: show it with a later program.",
     "The file was altered or cut, or has bytes behind the record: look for another copy.",
     "Ask for rows from 0 up to, but without, the count in the record's header.",
-    "Give --edition of the rules as 1 or 2, or leave it out: the newest is taken then.",
+    "Give --edition of the rules as 1, 2 or 3, or leave it out: the newest is taken then.",
     "See that a transport stream was captured: plain UDP over IPv4, unencrypted, all bytes of a frame (tcpdump -s 0).",
 ];
 

@@ -83,7 +83,7 @@ def stream(name, ending):
     return os.path.join(STREAMS, name + ending)
 
 
-NEWEST = 2  # edition of the rules
+NEWEST = 3  # edition of the rules
 
 
 def proved(width, height, time, pid, capture, luma, edition=NEWEST):

@@ -54,7 +54,7 @@ def right(capture, luma):
         got = expect("words in another order", 0, sealed, ["75 pictures beside 75 units"], "measure", *words)
         check(sealed is None or read("record") == record, "other words, another record")
         sealed, record = got[1], read("record")
-    for edition in (1, 2, None):
+    for edition in (*range(1, NEWEST + 1), None):
         words = [capture, luma, "-o", "record", *RAW] + (["--edition", str(edition)] if edition else [])
         used = edition or NEWEST
         expect("edition %s" % edition, 0, sealed, ["edition %d of the rules" % used], "measure", *words)

@@ -1,11 +1,12 @@
 #!/usr/bin/env python3
 """Compares the changes in our records of one stream with the temporal information that ffmpeg gives of its reduced pictures (ti.txt).
-Usage: changes.py FOLDER OF PROGRAMS, NAME WIDTH HEIGHT D PID, FOLDER TO WRITE TO. Prints how many changes it compared and the greatest difference in hundredths."""
+Usage: changes.py FOLDER OF PROGRAMS, NAME WIDTH HEIGHT D PID, FOLDER TO WRITE TO, EDITION.
+Prints how many changes it compared."""
 import os
 import subprocess
 import sys
 
-programs, name, width, height, d, pid, made = sys.argv[1:]
+programs, name, width, height, d, pid, made, edition = sys.argv[1:]
 here = os.path.dirname(os.path.abspath(__file__))
 record = os.path.join(made, "changes")
 
@@ -16,7 +17,7 @@ def fail(text):
 
 def scenes(luma):
     """First picture, pictures and sum of changes of each scene in the record of this luma."""
-    words = [width, height, d, pid, f"{here}/{name}.pcap", "-", record]
+    words = [width, height, d, pid, f"{here}/{name}.pcap", "-", record, edition]
     said = subprocess.run([f"{programs}/measure", *words], input=luma, stdout=subprocess.PIPE).stdout.decode()
     if not said.startswith("sealed "):
         fail(f"measure says '{said.strip()}' of {len(luma)} bytes of luma")
@@ -49,14 +50,13 @@ changes = []
 for count in range(1, len(rows) + 1):
     last = scenes(luma[: count * size])
     changes.append(sum(row[2] for row in last) - sum(changes))
-greatest = 0
 for picture, row in enumerate(rows):
-    # A change is rounded down, ffmpeg's figure to the nearest hundredth, so it is the same or 0.01 more.
-    difference = hundredths(row[2]) - changes[picture]
-    if difference not in (0, 1):
-        fail(f"the change of picture {picture} is {changes[picture]}, ffmpeg's temporal information {row[2]}")
-    greatest = max(greatest, difference)
+    # ffmpeg's figure is rounded to the nearest hundredth. A change is so too from edition 3 on; before, it is cut off,
+    # so that ffmpeg's is the same or 0.01 more.
+    allowed = (0,) if int(edition) >= 3 else (0, 1)
+    if hundredths(row[2]) - changes[picture] not in allowed:
+        fail(f"edition {edition}: the change of picture {picture} is {changes[picture]}, ffmpeg's figure {row[2]}")
 for first, count, total in last:
     if total != sum(changes[first : first + count]):
         fail(f"the scene from picture {first} has the changes {total}, its pictures {sum(changes[first : first + count])}")
-print(len(rows), greatest)
+print(len(rows))

@@ -148,7 +148,7 @@ fn worked_sheet() {
 fn refused_sheets() {
     let bytes = sealed(&fed(&worked_capture(), &[0; 2 * PICTURE])).unwrap();
     let mut other = bytes.clone();
-    other[0] = 3;
+    other[0] = NEWEST_EDITION as u8 + 1;
     let mut wrong = bytes.clone();
     wrong[92] = 1;
     let cases = [
@@ -238,14 +238,19 @@ fn openings() {
     }
 }
 
-// A gap of 5 at a cell with a splice mark, and one of 3 behind it: edition 1 counts both, edition 2 the later one alone.
+// A gap of 5 at a cell with a splice mark, and one of 3 behind it: edition 1 counts both, 2 and 3 the later one alone.
 #[test]
 fn editions() {
     let mut spliced = packet(256, false, 5);
     spliced[3..6].copy_from_slice(&[0x35, 1, 0x80]);
     let mut unmarked = spliced;
     unmarked[4] = 0;
-    for (cell, edition, lost) in [(spliced, 1, 4 + 2), (spliced, 2, 2), (unmarked, 2, 4 + 2)] {
+    for (cell, edition, lost) in [
+        (spliced, 1, 4 + 2),
+        (spliced, 2, 2),
+        (spliced, 3, 2),
+        (unmarked, 2, 4 + 2),
+    ] {
         let cells = [packet(256, true, 0), cell, packet(256, false, 8)];
         let capture = [file_header(), frame(10, 5, &carrying(&cells))].concat();
         let mut sample = Sample::open(Opening { edition, ..BLACK }).unwrap();
@@ -260,6 +265,38 @@ fn editions() {
             unknown[0] = other as u8;
             assert_eq!(Record::read(&unknown).map(|_| ()), Err(refusal(17, 0)));
         }
+    }
+}
+
+// Pictures of 16 by 32: of the second four pixels are higher by 1 and four lower, so that 100 times the deviation is
+// 12.5, a tie; of the third every fourth pixel is higher by 2 (e 0 0 0 2), and it is 86.60.
+#[test]
+fn changes() {
+    let capture = [
+        file_header(),
+        frame(10, 5, &carrying(&[packet(256, true, 0)])),
+    ]
+    .concat();
+    let mut luma = [100u8; 3 * 512];
+    luma[512..516].fill(101);
+    luma[516..520].fill(99);
+    luma.copy_within(512..1024, 1024);
+    for pixel in luma[1024..].iter_mut().step_by(4) {
+        *pixel += 2;
+    }
+    for (edition, change) in [(1, 12 + 86), (2, 12 + 86), (3, 13 + 87)] {
+        let opening = Opening {
+            width: 16,
+            height: 32,
+            edition,
+            ..BLACK
+        };
+        let mut sample = Sample::open(opening).unwrap();
+        sample.feed_capture(&capture).unwrap();
+        sample.feed_luma(&luma).unwrap();
+        let bytes = sealed(&sample).unwrap();
+        let record = Record::read(&bytes).unwrap();
+        assert_eq!(record.scene(0).unwrap().change, change, "edition {edition}");
     }
 }
 

@@ -19,11 +19,11 @@ fn spread(n: u32, up: u32, down: u32, squares: u32) -> u64
 // The greatest q with q² × n² at most 10,000 × V, by bisection.
 fn root(v: u64, n: u64) -> u64
     requires { ⌜ Asked v n ⌝ }
-    ensures { λ r. ⌜ (r ≡ rootOf v n) × (r ≤ 25500) ⌝ }
+    ensures { λ r. ⌜ (r ≡ rootOf v n) × (r ≤ 51000) ⌝ }
 {
     let target = 10000 * v;
     let mut low: u64 = 0;
-    let mut high: u64 = 25501;
+    let mut high: u64 = 51001;
     while low + 1 < high {
         let mid = (low + high) / 2;
         if mid * mid * n * n <= target {
@@ -35,10 +35,10 @@ fn root(v: u64, n: u64) -> u64
     low
 }
 
-// q of a picture of n pixels. Numbers that no picture gives get some q, at most 25,500: 0 as it is written, which nothing
-// goes by.
-pub fn change(n: u32, up: u32, down: u32, squares: u32) -> u64
-    ensures { λ r. ⌜ Changed n up down squares r ⌝ }
+// q of a picture of n pixels, rounded to the nearest or cut off. Numbers that no picture gives get some q, at most
+// 25,500: 0 as it is written, which nothing goes by.
+pub fn change(n: u32, up: u32, down: u32, squares: u32, rounds: bool) -> u64
+    ensures { λ r. ⌜ Changed n up down squares rounds r ⌝ }
 {
     if n == 0 {
         return 0;
@@ -49,5 +49,9 @@ pub fn change(n: u32, up: u32, down: u32, squares: u32) -> u64
     if 65025 * n < squares {
         return 0;
     }
-    root(spread(n, up, down, squares), wide(n))
+    let v = spread(n, up, down, squares);
+    if rounds {
+        return (root(4 * v, wide(n)) + 1) / 2;
+    }
+    root(v, wide(n))
 }

@@ -189,40 +189,43 @@ unfolding repeatsAfter lastFrom
 repeats-after b [] px = refl
 repeats-after b (p ∷ pxs) px = ap (λ (x : List Bool). same b p ∷ x) (repeats-after p pxs px)
 
-changes-after : (b : List ℕ) (pxs : List (List ℕ)) (px : List ℕ) → changesAfter b (pxs ++ px ∷ []) ≡ changesAfter b pxs ++ change (lastFrom b pxs) px ∷ []
+changes-after : (rounds : Bool) (b : List ℕ) (pxs : List (List ℕ)) (px : List ℕ) →
+    changesAfter rounds b (pxs ++ px ∷ []) ≡ changesAfter rounds b pxs ++ change rounds (lastFrom b pxs) px ∷ []
 unfolding changesAfter lastFrom
-changes-after b [] px = refl
-changes-after b (p ∷ pxs) px = ap (λ (x : List ℕ). change b p ∷ x) (changes-after p pxs px)
+changes-after rounds b [] px = refl
+changes-after rounds b (p ∷ pxs) px = ap (λ (x : List ℕ). change rounds b p ∷ x) (changes-after rounds p pxs px)
 
 pub repeats-more : (pxs : List (List ℕ)) (px : List ℕ) → repeats (pxs ++ px ∷ []) ≡ repeats pxs ++ nextRepeat pxs px ∷ []
 unfolding repeats repeatsAfter nextRepeat previous lastFrom
 repeats-more [] px = refl
 repeats-more (p ∷ pxs) px = ap (λ (x : List Bool). false ∷ x) (repeats-after p pxs px)
 
-pub changes-more : (pxs : List (List ℕ)) (px : List ℕ) → changes (pxs ++ px ∷ []) ≡ changes pxs ++ nextChange pxs px ∷ []
+pub changes-more : (rounds : Bool) (pxs : List (List ℕ)) (px : List ℕ) →
+    changes rounds (pxs ++ px ∷ []) ≡ changes rounds pxs ++ nextChange rounds pxs px ∷ []
 unfolding changes changesAfter nextChange previous lastFrom
-changes-more [] px = refl
-changes-more (p ∷ pxs) px = ap (λ (x : List ℕ). 0 ∷ x) (changes-after p pxs px)
+changes-more rounds [] px = refl
+changes-more rounds (p ∷ pxs) px = ap (λ (x : List ℕ). 0 ∷ x) (changes-after rounds p pxs px)
 
 length-repeats-after : (b : List ℕ) (pxs : List (List ℕ)) → length (repeatsAfter b pxs) ≡ length pxs
 unfolding repeatsAfter
 length-repeats-after b [] = refl
 length-repeats-after b (p ∷ pxs) = ap suc (length-repeats-after p pxs)
 
-length-changes-after : (b : List ℕ) (pxs : List (List ℕ)) → length (changesAfter b pxs) ≡ length pxs
+length-changes-after : (rounds : Bool) (b : List ℕ) (pxs : List (List ℕ)) →
+    length (changesAfter rounds b pxs) ≡ length pxs
 unfolding changesAfter
-length-changes-after b [] = refl
-length-changes-after b (p ∷ pxs) = ap suc (length-changes-after p pxs)
+length-changes-after rounds b [] = refl
+length-changes-after rounds b (p ∷ pxs) = ap suc (length-changes-after rounds p pxs)
 
 pub length-repeats : (pxs : List (List ℕ)) → length (repeats pxs) ≡ length pxs
 unfolding repeats
 length-repeats [] = refl
 length-repeats (p ∷ pxs) = ap suc (length-repeats-after p pxs)
 
-pub length-changes : (pxs : List (List ℕ)) → length (changes pxs) ≡ length pxs
+pub length-changes : (rounds : Bool) (pxs : List (List ℕ)) → length (changes rounds pxs) ≡ length pxs
 unfolding changes
-length-changes [] = refl
-length-changes (p ∷ pxs) = ap suc (length-changes-after p pxs)
+length-changes rounds [] = refl
+length-changes rounds (p ∷ pxs) = ap suc (length-changes-after rounds p pxs)
 
 -- pictures that are not repeated
 pub fresh-more : (pxs : List (List ℕ)) (px : List ℕ) → count not (repeats (pxs ++ px ∷ [])) ≡ count not (repeats pxs) + pick (nextRepeat pxs px) 0 1

@@ -3,6 +3,7 @@ use Prim.Native.Nat.{ℕ, suc, _*_, _≤_, _<_}
 use native.Mathlib.Omega.{arith}
 use mathlib.Core.Path.{_≡_, sym, _∙_}
 use mathlib.Core.List.{List, [], _∷_, map}
+use mathlib.Core.Bool.{Bool}
 use lib.ListN.{length, getD}
 use Rattle.rules.specs.declared.Opening.{Opening}
 use Rattle.rules.specs.Bytes.{All, and, Bytes, empty}
@@ -29,16 +30,18 @@ AtMost most x = x ≤ most
 abbrev Reduced : ℕ → List ℕ → Type 0
 Reduced n px = Bytes px × (length px ≡ n)
 
-after-changed : (n : ℕ) → 0 < n → (px : List ℕ) (pxs : List (List ℕ)) → Reduced n px → All (Reduced n) pxs → All (AtMost 25500) (changesAfter px pxs)
-unfolding changesAfter
-after-changed n k px [] h hs = empty
-after-changed n k px (py ∷ pxs) h (and g gs) =
-    and (change-most px py (h .0) (g .0) (h .1 ∙ sym (g .1)) (omega arith)) (after-changed n k py pxs g gs)
+module _ (rounds : Bool) (n : ℕ) (k : 0 < n) where
+  after-changed : (px : List ℕ) (pxs : List (List ℕ)) → Reduced n px → All (Reduced n) pxs →
+      All (AtMost 25500) (changesAfter rounds px pxs)
+  unfolding changesAfter
+  after-changed px [] h hs = empty
+  after-changed px (py ∷ pxs) h (and g gs) =
+      and (change-most rounds px py (h .0) (g .0) (h .1 ∙ sym (g .1)) (omega arith)) (after-changed py pxs g gs)
 
-all-changed : (n : ℕ) → 0 < n → (pxs : List (List ℕ)) → All (Reduced n) pxs → All (AtMost 25500) (changes pxs)
-unfolding changes
-all-changed n k [] h = empty
-all-changed n k (px ∷ pxs) (and h hs) = and {x = 0} (omega arith) (after-changed n k px pxs h hs)
+  all-changed : (pxs : List (List ℕ)) → All (Reduced n) pxs → All (AtMost 25500) (changes rounds pxs)
+  unfolding changes
+  all-changed [] h = empty
+  all-changed (px ∷ pxs) (and h hs) = and {x = 0} (omega arith) (after-changed px pxs h hs)
 
 module _ (o : Opening) (luma : List ℕ) (bytes : Bytes luma) where
   pub sample-scored : All (AtMost 1000000) (cutScores (map (histograms o) (reduced o luma)))
@@ -46,7 +49,8 @@ module _ (o : Opening) (luma : List ℕ) (bytes : Bytes luma) where
       let hs = map (histograms o) (reduced o luma) in
       all-of 0 (cutScores hs) (λ j g. rw (score-at hs j (omega (arith, scores-length hs))) (scores-most o luma j bytes))
 
-  pub sample-changed : openingFault o ≡ none → All (AtMost 25500) (changes (reduced o luma))
+  pub sample-changed : (rounds : Bool) → openingFault o ≡ none → All (AtMost 25500) (changes rounds (reduced o luma))
   unfolding pixelCount
-  sample-changed h =
-      all-changed (columns o * lines o) (sizes o (good o h) .pixels-some) (reduced o luma) (all-of [] (reduced o luma) (λ j g. reduced-at o luma j bytes g))
+  sample-changed rounds h =
+      all-changed rounds (columns o * lines o) (sizes o (good o h) .pixels-some) (reduced o luma)
+      (all-of [] (reduced o luma) (λ j g. reduced-at o luma j bytes g))

@@ -19,6 +19,7 @@ use Rattle.rules.specs.Histograms.{histograms}
 use Rattle.rules.specs.Cuts.{cutScore, cutScores}
 use Rattle.rules.specs.Scenes.{startsScene, isStart, startsFrom, starts, sceneOf, scenesAt, scenesOf}
 use Rattle.rules.specs.Changes.{repeats, changes}
+use Rattle.rules.specs.Editions.{roundsToNearest}
 use Rattle.rules.specs.Seal.{reduced, scenesIn, scenes}
 use Rattle.rules.proofs.Laws.Lists.{both, length-table}
 use Rattle.luma_laws.proofs.Tables.{getD-table, parts-length}
@@ -185,13 +186,15 @@ pub sample-joins : (o : Opening) (luma : List ℕ) → 1 ≤ pictureCount o luma
 unfolding scenes scenesIn
 sample-joins o luma h =
     let pxs = reduced o luma in
+    let qs = changes (roundsToNearest (o .edition)) pxs in
     let e = sample-scores o luma in
-    rw e at (scenes-join (o .time) (cutScores (map (histograms o) pxs)) (repeats pxs) (changes pxs) (omega arith))
+    rw e at (scenes-join (o .time) (cutScores (map (histograms o) pxs)) (repeats pxs) qs (omega arith))
 
 pub sample-few : (o : Opening) (luma : List ℕ) → openingFault o ≡ none → length (scenes o luma) ≤ 250
 unfolding scenes scenesIn
 sample-few o luma h =
     let pxs = reduced o luma in
+    let qs = changes (roundsToNearest (o .edition)) pxs in
     let e = length-map pxs (histograms o) ∙ reduced-length o luma in
     let k = pictures-most o luma in
-    scenes-few (o .time) (map (histograms o) pxs) (repeats pxs) (changes pxs) (good o h .time-high) (omega arith)
+    scenes-few (o .time) (map (histograms o) pxs) (repeats pxs) qs (good o h .time-high) (omega arith)

@@ -1,5 +1,5 @@
 -- V and q of document 01: n times the sum of e² is at least the square of the sum of e, so that V's difference is never cut off; and of pictures of bytes q is
--- the greatest whole number that fits, at most 25,500. For any n.
+-- the greatest whole number that fits or, rounded, the nearest, at most 25,500. For any n.
 use Prim.Native.Nat.{ℕ, zero, suc, _+_, _-_, _*_, _≤_, _<_}
 use native.Mathlib.Omega.{arith}
 use native.Mathlib.Nat.{mul-add, add-mul, mul-comm, mul-assoc, mul-left-comm, mul-zero, zero-mul, suc-mul, mul-pos, mul-le-mul, mul-le-mul-left, mul-le-mul-right, le-of-mul-le-mul-left, le-trans, lt-of-not-le, le-of-suc-le-suc}
@@ -10,11 +10,11 @@ use lib.ListN.{length}
 use lib.Dec.{leb}
 use borrow.Author.Tests.{leb-true, leb-false}
 use Rattle.rules.specs.Bytes.{total, tally, apart, Bytes}
-use Rattle.rules.specs.Changes.{squares, spread, change}
+use Rattle.rules.specs.Changes.{squares, spread, Nearest, changeFrom, change}
 use Rattle.luma_laws.proofs.Tally.{tally-add}
 use Rattle.luma_laws.specs.Tallies.{rise, fall, ups, downs, squared}
 use Rattle.luma_laws.proofs.Moves.{squared-most, squares-are, apart-are}
-use Rattle.luma_laws.proofs.Changes.{Root, root-greatest}
+use Rattle.luma_laws.proofs.Changes.{Root, root-greatest, nearest-is, root-most, nearest-most}
 
 -- ---- the square of a sum
 
@@ -94,19 +94,23 @@ spread-most old new g h e =
     omega (arith, spread-whole old new e, mul-le-mul-left (length new) most, mul-left-comm (length new) 65025 (length new))
 
 -- q is the greatest whole number with q² × n² at most 10,000 × V
-pub change-greatest : (old new : List ℕ) → Bytes old → Bytes new → length old ≡ length new → 0 < length new → Root (spread old new) (length new) (change old new)
-unfolding change
+pub change-greatest : (old new : List ℕ) → Bytes old → Bytes new → length old ≡ length new → 0 < length new →
+    Root (spread old new) (length new) (change false old new)
+unfolding change changeFrom
 change-greatest old new g h e some =
     let n = length new in
     root-greatest (spread old new) n (omega (arith, spread-most old new g h e, mul-pos some some, mul-assoc (65536 * 65536) n n))
 
-pub change-most : (old new : List ℕ) → Bytes old → Bytes new → length old ≡ length new → 0 < length new → change old new ≤ 25500
-change-most old new g h e some =
+-- rounded, it is the whole number nearest to the square root of 10,000 × V / n², the upper at a tie
+pub change-nearest : (old new : List ℕ) → Bytes old → Bytes new → length old ≡ length new → 0 < length new →
+    Nearest (spread old new) (length new) (change true old new)
+unfolding change changeFrom
+change-nearest old new g h e some =
     let n = length new in
-    let q = change old new in
-    let r = change-greatest old new g h e some in
-    le-of-suc-le-suc
-    (lt-of-not-le
-    (λ (high : 25501 ≤ q).
-    let above : 25501 * 25501 * n * n ≤ q * q * n * n = mul-le-mul-right n (mul-le-mul-right n (mul-le-mul high high)) in
-    absurd (omega (arith, r .reached, spread-most old new g h e, mul-pos some some, mul-assoc (25501 * 25501) n n))))
+    nearest-is (spread old new) n
+    (omega (arith, spread-most old new g h e, mul-pos some some, mul-assoc (65536 * 65536) n n))
+
+pub change-most : (rounds : Bool) (old new : List ℕ) → Bytes old → Bytes new → length old ≡ length new →
+    0 < length new → change rounds old new ≤ 25500
+change-most false old new g h e some = root-most (change-greatest old new g h e some) some (spread-most old new g h e)
+change-most true old new g h e some = nearest-most (change-nearest old new g h e some) some (spread-most old new g h e)

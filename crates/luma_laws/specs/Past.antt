@@ -18,9 +18,9 @@ unfoldable pub previous : List (List ℕ) → List ℕ
 previous pxs = lastFrom [] pxs
 
 -- q of the next picture, and whether it is repeated
-unfoldable pub nextChange : List (List ℕ) → List ℕ → ℕ
-nextChange [] px = 0
-nextChange (p ∷ pxs) px = change (previous (p ∷ pxs)) px
+unfoldable pub nextChange : Bool → List (List ℕ) → List ℕ → ℕ
+nextChange rounds [] px = 0
+nextChange rounds (p ∷ pxs) px = change rounds (previous (p ∷ pxs)) px
 
 unfoldable pub nextRepeat : List (List ℕ) → List ℕ → Bool
 nextRepeat [] px = false

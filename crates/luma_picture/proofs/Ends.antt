@@ -12,6 +12,7 @@ use lib.Seq.{getD-take}
 use lib.Dec.{eqb}
 use Rattle.rules.specs.declared.Opening.{Opening}
 use Rattle.rules.specs.Bytes.{pick, parts, count, empty, and, Bytes}
+use Rattle.rules.specs.Editions.{roundsToNearest}
 use Rattle.rules.specs.Opening.{side, columns, lines}
 use Rattle.rules.specs.Pictures.{pictureSize, pixels}
 use Rattle.rules.specs.Changes.{repeats}
@@ -24,7 +25,7 @@ use Rattle.luma_tiles.specs.Bins.{Counts, Cleared}
 use Rattle.luma_changes.specs.Figures.{Figures}
 use Rattle.luma_state.specs.declared.Grid.{Grid}
 use Rattle.luma_state.specs.declared.Progress.{Progress}
-use Rattle.luma_state.specs.State.{slot, movesIn, Words, Ring, Drawn, drawing, Live}
+use Rattle.luma_state.specs.State.{slot, openingIn, movesIn, Words, Ring, Drawn, drawing, Live}
 use Rattle.luma_rows.proofs.Rows.{bytes-right, at-passing, elsewhere, apart}
 use Rattle.luma_picture.specs.Contract.{againOf, ChangeOf, ScoreOf, noted, nextPicture, AtPictureEnd, PictureEnded}
 use Rattle.luma_picture.proofs.Notes.{Whole, each-px, score-is, change-is, again-is, words-more}
@@ -90,12 +91,18 @@ module _ (g : Grid) (s : Progress) {o : Opening} {luma sums bins picture joined 
   again-as : againOf s ≡ pick (nextRepeat (v .pxs) (pixels o (v .cur))) 1 0
   again-as = again-is o g s (pixels o (v .cur)) size-is some-pixels (at .fits .room) (pixels-small o (v .cur) small-cur) (v .pxs) (v .pictures) moved before
 
-  noted-words : {q score : ℕ} → ChangeOf g s q → ScoreOf bins (s .pictures) score →
+  -- the words name the edition
+  edition-is : openingIn luma .edition ≡ o .edition
+  edition-is = ap (λ (x : Opening). x .edition) (v .words .opening)
+
+  noted-words : {q score : ℕ} → ChangeOf g s (roundsToNearest (openingIn luma .edition)) q →
+      ScoreOf bins (s .pictures) score →
       Words o (v .pxs ++ pixels o (v .cur) ∷ []) (noted luma (s .pictures) q (againOf s) score)
   noted-words c t =
       let few : length (pixels o (v .cur)) < 2 ^ 32 = omega (arith, size-is, at .fits .room) in
       words-more o (v .pxs) (pixels o (v .cur)) (v .pictures) (at .more) (v .words)
-      (change-is o g s (pixels o (v .cur)) size-is some-pixels (at .fits .room) (pixels-small o (v .cur) small-cur) (v .pxs) _ (v .pictures) c moved before)
+      (change-is o g s (pixels o (v .cur)) size-is some-pixels (at .fits .room) (pixels-small o (v .cur) small-cur)
+      (roundsToNearest (o .edition)) (v .pxs) _ (v .pictures) (rw edition-is at c) moved before)
       again-as
       (score-is o (v .pxs) (pixels o (v .cur)) t (v .pictures) (λ j h k. rw (wide, high) at (v .ring j h k)) (rw (v .pictures) counted)
       (λ j h. omega (arith, each j h .size, pixels-length o (v .cur))) few)
@@ -131,7 +138,8 @@ module _ (g : Grid) (s : Progress) {o : Opening} {luma sums bins picture joined 
           elsewhere (c .kept) away
           (rw (getD-other (v .pxs) (pixels o (v .cur)) [] j e) (v .ring j (omega (arith, long, v .pictures, e)) (omega (arith, long, v .pictures))))
 
-  pub next-live : {luma′ bins′ : List ℕ} {q score : ℕ} → ChangeOf g s q → ScoreOf bins (s .pictures) score → luma′ ≡ noted luma (s .pictures) q (againOf s) score →
+  pub next-live : {luma′ bins′ : List ℕ} {q score : ℕ} → ChangeOf g s (roundsToNearest (openingIn luma .edition)) q →
+      ScoreOf bins (s .pictures) score → luma′ ≡ noted luma (s .pictures) q (againOf s) score →
       Cleared (slot (s .pictures + 1)) bins bins′ → Live g o (nextPicture s (againOf s)) luma′ sums bins′ picture (joined ++ [])
   next-live {luma′} {bins′} {q} {score} change scored words cleared =
       let px = pixels o (v .cur) in
@@ -166,7 +174,8 @@ module _ (g : Grid) (s : Progress) {o : Opening} {luma sums bins picture joined 
       unrepeated true old new a x e f h = omega arith
       unrepeated false old new a x e f h = omega arith
 
-pub picture-ended : (g : Grid) (s : Progress) {luma bins luma′ bins′ : List ℕ} {r : Progress} {q score : ℕ} → AtPictureEnd g s → ChangeOf g s q → ScoreOf bins (s .pictures) score →
+pub picture-ended : (g : Grid) (s : Progress) {luma bins luma′ bins′ : List ℕ} {r : Progress} {q score : ℕ} →
+    AtPictureEnd g s → ChangeOf g s (roundsToNearest (openingIn luma .edition)) q → ScoreOf bins (s .pictures) score →
     luma′ ≡ noted luma (s .pictures) q (againOf s) score → Cleared (slot (s .pictures + 1)) bins bins′ → r ≡ nextPicture s (againOf s) →
     PictureEnded g s luma bins r luma′ bins′
 picture-ended g s at change scored words cleared e =

@@ -5,11 +5,13 @@ use native.Mathlib.Nat.{lt-of-not-le, mul-comm}
 use native.Mathlib.Decide.{decLe, ℕ-discrete}
 use mathlib.Core.Path.{_≡_, sym, ap, _∙_}
 use mathlib.Core.List.{List, [], _∷_, _++_, map}
+use mathlib.Core.Bool.{Bool}
 use lib.ListN.{length, getD, drop, set, length-set, length-map}
 use lib.Seq.{getD-set-same, getD-set-other}
 use borrow.Author.Tests.{eq-eqb, ne-eqb}
 use Rattle.rules.specs.declared.Opening.{Opening}
 use Rattle.rules.specs.Bytes.{pick, parts, Bytes}
+use Rattle.rules.specs.Editions.{roundsToNearest}
 use Rattle.rules.specs.Opening.{columns, lines}
 use Rattle.rules.specs.Pictures.{pictureSize, pixels}
 use Rattle.rules.specs.Histograms.{histograms}
@@ -82,11 +84,12 @@ module _ (o : Opening) (g : Grid) (s : Progress) (px : List ℕ) (size : length 
   exactly : (pxs : List (List ℕ)) → Figures (previous pxs) px (movesIn s) → Bytes (previous pxs) → Exact (previous pxs) px (movesIn s)
   exactly pxs f b = exact f b small (omega arith)
 
-  pub change-is : (pxs : List (List ℕ)) (r : ℕ) → s .pictures ≡ length pxs → ChangeOf g s r → Figures (previous pxs) px (movesIn s) →
-      (0 < length pxs → Bytes (previous pxs) × (length (previous pxs) ≡ length px)) → r ≡ nextChange pxs px
+  pub change-is : (rounds : Bool) (pxs : List (List ℕ)) (r : ℕ) → s .pictures ≡ length pxs → ChangeOf g s rounds r →
+      Figures (previous pxs) px (movesIn s) →
+      (0 < length pxs → Bytes (previous pxs) × (length (previous pxs) ≡ length px)) → r ≡ nextChange rounds pxs px
   unfolding nextChange change spreadOf
-  change-is [] r n c f b = c .first n
-  change-is (p ∷ pxs) r n c f b =
+  change-is rounds [] r n c f b = c .first n
+  change-is rounds (p ∷ pxs) r n c f b =
       let all = b (omega arith) in
       let x = exactly (p ∷ pxs) f (all .0) in
       let most : s .squares % 2 ^ 32 ≤ 65025 * (g .lines * g .columns) = omega (arith, x .both, squared-most (previous (p ∷ pxs)) px (all .0) small, ap (λ (k : ℕ). 65025 * k) size) in
@@ -104,7 +107,11 @@ module _ (o : Opening) (g : Grid) (s : Progress) (px : List ℕ) (size : length 
 -- ---- the words
 
 module _ (o : Opening) (pxs : List (List ℕ)) (px : List ℕ) {luma : List ℕ} {i q again score : ℕ} (number : i ≡ length pxs) (few : i < 750) (w : Words o pxs luma)
-    (is-q : q ≡ nextChange pxs px) (is-again : again ≡ pick (nextRepeat pxs px) 1 0) (is-score : score ≡ nextScore (map (histograms o) pxs) (histograms o px)) where
+    (is-q : q ≡ nextChange (roundsToNearest (o .edition)) pxs px) (is-again : again ≡ pick (nextRepeat pxs px) 1 0)
+    (is-score : score ≡ nextScore (map (histograms o) pxs) (histograms o px)) where
+  abbrev rounded : Bool
+  rounded = roundsToNearest (o .edition)
+
   one : List ℕ
   one = set luma (850 + i) q
 
@@ -144,25 +151,29 @@ module _ (o : Opening) (pxs : List (List ℕ)) (px : List ℕ) {luma : List ℕ}
           ∙ w .scores k h
           ∙ sym (score-other (map (histograms o) pxs) (histograms o px) k (λ a z. e (omega (arith, long))))
 
-  change-word : (k : ℕ) → k < 750 → getD (set two (98 + i) score) (850 + k) 0 ≡ getD (changes (pxs ++ px ∷ [])) k 0
+  change-word : (k : ℕ) → k < 750 →
+      getD (set two (98 + i) score) (850 + k) 0 ≡ getD (changes rounded (pxs ++ px ∷ [])) k 0
   unfolding one two
-  change-word k h = rw (changes-more pxs px) (go (ℕ-discrete k i))
+  change-word k h = rw (changes-more rounded pxs px) (go (ℕ-discrete k i))
     where
-      go : Dec (k ≡ i) → getD (set two (98 + i) score) (850 + k) 0 ≡ getD (changes pxs ++ nextChange pxs px ∷ []) k 0
+      go : Dec (k ≡ i) →
+          getD (set two (98 + i) score) (850 + k) 0 ≡ getD (changes rounded pxs ++ nextChange rounded pxs px ∷ []) k 0
       go (yes e) =
-          let n : k ≡ length (changes pxs) = omega (arith, length-changes pxs) in
+          let n : k ≡ length (changes rounded pxs) = omega (arith, length-changes rounded pxs) in
           let here : 850 + k ≡ 850 + i = omega arith in
           getD-set-other two (98 + i) (850 + k) score 0 (λ z. omega arith)
           ∙ getD-set-other one (64 + i / 64) (850 + k) ((getD one (64 + i / 64) 0 + bitOf i again) % 2 ^ 64) 0 (λ z. omega arith)
           ∙ ap (λ (z : ℕ). getD one z 0) here
           ∙ getD-set-same luma (850 + i) q 0 (omega (arith, w .size))
           ∙ is-q
-          ∙ sym (getD-last (changes pxs) (nextChange pxs px) 0)
-          ∙ ap (λ (z : ℕ). getD (changes pxs ++ nextChange pxs px ∷ []) z 0) (sym n)
+          ∙ sym (getD-last (changes rounded pxs) (nextChange rounded pxs px) 0)
+          ∙ ap (λ (z : ℕ). getD (changes rounded pxs ++ nextChange rounded pxs px ∷ []) z 0) (sym n)
       go (no e) =
           stays (850 + k) (λ z. e (omega arith)) (λ z. omega arith) (λ z. omega arith)
           ∙ w .changes k h
-          ∙ sym (getD-other (changes pxs) (nextChange pxs px) 0 k (λ z. e (omega (arith, length-changes pxs))))
+          ∙ sym
+          (getD-other (changes rounded pxs) (nextChange rounded pxs px) 0 k
+          (λ z. e (omega (arith, length-changes rounded pxs))))
 
   repeat-word : (j : ℕ) → j < 12 → getD (set two (98 + i) score) (64 + j) 0 ≡ mapWord (repeats (pxs ++ px ∷ [])) j
   unfolding one two

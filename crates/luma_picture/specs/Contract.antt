@@ -2,6 +2,7 @@
 use Prim.Native.Nat.{ℕ, _+_, _-_, _*_, _/_, _%_, _^_, _≤_, _<_}
 use mathlib.Core.Path.{_≡_}
 use mathlib.Core.List.{List, []}
+use mathlib.Core.Bool.{Bool}
 use lib.ListN.{getD, set}
 use lib.Dec.{eqb}
 use Rattle.rules.specs.Bytes.{pick}
@@ -17,10 +18,11 @@ use Rattle.luma_state.specs.Steps.{placedAt, countedAs}
 abbrev pub againOf : Progress → ℕ
 againOf s = pick (eqb (s .pictures) 0) 0 (pick (eqb (s .squares % 2 ^ 32) 0) 1 0)
 
--- q of the picture that ends: 0 for the first
-pub record ChangeOf (g : Grid) (s : Progress) (r : ℕ) : Type 0 where
+-- q of the picture that ends, rounded to the nearest or cut off: 0 for the first
+pub record ChangeOf (g : Grid) (s : Progress) (rounds : Bool) (r : ℕ) : Type 0 where
   pub first : s .pictures ≡ 0 → r ≡ 0
-  pub later : (s .pictures ≡ 0 → ⊥) → Changed (g .lines * g .columns) (s .ups % 2 ^ 32) (s .downs % 2 ^ 32) (s .squares % 2 ^ 32) r
+  pub later : (s .pictures ≡ 0 → ⊥) →
+      Changed (g .lines * g .columns) (s .ups % 2 ^ 32) (s .downs % 2 ^ 32) (s .squares % 2 ^ 32) rounds r
 
 -- the cut score that picture i settles, and that each count is a u32
 pub record ScoreOf (bins : List ℕ) (i r : ℕ) : Type 0 where

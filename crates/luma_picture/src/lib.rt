@@ -25,17 +25,17 @@ fn again_of(s: Progress) -> u64
     0
 }
 
-// The change of the picture that ends, 0 for the first.
-fn change_of(g: Grid, s: Progress) -> u64
+// The change of the picture that ends, rounded to the nearest or cut off; 0 for the first.
+fn change_of(g: Grid, s: Progress, rounds: bool) -> u64
     requires { ⌜ Fits g ⌝ }
-    ensures { λ r. ⌜ ChangeOf g s r ⌝ }
+    ensures { λ r. ⌜ ChangeOf g s rounds r ⌝ }
 {
     if s.pictures == 0 {
         return 0;
     }
     let m = luma_state::moves_in(s);
     let n = (g.lines * g.columns) as u32;
-    luma_changes::change(n, m.up, m.down, m.squares)
+    luma_changes::change(n, m.up, m.down, m.squares, rounds)
 }
 
 // The first count. Reading it as one of a slice shows that every count is a u32.
@@ -99,7 +99,9 @@ pub fn end_picture(luma: &mut Words, bins: &mut Bins, g: Grid, s: Progress) -> P
     let i = s.pictures;
     let again = again_of(s);
     let score = score_of(bins, i);
-    let q = change_of(g, s);
+    let opening = luma_state::opening_in(luma);
+    let rounds = figures::rounds_to_nearest(opening.edition);
+    let q = change_of(g, s, rounds);
     note(luma, i, q, again, score);
     let next = slot_of(i + 1);
     luma_tiles::clear(bins, next);

@@ -32,19 +32,20 @@ all-at most (and h hs) zero g = h
 all-at most (and h hs) (suc i) g = all-at most hs i (omega arith)
 
 -- the words of a luma side that was fed these bytes hold the figures of its whole pictures
-pub sample-holds : (o : Opening) (luma w : List ℕ) → openingFault o ≡ none → Bytes luma →
+pub sample-holds : (rounds : Bool) (o : Opening) (luma w : List ℕ) → openingFault o ≡ none → Bytes luma →
     ((i : ℕ) → i < 750 → getD w (100 + i) 0 ≡ cutScore (map (histograms o) (reduced o luma)) i) →
-    ((i : ℕ) → i < 750 → getD w (850 + i) 0 ≡ getD (changes (reduced o luma)) i 0) →
+    ((i : ℕ) → i < 750 → getD w (850 + i) 0 ≡ getD (changes rounds (reduced o luma)) i 0) →
     ((j : ℕ) → j < 12 → getD w (64 + j) 0 ≡ mapWord (repeats (reduced o luma)) j) →
-    Holds w (pictureCount o luma) (cutScores (map (histograms o) (reduced o luma))) (repeats (reduced o luma)) (changes (reduced o luma))
-sample-holds o luma w h b fs fq fr =
+    Holds w (pictureCount o luma) (cutScores (map (histograms o) (reduced o luma))) (repeats (reduced o luma))
+    (changes rounds (reduced o luma))
+sample-holds rounds o luma w h b fs fq fr =
     let pxs = reduced o luma in
     let hs = map (histograms o) pxs in
     let few = pictures-most o luma in
     let n = reduced-length o luma in
     let s = sample-scores o luma in
     let l = scores-length hs in
-    let q : length (changes pxs) ≡ pictureCount o luma = length-changes pxs ∙ n in
+    let q : length (changes rounds pxs) ≡ pictureCount o luma = length-changes rounds pxs ∙ n in
     record {
       few = few;
       scores = record {
@@ -56,6 +57,6 @@ sample-holds o luma w h b fs fq fr =
       changes = record {
         size = q;
         word = λ i g. fq i (omega arith);
-        bound = λ i g. all-at 25500 (sample-changed o luma b h) i (omega arith);
+        bound = λ i g. all-at 25500 (sample-changed o luma b rounds h) i (omega arith);
       };
     }

@@ -9,6 +9,7 @@ use lib.ListN.{length, getD, take}
 use Rattle.rules.specs.declared.Opening.{Opening}
 use Rattle.rules.specs.Bytes.{count, parts, Bytes}
 use Rattle.rules.specs.Refusals.{none, fault, _orElse_}
+use Rattle.rules.specs.Editions.{roundsToNearest}
 use Rattle.rules.specs.Opening.{openingFault, side, columns, lines}
 use Rattle.rules.specs.Pictures.{pictureSize, lumaFault, pixels}
 use Rattle.rules.specs.Histograms.{histograms}
@@ -102,7 +103,7 @@ pub record Words (o : Opening) (pxs : List (List ℕ)) (luma : List ℕ) : Type 
   pub size : length luma ≡ wordCount
   pub opening : openingIn luma ≡ o
   pub scores : (i : ℕ) → i < 750 → getD luma (scoresAt + i) 0 ≡ cutScore (map (histograms o) pxs) i
-  pub changes : (i : ℕ) → i < 750 → getD luma (changesAt + i) 0 ≡ getD (changes pxs) i 0
+  pub changes : (i : ℕ) → i < 750 → getD luma (changesAt + i) 0 ≡ getD (changes (roundsToNearest (o .edition)) pxs) i 0
   pub repeats : (j : ℕ) → j < 12 → getD luma (repeatsAt + j) 0 ≡ mapWord (repeats pxs) j
 
 -- the first place of picture i's histograms in the ring

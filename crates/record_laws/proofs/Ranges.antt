@@ -27,6 +27,7 @@ use Rattle.rules.specs.Pictures.{pictureCount, lumaFault}
 use Rattle.rules.specs.Scenes.{span, isTrue, starts, sceneOf, scenesAt, scenesOf}
 use Rattle.rules.specs.Histograms.{histograms}
 use Rattle.rules.specs.Cuts.{cutScores}
+use Rattle.rules.specs.Editions.{roundsToNearest}
 use Rattle.rules.specs.Changes.{repeats, changes}
 use Rattle.rules.specs.Index.{float, valueOf, indexOf, indexBits}
 use Rattle.rules.specs.Record.{recordLength}
@@ -353,7 +354,10 @@ module _ (o : Opening) (luma : List ℕ) (bytes : Bytes luma) where
   unfolding scenes scenesIn
   scene-ranges h =
       let pxs = reduced o luma in
-      rw (sample-scores o luma) at (scene-each (cutScores (map (histograms o) pxs)) (repeats pxs) (changes pxs) (sample-scored o luma bytes) (sample-changed o luma bytes h) (o .time))
+      let rounds = roundsToNearest (o .edition) in
+      rw (sample-scores o luma) at
+      (scene-each (cutScores (map (histograms o) pxs)) (repeats pxs) (changes rounds pxs) (sample-scored o luma bytes)
+      (sample-changed o luma bytes rounds h) (o .time))
 
 pub scene-fits : {n : ℕ} {s : SceneRow} → n ≤ 750 → SceneRange n s → SceneFits s
 scene-fits {n} {s} h r =

@@ -1,6 +1,7 @@
-// Runs a whole list of calls that a script of bytes holds, all after one opening, and writes what they come to. A script: the 32-bit little-endian words
-// W, H, d, PID and a rule edition, which is ignored; then calls. A call: byte C or L, a 32-bit length n and n bytes, a feed of that side; or byte S and
-// a 32-bit length n, a seal into n bytes of 0xA5. Where the script ends inside a call, or where another byte stands, the list ends.
+// Runs a whole list of calls that a script of bytes holds, all after one opening, and writes what they come to. A
+// script: the 32-bit little-endian words W, H, d, PID and a rule edition; then calls. A call: byte C or L, a 32-bit
+// length n and n bytes, a feed of that side; or byte S and a 32-bit length n, a seal into n bytes of 0xA5. Where the
+// script ends inside a call, or where another byte stands, the list ends.
 ghost use mathlib.Core.Path.{_≡_};
 ghost use Prim.Native.Nat.{_-_, _≤_};
 ghost use lib.ListN.{length, replicate};

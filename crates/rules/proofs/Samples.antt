@@ -12,7 +12,7 @@ use Rattle.rules.specs.declared.Answer.{Answer}
 use Rattle.rules.specs.declared.Answer.the-variants.{Done, Refused}
 use Rattle.rules.specs.Refusals.{Fault, none, fault}
 use Rattle.rules.specs.Bytes.{word32, word64, network16, bytesOf, total, greatestOf, leastOf, count, only, table, parts, endToEnd}
-use Rattle.rules.specs.Editions.{isEdition, heedsSplices}
+use Rattle.rules.specs.Editions.{isEdition, heedsSplices, roundsToNearest}
 use Rattle.rules.specs.Opening.{goodSize, goodTime, goodPid, openingFault, openAnswer, levelUpTo, level, side, area, columns, lines}
 use Rattle.rules.specs.Frames.{seconds, microseconds, storedLength, frameTime, body, frameSize, framesUpTo, restUpTo, frames, rest, behindHeader}
 use Rattle.rules.specs.Packets.{Packet, ipLength, udpLength, carries, skipped, packetsFrom, packetsIn, packetsOf, packets, shown, whole, identifier, kind, startMark, counter, spliceMark, wantedOf, badOf}
@@ -22,7 +22,8 @@ use Rattle.rules.specs.Pictures.{pictureSize, pictureCount, pictures, lu
 use Rattle.rules.specs.Histograms.{third, tileAt, bin, inTileFrom, inTile, inBin, histogram, histograms}
 use Rattle.rules.specs.Cuts.{binsApart, perMillion, tileDifference, tileDifferences, insert, sorted, fifth, difference, leastOfSix, cutScore, cutScores}
 use Rattle.rules.specs.Scenes.{startsScene, isStart, startsFrom, starts, longestFrom, sceneOf, scenesAt, scenesOf}
-use Rattle.rules.specs.Changes.{same, squares, spread, rootFrom, root, change, repeatsAfter, changesAfter, repeats, changes}
+use Rattle.rules.specs.Changes.{same, squares, spread, rootFrom, root, nearest, changeFrom, change}
+use Rattle.rules.specs.Changes.{repeatsAfter, changesAfter, repeats, changes}
 use Rattle.rules.specs.Index.{icOf, ipOf, valueOf, indexOf, indexBits}
 use Rattle.rules.specs.Record.{le32, recordLength, sceneOffset, headerBytes, unitBytes, sceneBytes, recordBytes}
 use Rattle.rules.specs.Reading.{scenePlace, unitPlace, allowedHeader, allowedUnit, allowedUnits, allowedScene, allowedScenes, allowedRows, allowed, readingFault, rowFault, unitFault, sceneFault}
@@ -74,6 +75,12 @@ abbrev lostBy : ℕ → ℕ → List ℕ
 lostBy e m =
     map (λ u. u .lost)
     (units (openedBy e 30 30 40000 256) (goodHeader ++ frameWith 0 0 3 (packetOf 256 0x40 3 ++ splicedOf 256 9 m ++ packetOf 256 0 11)))
+
+-- the scenes' sums of q, under an edition, of two pictures of 16 by 32: grey, then four pixels higher and four lower
+abbrev changedBy : ℕ → List ℕ
+changedBy e =
+    map (λ s. s .change)
+    (scenes (openedBy e 16 32 40000 256) (replicate 512 7 ++ replicate 4 8 ++ replicate 4 6 ++ replicate 504 7))
 
 words : List ℕ → List ℕ
 words ns = endToEnd (map le32 ns)
@@ -167,16 +174,34 @@ samples =
     }
     ∷ record { rule = run (opened 640 30 9999 8192) [] ++ run (opened 640 480 40000 8192) []; paper = 1 ∷ 0 ∷ 3 ∷ 0 ∷ [] }
     ∷ record { rule = run (opened 640 480 9999 8192) []; paper = 2 ∷ 0 ∷ [] }
-    -- 20: editions 0 and 3, behind 3; 1 and 2 pass
+    -- 20: editions 0 and 4, behind 3; 1 to 3 pass
     ∷ record {
-      rule = run (openedBy 0 640 480 40000 256) [] ++ run (openedBy 3 640 480 40000 256) [] ++ run (openedBy 3 640 480 40000 8192) [];
+      rule =
+          run (openedBy 0 640 480 40000 256) []
+          ++ run (openedBy 4 640 480 40000 256) []
+          ++ run (openedBy 4 640 480 40000 8192) [];
       paper = 20 ∷ 0 ∷ 20 ∷ 0 ∷ 3 ∷ 0 ∷ [];
     }
-    ∷ record { rule = run (openedBy 1 640 480 40000 256) [] ++ run (openedBy 2 640 480 40000 256) []; paper = 0 ∷ 0 ∷ 0 ∷ 0 ∷ [] }
-    -- a splice: its own gap of 6 loses 5 under edition 1 and nothing under 2, the gap of 2 behind it loses one; no indicator in no bytes
-    ∷ record { rule = lostBy 1 7 ++ lostBy 2 7 ++ lostBy 2 0; paper = 6 ∷ 1 ∷ 6 ∷ [] }
-    -- 17: the reader takes edition 2 and not 3
-    ∷ record { rule = toldFault (readingFault (set showRecord 0 2)) ++ toldFault (readingFault (set showRecord 0 3)); paper = 0 ∷ 0 ∷ 17 ∷ 0 ∷ [] }
+    ∷ record {
+      rule =
+          run (openedBy 1 640 480 40000 256) []
+          ++ run (openedBy 2 640 480 40000 256) []
+          ++ run (openedBy 3 640 480 40000 256) [];
+      paper = 0 ∷ 0 ∷ 0 ∷ 0 ∷ 0 ∷ 0 ∷ [];
+    }
+    -- a splice: its own gap of 6 loses 5 under edition 1 and nothing under 2 and 3, the gap of 2 behind it loses one;
+    -- no indicator in no bytes
+    ∷ record { rule = lostBy 1 7 ++ lostBy 2 7 ++ lostBy 3 7 ++ lostBy 2 0; paper = 6 ∷ 1 ∷ 1 ∷ 6 ∷ [] }
+    -- a scene's sum of q by the editions 1 to 3: one picture's is 12.5 (16 by 32, four pixels higher and four lower)
+    ∷ record { rule = changedBy 1 ++ changedBy 2 ++ changedBy 3; paper = 12 ∷ 12 ∷ 13 ∷ [] }
+    -- 17: the reader takes editions 2 and 3 and not 4
+    ∷ record {
+      rule =
+          toldFault (readingFault (set showRecord 0 2))
+          ++ toldFault (readingFault (set showRecord 0 3))
+          ++ toldFault (readingFault (set showRecord 0 4));
+      paper = 0 ∷ 0 ∷ 0 ∷ 0 ∷ 17 ∷ 0 ∷ [];
+    }
     -- 5: A1 B2 C3 D4, shown by the fourth byte alone, and by the first of the four that is wrong
     ∷ record {
       rule = run small (feedCapture (0xA1 ∷ 0xB2 ∷ 0xC3 ∷ []) ∷ feedCapture (0xD4 ∷ 0 ∷ []) ∷ feedCapture [] ∷ []);
@@ -209,7 +234,7 @@ samples =
 
 -- the theorem: the rules give what the paper says
 pub sampled : map (λ (c : Case). c .rule) samples ≡ map (λ (c : Case). c .paper) samples
-unfolding words run marks oneFrame picture showRecord sealing feeding samples openAnswer unitPlace scenePlace allowedHeader allowedUnit allowedUnits allowedScene allowedScenes allowedRows allowed readingFault rowFault isEdition unitFault sceneFault word32 word64 network16 bytesOf total greatestOf leastOf count only table parts endToEnd goodSize goodTime goodPid openingFault levelUpTo level side area columns lines seconds microseconds storedLength frameTime body frameSize framesUpTo restUpTo frames rest behindHeader ipLength udpLength carries skipped packetsFrom packetsIn packetsOf packets shown whole identifier kind startMark counter wantedOf badOf gapLoss lossBetween heedsSplices spliceMark arrivalsAfter arrivals groups leastTime unitOf unitsOf beginnings wholeFrames unfinished allFrames wholeWanted shownWanted units frameCount skippedCount badCount showing tooLong wrongMagic wrongLink wrongFrameHeader wrongFrame tooManyUnits captureFault captureInside pictureSize pictureCount pictures lumaFault rows band blockSum pixelIn pixel pixelLine pixels third tileAt bin inTileFrom inTile inBin histogram histograms binsApart perMillion tileDifference tileDifferences insert sorted fifth difference leastOfSix cutScore cutScores startsScene isStart startsFrom starts longestFrom sceneOf scenesAt scenesOf same squares spread rootFrom root change repeatsAfter changesAfter repeats changes icOf ipOf valueOf indexOf indexBits recordLength sceneOffset headerBytes unitBytes sceneBytes recordBytes reduced scenesIn scenes unrepeated indexFrom index header sealed sealedLength captureUnfinished noPacket lumaUnfinished noPicture noRoom sealFault captureAnswer lumaAnswer sealAnswer over sealedBuffer expected add mul div ofInt toBits
+unfolding words run marks oneFrame picture showRecord sealing feeding samples openAnswer unitPlace scenePlace allowedHeader allowedUnit allowedUnits allowedScene allowedScenes allowedRows allowed readingFault rowFault isEdition unitFault sceneFault word32 word64 network16 bytesOf total greatestOf leastOf count only table parts endToEnd goodSize goodTime goodPid openingFault levelUpTo level side area columns lines seconds microseconds storedLength frameTime body frameSize framesUpTo restUpTo frames rest behindHeader ipLength udpLength carries skipped packetsFrom packetsIn packetsOf packets shown whole identifier kind startMark counter wantedOf badOf gapLoss lossBetween heedsSplices spliceMark arrivalsAfter arrivals groups leastTime unitOf unitsOf beginnings wholeFrames unfinished allFrames wholeWanted shownWanted units frameCount skippedCount badCount showing tooLong wrongMagic wrongLink wrongFrameHeader wrongFrame tooManyUnits captureFault captureInside pictureSize pictureCount pictures lumaFault rows band blockSum pixelIn pixel pixelLine pixels third tileAt bin inTileFrom inTile inBin histogram histograms binsApart perMillion tileDifference tileDifferences insert sorted fifth difference leastOfSix cutScore cutScores startsScene isStart startsFrom starts longestFrom sceneOf scenesAt scenesOf same squares spread rootFrom root nearest changeFrom roundsToNearest change repeatsAfter changesAfter repeats changes icOf ipOf valueOf indexOf indexBits recordLength sceneOffset headerBytes unitBytes sceneBytes recordBytes reduced scenesIn scenes unrepeated indexFrom index header sealed sealedLength captureUnfinished noPacket lumaUnfinished noPicture noRoom sealFault captureAnswer lumaAnswer sealAnswer over sealedBuffer expected add mul div ofInt toBits
 sampled = refl
 
 -- 4 and 10, whose small inputs are too long to be written out: by their length. One byte past 268,435,456, and 751 pictures

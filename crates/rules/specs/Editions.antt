@@ -1,6 +1,7 @@
 -- Rule editions: which there are, and what each changes. The other chapters ask these, and compare no edition with a number.
 --   1  document 01
 --   2  document 02, R-2: a splice mark is heeded
+--   3  document 02, R-5: as 2, and a change is rounded to the nearest hundredth
 use Prim.Native.Nat.{ℕ}
 use mathlib.Core.Bool.{Bool}
 use lib.Dec.{leb}
@@ -8,8 +9,12 @@ use Rattle.rules.specs.Bytes.{within}
 
 -- an edition that there is: refusals 20 and 17 let it pass
 unfoldable pub isEdition : ℕ → Bool
-isEdition e = within 1 2 e
+isEdition e = within 1 3 e
 
--- a cell with a splice mark adds no loss by its own gap (R-2)
+-- a cell with a splice mark adds no loss by its own gap: 2 and later (R-2)
 unfoldable pub heedsSplices : ℕ → Bool
 heedsSplices e = leb 2 e
+
+-- q is the whole number nearest to its root, where it is cut off otherwise (R-5)
+unfoldable pub roundsToNearest : ℕ → Bool
+roundsToNearest e = leb 3 e

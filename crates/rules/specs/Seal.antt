@@ -13,6 +13,7 @@ use Rattle.rules.specs.declared.SceneRow.{SceneRow}
 use Rattle.rules.specs.declared.Index.{Index}
 use Rattle.rules.specs.Bytes.{pick, total, count}
 use Rattle.rules.specs.Refusals.{Fault, none, fault, _orElse_, answer}
+use Rattle.rules.specs.Editions.{roundsToNearest}
 use Rattle.rules.specs.Opening.{openingFault}
 use Rattle.rules.specs.Capture.{units, frameCount, skippedCount, badCount, captureFault, captureInside}
 use Rattle.rules.specs.Pictures.{pictureSize, pictureCount, pictures, lumaFault, pixels}
@@ -31,7 +32,8 @@ reduced o luma = map (pixels o) (pictures o luma)
 
 -- the scenes of pictures with these reduced pixels
 unfoldable pub scenesIn : Opening → List (List ℕ) → List SceneRow
-scenesIn o pxs = scenesOf (o .time) (cutScores (map (histograms o) pxs)) (repeats pxs) (changes pxs)
+scenesIn o pxs =
+    scenesOf (o .time) (cutScores (map (histograms o) pxs)) (repeats pxs) (changes (roundsToNearest (o .edition)) pxs)
 
 unfoldable pub scenes : Opening → List ℕ → List SceneRow
 scenes o luma = scenesIn o (reduced o luma)

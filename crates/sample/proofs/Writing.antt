@@ -16,7 +16,7 @@ use Rattle.rules.specs.declared.UnitRow.{UnitRow}
 use Rattle.rules.specs.declared.SceneRow.{SceneRow}
 use Rattle.rules.specs.Bytes.{count}
 use Rattle.rules.specs.Refusals.{none, fault}
-use Rattle.rules.specs.Editions.{heedsSplices}
+use Rattle.rules.specs.Editions.{heedsSplices, roundsToNearest}
 use Rattle.rules.specs.Capture.{units}
 use Rattle.rules.specs.Pictures.{pictureCount}
 use Rattle.rules.specs.Histograms.{histograms}
@@ -64,7 +64,7 @@ abbrev repeatsOf : Opening → List ℕ → List Bool
 repeatsOf o fedLuma = repeats (reduced o fedLuma)
 
 abbrev changesOf : Opening → List ℕ → List ℕ
-changesOf o fedLuma = changes (reduced o fedLuma)
+changesOf o fedLuma = changes (roundsToNearest (o .edition)) (reduced o fedLuma)
 
 -- ---- the index
 
@@ -126,7 +126,9 @@ module _ (table luma : List ℕ) (o : Opening) (fedCapture fedLuma : List ℕ) (
   holds : Holds luma pictures (scoresOf o fedLuma) (repeatsOf o fedLuma) (changesOf o fedLuma)
   holds =
       let w = r .known .words in
-      rw pictures-are (sample-holds o fedLuma luma (r .known .opened) (r .known .bytes) (w .scores) (w .changes) (w .repeats))
+      rw pictures-are
+      (sample-holds (roundsToNearest (o .edition)) o fedLuma luma (r .known .opened) (r .known .bytes)
+      (w .scores) (w .changes) (w .repeats))
 
   scenes-are : scenes o fedLuma ≡ scenesOf (o .time) (scoresOf o fedLuma) (repeatsOf o fedLuma) (changesOf o fedLuma)
   unfolding scenes scenesIn

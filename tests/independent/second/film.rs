@@ -77,8 +77,23 @@ fn tile_difference(one: &[u16; BINS], other: &[u16; BINS], pixels: u32) -> u32 {
     1_000_000 * sum / (2 * pixels)
 }
 
+/// How the root that a change q comes from is made a whole number.
+#[derive(Clone, Copy, Debug, PartialEq, Eq)]
+pub enum Hundredths {
+    /// Editions 1 and 2: what is behind the point is cut off.
+    CutOff,
+    /// From edition 3 on: the nearest whole number, the upper at a tie.
+    Nearest,
+}
+
+impl Hundredths {
+    pub fn of_edition(edition: u32) -> Self {
+        if edition >= 3 { Hundredths::Nearest } else { Hundredths::CutOff }
+    }
+}
+
 /// How a picture stands to the one before: whether it repeats it, and its change q.
-fn compare(before: &[u8], picture: &[u8]) -> (bool, u32) {
+fn compare(before: &[u8], picture: &[u8], hundredths: Hundredths) -> (bool, u32) {
     let mut sum = 0i32;
     let mut squares = 0i32;
     for (&old, &new) in before.iter().zip(picture) {
@@ -86,14 +101,24 @@ fn compare(before: &[u8], picture: &[u8]) -> (bool, u32) {
         sum += e;
         squares += e * e;
     }
-    (squares == 0, change(picture.len() as u64, sum, squares as u64))
+    let v = variance(picture.len() as u64, sum, squares as u64);
+    (squares == 0, change(picture.len() as u64, v, hundredths))
 }
 
-/// The greatest q with q² n² at most 10,000 V, where V = n × sum of e² - (sum of e)².
-fn change(pixels: u64, sum: i32, squares: u64) -> u32 {
+/// V = n × sum of e² - (sum of e)².
+fn variance(pixels: u64, sum: i32, squares: u64) -> u64 {
     let magnitude = u64::from(sum.unsigned_abs());
-    let v = pixels * squares - magnitude * magnitude;
-    (10_000 * v / (pixels * pixels)).isqrt() as u32
+    pixels * squares - magnitude * magnitude
+}
+
+/// Cut off, q is the greatest number with q² n² at most 10,000 V. The nearest, it is the greatest
+/// with q - 1/2 at most the root: 2q - 1 is at most the root of 40,000 V / n², cut off or not.
+fn change(pixels: u64, v: u64, hundredths: Hundredths) -> u32 {
+    let root = |number: u64| (number / (pixels * pixels)).isqrt() as u32;
+    match hundredths {
+        Hundredths::CutOff => root(10_000 * v),
+        Hundredths::Nearest => root(40_000 * v).div_ceil(2),
+    }
 }
 
 /// A row of the record about one scene.
@@ -111,6 +136,7 @@ pub struct Scene {
 /// Everything kept of the pictures so far.
 pub struct Film {
     tiles: Tiles,
+    hundredths: Hundredths,
     previous: Vec<u8>,
     /// Histograms of the last five pictures, and each one's differences to the four pictures before
     /// it, the nearest first; picture i stands at i modulo 5.
@@ -124,10 +150,11 @@ pub struct Film {
 }
 
 impl Film {
-    pub fn new(width: usize, height: usize) -> Self {
+    pub fn new(width: usize, height: usize, hundredths: Hundredths) -> Self {
         let most = MOST_PICTURES as usize;
         Film {
             tiles: Tiles::new(width, height),
+            hundredths,
             previous: vec![0; width * height],
             recent: [[[0; BINS]; TILES]; WINDOW],
             differences: [[0; WINDOW - 1]; WINDOW],
@@ -148,7 +175,8 @@ impl Film {
     /// Adds the next picture; it completes the window of the picture two before it.
     pub fn add(&mut self, picture: &[u8]) {
         let i = self.repeated.len();
-        let (repeated, change) = if i == 0 { (false, 0) } else { compare(&self.previous, picture) };
+        let (repeated, change) =
+            if i == 0 { (false, 0) } else { compare(&self.previous, picture, self.hundredths) };
         self.repeated.push(repeated);
         self.changes.push(change);
         self.strengths.push(0);
@@ -221,6 +249,7 @@ fn scene_starts(strengths: &[u32], display_time: u32) -> Vec<usize> {
 
 #[cfg(test)]
 mod tests {
+    use super::Hundredths::{CutOff, Nearest};
     use super::*;
 
     #[test]
@@ -267,16 +296,36 @@ mod tests {
 
     #[test]
     fn changes_of_the_worked_samples() {
-        assert_eq!(compare(&[0, 0, 0, 0], &[0, 0, 0, 2]), (false, 86));
-        assert_eq!(compare(&[1, 2, 3, 4], &[6, 7, 8, 9]), (false, 0));
-        assert_eq!(compare(&[1, 2, 3, 4], &[1, 2, 3, 4]), (true, 0));
+        assert_eq!(compare(&[0, 0, 0, 0], &[0, 0, 0, 2], CutOff), (false, 86));
+        assert_eq!(compare(&[0, 0, 0, 0], &[0, 0, 0, 2], Nearest), (false, 87));
         let (black, white) = (vec![0; 14_101], vec![255; 14_101]);
-        assert_eq!(compare(&black, &white), (false, 0));
-        assert_eq!(compare(&[0, 255], &[255, 0]), (false, 25_500));
+        for hundredths in [CutOff, Nearest] {
+            assert_eq!(compare(&[1, 2, 3, 4], &[6, 7, 8, 9], hundredths), (false, 0));
+            assert_eq!(compare(&[1, 2, 3, 4], &[1, 2, 3, 4], hundredths), (true, 0));
+            assert_eq!(compare(&black, &white, hundredths), (false, 0));
+            assert_eq!(compare(&[0, 255], &[255, 0], hundredths), (false, 25_500));
+        }
     }
 
     #[test]
-    fn changes_are_the_greatest_whole_numbers() {
+    fn a_tie_goes_up_and_the_editions_differ_there() {
+        // 41 pixels of 1,600 go up and 33 down: V is 344², and 100 × 344 / 1,600 is 21.5.
+        let before = vec![100; 1_600];
+        let mut picture = before.clone();
+        picture[..41].fill(101);
+        picture[1_567..].fill(99);
+        assert_eq!(compare(&before, &picture, CutOff), (false, 21));
+        assert_eq!(compare(&before, &picture, Nearest), (false, 22));
+        picture[41] = 99;
+        assert_eq!(compare(&before, &picture, Nearest), (false, 22));
+        picture[40..42].fill(100);
+        assert_eq!(compare(&before, &picture, Nearest), (false, 21));
+        assert_eq!(Hundredths::of_edition(2), CutOff);
+        assert_eq!(Hundredths::of_edition(3), Nearest);
+    }
+
+    #[test]
+    fn changes_are_the_greatest_or_the_nearest_whole_numbers() {
         let mut random = crate::prng::Prng::new(11);
         for _ in 0..2_000 {
             let n = random.between(1, 600);
@@ -284,9 +333,13 @@ mod tests {
             let pairs = || one.iter().zip(&other).map(|(&a, &b)| i128::from(b) - i128::from(a));
             let (sum, squares): (i128, i128) = (pairs().sum(), pairs().map(|e| e * e).sum());
             let v = n as i128 * squares - sum * sum;
-            let q = i128::from(compare(&one, &other).1);
+            let q = i128::from(compare(&one, &other, CutOff).1);
             let within = |q: i128| q * q * (n * n) as i128 <= 10_000 * v;
             assert!(within(q) && !within(q + 1));
+            // From q - 1/2 on, and below q + 1/2.
+            let q = i128::from(compare(&one, &other, Nearest).1);
+            let reached = |twice: i128| twice < 0 || twice * twice * (n * n) as i128 <= 40_000 * v;
+            assert!(reached(2 * q - 1) && !reached(2 * q + 1));
         }
     }
 
@@ -311,7 +364,7 @@ mod tests {
 
     #[test]
     fn cuts_every_three_pictures_give_250_scenes() {
-        let mut film = Film::new(15, 30);
+        let mut film = Film::new(15, 30, CutOff);
         for i in 0..750 {
             film.add(&[if i / 3 % 2 == 0 { 0 } else { 200 }; 450]);
         }
@@ -323,7 +376,7 @@ mod tests {
 
     #[test]
     fn the_last_two_pictures_have_no_strength_yet() {
-        let mut film = Film::new(15, 30);
+        let mut film = Film::new(15, 30, CutOff);
         for value in [0, 0, 0, 255, 255] {
             film.add(&[value; 450]);
         }
@@ -362,7 +415,7 @@ mod tests {
     fn strengths_agree_with_their_definition() {
         let mut random = crate::prng::Prng::new(3);
         for (width, height) in [(15, 30), (31, 31), (50, 40), (239, 59)] {
-            let mut film = Film::new(width, height);
+            let mut film = Film::new(width, height, Nearest);
             let mut pictures: Vec<Vec<u8>> = vec![random.bytes(width * height)];
             for _ in 1..12 {
                 let mut next = pictures[pictures.len() - 1].clone();

@@ -4,7 +4,7 @@
 //! block where they are wide (whole blocks of a row at once; each way is the faster one there).
 //! After 2^k rows the sums give a row of reduced pixels, each divided once.
 
-use crate::film::Film;
+use crate::film::{Film, Hundredths};
 use crate::opening::{Opening, Refusal};
 
 /// Most pictures of a sample; the next luma byte is refusal 10.
@@ -204,7 +204,7 @@ impl LumaSide {
             picture_bytes: u64::from(opening.width) * u64::from(opening.height),
             taken: 0,
             refusal: None,
-            film: Film::new(grid.reduced_width, grid.reduced_height),
+            film: Film::new(grid.reduced_width, grid.reduced_height, Hundredths::of_edition(opening.edition)),
         }
     }
 

@@ -262,8 +262,10 @@ mod tests {
         let mut changed = record.clone();
         changed[0] = 0;
         assert_eq!(show(&changed), "refused 17\n");
-        changed[0] = 2;
-        assert_eq!(show(&changed), show(&record));
+        for edition in EDITIONS {
+            changed[0] = edition as u8;
+            assert_eq!(show(&changed), show(&record));
+        }
         changed[1] = 1;
         assert_eq!(show(&changed), "refused 17\n");
         changed = record.clone();

@@ -49,7 +49,7 @@ fn random_parts(random: &mut Prng) -> Parts {
         .collect();
     let (width, height) = random.pick(&[(15, 30), (120, 30), (1920, 1088), (544, 1088), (640, 480)]);
     let display_time = random.pick(&[10_000, 40_000, 200_000]);
-    let (pid, edition) = (random.pick(&[0, 256, 8_191]), random.pick(&[1, 2]));
+    let (pid, edition) = (random.pick(&[0, 256, 8_191]), random.pick(&[1, 2, 3]));
     let opening = Opening { width, height, display_time, pid, edition };
     let records = random.word();
     let passed_over = random.pick(&[0, records / 2, records]);
@@ -208,7 +208,7 @@ fn damage_bytes(random: &mut Prng, bytes: &mut Vec<u8>, way: u64) {
             let edition = random.once_in(2);
             *bytes = random.bytes(length);
             if edition && length >= 4 {
-                bytes[..4].copy_from_slice(&[random.pick(&[1, 2]), 0, 0, 0]);
+                bytes[..4].copy_from_slice(&[random.pick(&[1, 2, 3]), 0, 0, 0]);
             }
         }
     }

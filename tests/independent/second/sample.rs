@@ -180,7 +180,7 @@ mod tests {
         let cells = [([0x30, 1, 0x80], true), ([0x20, 255, 0xFF], true), ([0x30, 0, 0x80], false)];
         let others = [([0x10, 1, 0x80], false), ([0xD0, 1, 0x80], false), ([0x30, 1, 0x7F], false)];
         for (bytes, spliced) in cells.into_iter().chain(others) {
-            for edition in [1, 2] {
+            for edition in [1, 2, 3] {
                 let lost = if spliced && edition > 1 { 0 } else { 4 };
                 let capture = spliced_capture(bytes);
                 for piece in 1..=capture.len() {

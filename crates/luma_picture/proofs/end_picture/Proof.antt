@@ -9,6 +9,12 @@ again-of-requires c κs = search needs
 score-of-requires : tie.Need-score-of-requires
 score-of-requires c κs = search needs
 
+opening-in-requires : tie.Need-opening-in-requires
+opening-in-requires c κs = search needs
+
+rounds-to-nearest-requires : tie.Need-rounds-to-nearest-requires
+rounds-to-nearest-requires c κs = search needs
+
 change-of-requires : tie.Need-change-of-requires
 change-of-requires c κs = search needs
 
@@ -26,17 +32,18 @@ clear-requires c κs = search needs
 
 next-picture-requires : tie.Need-next-picture-requires
 next-picture-requires c κs =
-    let p = c .before .before .before .before .before .before .before .before .before .pre in
-    let a = c .before .before .before .before .before .before .before .before .before .args in
-    (p .more, rw (c .before .before .before .before .before .before .before .before .again-of .ensures) (again-small (a .s)))
+    let from = c .before .before .before .before .before .before .before .before .before .before .before in
+    (from .before .pre .more, rw (from .again-of .ensures) (again-small (from .before .args .s)))
 
 returns : tie.Need-returns
 returns c =
-    let p = c .before .before .before .before .before .before .before .before .before .before .pre in
-    let a = c .before .before .before .before .before .before .before .before .before .before .args in
-    let again = c .before .before .before .before .before .before .before .before .before .again-of .ensures in
-    picture-ended (a .g) (a .s) p (c .before .before .before .before .before .before .change-of .ensures)
-    (c .before .before .before .before .before .before .before .score-of .ensures)
+    let from = c .before .before .before .before .before .before .before .before .before .before .before .before in
+    let a = from .before .args in
+    let again = from .again-of .ensures in
+    let q = c .before .before .before .before .before .before in
+    picture-ended (a .g) (a .s) (from .before .pre)
+    (rw (q .before .rounds-to-nearest .ensures, q .before .before .opening-in .ensures) at (q .change-of .ensures))
+    (q .before .before .before .before .score-of .ensures)
     (rw again at (c .before .before .before .before .note .ensures))
     (rw (c .before .before .before .slot-of .ensures .0) at (c .before .clear .ensures)) (rw again at (c .next-picture .ensures))
 
@@ -46,6 +53,8 @@ end-picture-spec =
     (tie.spec
     again-of-requires
     score-of-requires
+    opening-in-requires
+    rounds-to-nearest-requires
     change-of-requires
     note-requires
     add-slot-of

@@ -1,11 +1,14 @@
--- The laws of editions: edition 1 is document 01's, and what a splice mark does from edition 2 on.
+-- The laws of editions: edition 1 is document 01's, what a splice mark does from edition 2 on, and that edition 3
+-- differs from 2 in the changes alone.
 use Prim.Native.Nat.{ℕ}
 use mathlib.Core.Path.{_≡_, refl, ap}
 use mathlib.Core.List.{List, [], _∷_, map}
 use mathlib.Core.Bool.{true, false}
+use lib.ListN.{length}
 use Rattle.rules.specs.declared.UnitRow.{UnitRow}
-use Rattle.rules.specs.Editions.{heedsSplices}
+use Rattle.rules.specs.Editions.{heedsSplices, roundsToNearest}
 use Rattle.rules.specs.Packets.{Packet, startMark, counter, spliceMark}
+use Rattle.rules.specs.Changes.{spread, root, nearest, changeFrom, change, changesAfter, changes}
 use Rattle.rules.specs.Units.{Arrival, gapLoss, lossBetween, arrivalsAfter, arrivals, groups, unitOf, unitsOf}
 
 -- document 01's arrivals and units, as they stood before there were editions: every gap counts
@@ -46,3 +49,43 @@ spliced q p h = rw h
 pub unspliced : (q p : Packet) → spliceMark (p .bytes) ≡ false → lossBetween true q p ≡ gapLoss (counter (q .bytes)) (counter (p .bytes))
 unfolding lossBetween
 unspliced q p h = rw h
+
+-- ---- changes
+
+-- document 01's changes, as they stood before there were editions: every q is cut off
+cutAfter : List ℕ → List (List ℕ) → List ℕ
+cutAfter before [] = []
+cutAfter before (px ∷ pxs) = root (spread before px) (length px) ∷ cutAfter px pxs
+
+pub firstChanges : List (List ℕ) → List ℕ
+firstChanges [] = []
+firstChanges (px ∷ pxs) = 0 ∷ cutAfter px pxs
+
+after-cut : (before : List ℕ) (pxs : List (List ℕ)) → changesAfter false before pxs ≡ cutAfter before pxs
+unfolding changesAfter change changeFrom cutAfter
+after-cut before [] = refl
+after-cut before (px ∷ pxs) = rw (after-cut px pxs)
+
+changes-cut : (pxs : List (List ℕ)) → changes false pxs ≡ firstChanges pxs
+unfolding changes firstChanges
+changes-cut [] = refl
+changes-cut (px ∷ pxs) = rw (after-cut px pxs)
+
+-- editions 1 and 2 have document 01's changes
+pub changes-one : (pxs : List (List ℕ)) → changes (roundsToNearest 1) pxs ≡ firstChanges pxs
+unfolding roundsToNearest
+changes-one pxs = changes-cut pxs
+
+pub changes-two : (pxs : List (List ℕ)) → changes (roundsToNearest 2) pxs ≡ firstChanges pxs
+unfolding roundsToNearest
+changes-two pxs = changes-cut pxs
+
+-- by edition 3 a picture's is rounded to the nearest
+pub change-three : (before px : List ℕ) → change (roundsToNearest 3) before px ≡ nearest (spread before px) (length px)
+unfolding roundsToNearest change changeFrom
+change-three before px = refl
+
+-- edition 3 has edition 2's units
+pub units-three : (ps : List Packet) → unitsOf 3 ps ≡ unitsOf 2 ps
+unfolding unitsOf heedsSplices
+units-three ps = refl

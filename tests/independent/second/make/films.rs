@@ -14,6 +14,8 @@ pub enum Style {
     Cuts(usize),
     /// In every tile the same few pixels change bin, so that cut strengths are small whole steps.
     Drift,
+    /// Pixels go up or down by one, so many that changes lie about halfway between whole numbers.
+    Halves,
     /// Runs of repeated pictures.
     Runs,
     /// Brightness steps: everything moves alike.
@@ -81,6 +83,7 @@ impl<'r> FilmMaker<'r> {
                 if self.random.once_in(2) { self.touch() } else { self.cut() }
             }
             Style::Drift => self.drift(i),
+            Style::Halves => self.halves(i),
             Style::Steps => {
                 let amount = self.random.pick(&[0, 1, 5, 16, 40]);
                 self.step(amount);
@@ -132,6 +135,22 @@ impl<'r> FilmMaker<'r> {
             }
         }
         self.drifted += moved;
+    }
+
+    /// Of 1,600 pixels 41 go up and 33 down: the change is 21.5. With 69 and 61 it is 28.5. Or one more or less.
+    fn halves(&mut self, i: usize) {
+        if i == 0 {
+            self.reduced.fill(128);
+        }
+        let (more, less) = self.random.pick(&[(41, 33), (69, 61)]);
+        let more = more + self.random.pick(&[0, 0, 0, 1]) - self.random.pick(&[0, 0, 0, 1]);
+        let (more, less) = self.random.pick(&[(more, less), (less, more)]);
+        let start = self.random.below(self.reduced.len());
+        for j in 0..more + less {
+            let place = (start + j) % self.reduced.len();
+            let pixel = &mut self.reduced[place];
+            *pixel = if j < more { pixel.wrapping_add(1) } else { pixel.wrapping_sub(1) };
+        }
     }
 
     /// Widens the reduced picture to its full size; surplus columns and rows get anything.

@@ -16,9 +16,10 @@ pub use surveys::{capture_file, make as make_survey};
 use weave::{weave, Cutting, Plan, Side};
 
 /// Names of the families, and what each of them is about.
-pub const KINDS: [(&str, &str); 14] = [
+pub const KINDS: [(&str, &str); 15] = [
     ("valid", "small valid samples of every kind, cut anywhere, seals between"),
     ("scenes", "scene starts, repeats, runs, changes; cut strengths near their bounds"),
+    ("changes", "changes q on either side of a half, and at it"),
     ("shapes", "every level k, surplus columns and rows"),
     ("frames", "skipped frames of every kind, padding, bad and foreign cells, lost cells, times"),
     ("openings", "refused openings and openings on the bounds"),
@@ -63,7 +64,8 @@ fn plan(random: &mut Prng, kind: &str) -> Plan {
         "mixed" if random.once_in(8) => any_opening(random),
         "scenes" => scene_opening(random),
         "valid" => small_opening(random),
-        "splices" => Opening { edition: random.pick(&[1, 2, 2, 2]), width: 15, height: 30, ..small_opening(random) },
+        "changes" => changed_opening(random),
+        "splices" => Opening { edition: random.pick(&[1, 2, 2, 3]), width: 15, height: 30, ..small_opening(random) },
         "mixed" if random.once_in(2) => small_opening(random),
         _ => Opening { width: 15, height: 30, ..small_opening(random) },
     };
@@ -74,7 +76,7 @@ fn plan(random: &mut Prng, kind: &str) -> Plan {
         _ => "few",
     };
     let film_family = match kind {
-        "valid" | "scenes" | "pictures" | "ends" => kind,
+        "valid" | "scenes" | "changes" | "pictures" | "ends" => kind,
         "mixed" => random.pick(&["valid", "few", "scenes", "pictures", "ends"]),
         _ => "few",
     };
@@ -98,8 +100,8 @@ fn opening_of(random: &mut Prng, (width, height): (u32, u32)) -> Opening {
 
 /// A rule edition, mostly an allowed one.
 fn any_edition(random: &mut Prng) -> u32 {
-    let refused = random.pick(&[0, 3, 256 + 1, u32::MAX]);
-    if random.once_in(20) { refused } else { random.pick(&[1, 1, 2, 2, 2]) }
+    let refused = random.pick(&[0, 4, 256 + 1, u32::MAX]);
+    if random.once_in(20) { refused } else { random.pick(&[1, 2, 2, 3, 3]) }
 }
 
 fn small_opening(random: &mut Prng) -> Opening {
@@ -120,6 +122,12 @@ fn scene_opening(random: &mut Prng) -> Opening {
     let sides = random.pick(&[(15, 30), (15, 30), (30, 30), (60, 60), ROUND_TILES, ROUND_TILES, (236, 59)]);
     let display_time = random.pick(&[200_000, 200_000, 40_000, 40_001, 120_000, 150_000]);
     Opening { display_time, ..opening_of(random, sides) }
+}
+
+/// Sizes of 1,600 reduced pixels: a change may lie halfway between two whole numbers there.
+fn changed_opening(random: &mut Prng) -> Opening {
+    let sides = random.pick(&[(40, 40), (40, 40), (50, 32), (80, 80), (81, 83)]);
+    Opening { edition: random.pick(&[1, 2, 3, 3, 3]), ..opening_of(random, sides) }
 }
 
 /// Sizes of every level k, many with surplus columns and rows.
@@ -162,7 +170,7 @@ fn any_opening(random: &mut Prng) -> Opening {
     let bad_time = random.pick(&[0, 9_999, 200_001, u32::MAX]);
     let display_time = random.pick(&[10_000, 40_000, 200_000, bad_time]);
     let pid = random.pick(&[0, 8_191, 8_191, 8_192, 8_192 + 256, u32::MAX]);
-    let edition = random.pick(&[0, 1, 1, 2, 2, 3, 256 + 1]);
+    let edition = random.pick(&[0, 1, 2, 2, 3, 4, 256 + 1]);
     Opening { width, height, display_time, pid, edition }
 }
 
@@ -250,6 +258,7 @@ fn film(random: &mut Prng, family: &str, opening: &Opening) -> Side {
     let scene_style = if (opening.width, opening.height) == ROUND_TILES { Style::Drift } else { scene_style };
     let (count, style) = match family {
         "scenes" => (fitting(random.between(12, 200), 150_000), scene_style),
+        "changes" => (random.between(2, 30), Style::Halves),
         "pictures" => (random.pick(&[749, 750, 750, 751]), scene_style),
         "few" => (fitting(random.between(1, 9), 300_000), random.pick(&[style, scene_style])),
         _ => (fitting(random.between(1, 40), 100_000), random.pick(&[style, scene_style])),

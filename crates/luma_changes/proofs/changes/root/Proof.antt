@@ -1,4 +1,4 @@
--- `root` meets its contract. The loop's invariant: `low` fits, `high` does not, and `high` is 25,501 at most.
+-- `root` meets its contract. The loop's invariant: `low` fits, `high` does not, and `high` is 51,001 at most.
 use Prim.Native.Nat.{ℕ, _+_, _-_, _*_, _/_, _≤_, _<_}
 use native.Mathlib.Omega.{arith}
 use native.Mathlib.Nat.{mul-le-mul}
@@ -9,12 +9,13 @@ use Rattle.luma_changes.proofs.changes.root.Statement.{statement}
 use Rattle.luma_changes.proofs.changes.root.Tie as tie
 
 abbrev Inv-loop : tie.InvT-loop
-Inv-loop v n target low₀ high₀ low high = (low < high) × (high ≤ 25501) × (low * low * n * n ≤ target) × (target < high * high * n * n)
+Inv-loop v n target low₀ high₀ low high =
+    (low < high) × (high ≤ 51001) × (low * low * n * n ≤ target) × (target < high * high * n * n)
 
 abbrev μ-loop : tie.MeasureT-loop
 μ-loop v n target low₀ high₀ low high = high - low
 
-mid : (c : tie.In-loop Inv-loop μ-loop) → (c .before .loop .low + c .before .loop .high) / 2 ≤ 25501
+mid : (c : tie.In-loop Inv-loop μ-loop) → (c .before .loop .low + c .before .loop .high) / 2 ≤ 51001
 mid c = omega arith
 
 mul-target : tie.Need-mul-target Inv-loop μ-loop
