@@ -51,7 +51,9 @@ enum {
     CAROLSEDGE_REFUSED_RECORD = 18,         /* reading: not allowed */
     CAROLSEDGE_REFUSED_ROW = 19,            /* reading: a row's number at or past the count */
     CAROLSEDGE_REFUSED_OPENING_EDITION = 20, /* opening: an edition that there is not; tried after 3 */
-    CAROLSEDGE_REFUSED_NO_GOOD_PACKET = 21   /* survey: a complete capture without a good packet; tried after 11 */
+    CAROLSEDGE_REFUSED_NO_GOOD_PACKET = 21,  /* survey: a complete capture without a good packet; tried after 11 */
+    CAROLSEDGE_REFUSED_LOSS_LISTS = 22,     /* loss: N outside 1 to 750, or one of the four lists not N long */
+    CAROLSEDGE_REFUSED_PROBABILITY = 23     /* loss: a probability not within 0 to 1, NaN included; tried after 22 */
 };
 
 /* ---- a sample */
@@ -214,6 +216,16 @@ uint32_t carolsedge_read_scene(const uint8_t *record, size_t length, size_t j, s
  * pages go to the front of the buffer, and *value is their length; bytes behind them stand. Refused: 16, 17 or 18
  * with place 0, then 15; the buffer stands, and *value is the place, so that a room of 0 asks for the length. */
 uint32_t carolsedge_sheet(const uint8_t *record, size_t length, uint8_t *buffer, size_t room, uint64_t *value);
+
+/* ---- beside the sample */
+
+/* How far losses spread, for streams without B frames (document 02, R-8; docs/RULE.md): from the loss of each of so
+ * many units, 1 to 750, and the probability that it is a key frame, each unit of the two lists gets what reaches it of
+ * key-frame losses and of plain ones. Lengths count elements. Refused: 22, then 23; both leave the lists. Otherwise no
+ * element is a NaN, negative or infinite. */
+uint32_t carolsedge_effective_loss(uint32_t units, const uint32_t *losses, size_t losses_length,
+                                   const double *probabilities, size_t probabilities_length,
+                                   double *keys, size_t keys_length, double *plain, size_t plain_length);
 
 #ifdef __cplusplus
 }

@@ -59,6 +59,20 @@ impl Input {
             }
         }
     }
+
+    /// All bytes, but no more than `most`.
+    pub fn up_to(&mut self, most: usize) -> Result<Vec<u8>, Stop> {
+        let mut bytes = vec![0; most];
+        let mut length = 0;
+        while length < bytes.len() {
+            match self.read(&mut bytes[length..])? {
+                0 => break,
+                n => length += n,
+            }
+        }
+        bytes.truncate(length);
+        Ok(bytes)
+    }
 }
 
 fn opened(word: &OsStr) -> io::Result<File> {

@@ -6,6 +6,7 @@
 
 mod explain;
 mod input;
+mod loss;
 mod measure;
 mod output;
 mod record_file;
@@ -29,7 +30,8 @@ pub struct Subcommand {
 }
 
 const SUBCOMMANDS: &[Subcommand] =
-    &[survey::SUBCOMMAND, measure::SUBCOMMAND, show::SUBCOMMAND, sheet::SUBCOMMAND, explain::SUBCOMMAND];
+    &[survey::SUBCOMMAND, measure::SUBCOMMAND, show::SUBCOMMAND, sheet::SUBCOMMAND, loss::SUBCOMMAND,
+      explain::SUBCOMMAND];
 
 const VERSION: &str = concat!("carolsedge ", env!("CARGO_PKG_VERSION"), "\n");
 

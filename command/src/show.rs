@@ -54,16 +54,7 @@ fn run(words: Vec<OsString>) -> Result<(), Stop> {
 
 /// All bytes, but no more than it takes to see that they are too many for a record.
 pub fn read(input: &mut Input) -> Result<Vec<u8>, Stop> {
-    let mut bytes = vec![0; RECORD_MOST + 1];
-    let mut length = 0;
-    while length < bytes.len() {
-        match input.read(&mut bytes[length..])? {
-            0 => break,
-            n => length += n,
-        }
-    }
-    bytes.truncate(length);
-    Ok(bytes)
+    input.up_to(RECORD_MOST + 1)
 }
 
 /// A refused record; among lines the program show prints the number alone.

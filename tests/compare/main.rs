@@ -19,12 +19,13 @@ use std::sync::Mutex;
 use std::thread;
 
 /// Verbs of the independent program that read standard input, each with what makes its inputs.
-const FILTERS: [(&str, &str); 5] = [
+const FILTERS: [(&str, &str); 6] = [
     ("show", "records"),
     ("sheet", "records"),
     ("sheet-into", "records"),
     ("survey", "captures"),
     ("survey-replay", "make-survey"),
+    ("loss", "make-loss"),
 ];
 
 /// What was compared so far.

@@ -11,6 +11,8 @@ uint32_t __real_carolsedge_seal(const uint64_t *, const uint8_t *, const uint64_
 uint32_t __real_carolsedge_sheet(const uint8_t *, size_t, uint8_t *, size_t, uint64_t *);
 uint32_t __real_carolsedge_feed_survey(uint64_t *, uint8_t *, uint32_t *, const uint8_t *, size_t, uint64_t *);
 uint32_t __real_carolsedge_ask_survey(const uint64_t *, const uint32_t *, uint64_t *, uint64_t *);
+uint32_t __real_carolsedge_effective_loss(uint32_t, const uint32_t *, size_t, const double *, size_t, double *, size_t,
+                                          double *, size_t);
 uint32_t __real_carolsedge_read_header(const uint8_t *, size_t, struct carolsedge_header *);
 uint32_t __real_carolsedge_read_unit(const uint8_t *, size_t, size_t, struct carolsedge_unit *);
 
@@ -82,4 +84,14 @@ uint32_t __wrap_carolsedge_ask_survey(const uint64_t *walk, const uint32_t *coun
     if (FAULT == 13 && k == 21) /* identifier 0 where no packet is good */
         *value = 0, k = 0;
     return k;
+}
+
+uint32_t __wrap_carolsedge_effective_loss(uint32_t units, const uint32_t *losses, size_t a,
+                                          const double *probabilities, size_t b, double *keys, size_t c,
+                                          double *plain, size_t d)
+{
+    uint32_t k = __real_carolsedge_effective_loss(units, losses, a, probabilities, b, keys, c, plain, d);
+    if (FAULT == 14 && k == 23) /* clears a list although it refuses */
+        plain[0] = 0;
+    return FAULT == 15 && k == 23 ? 0 : k; /* lets a probability pass */
 }

@@ -3,8 +3,8 @@
  * in some of the calls, and what is left of a page is compared afterwards. A call that takes longer than LIMIT seconds, an answer past the
  * table's last number, a refusal that wrote to its buffer, and an opening that answers something else than the rule says end the run too.
  *
- * Usage: forged CALLS SEED. Makes so many calls of each function (of sheet and of a survey's a tenth, of replay, which
- * makes several, a twentieth), and prints what they answered.
+ * Usage: forged CALLS SEED. Makes so many calls of each function (of sheet, effective_loss and of a survey's a tenth,
+ * of replay, which makes several, a twentieth), and prints what they answered.
  */
 #define _GNU_SOURCE
 #include <inttypes.h>
@@ -24,11 +24,11 @@
 #endif
 
 enum { OPEN, FEED_CAPTURE, FEED_LUMA, SEAL, READ_HEADER, READ_UNIT, READ_SCENE, SHEET, REPLAY,
-       OPEN_SURVEY, FEED_SURVEY, ASK_SURVEY, FUNCTIONS };
+       OPEN_SURVEY, FEED_SURVEY, ASK_SURVEY, EFFECTIVE_LOSS, FUNCTIONS };
 static const char *const name[FUNCTIONS] = {"open", "feed_capture", "feed_luma", "seal", "read_header", "read_unit",
                                              "read_scene", "sheet", "replay", "open_survey", "feed_survey",
-                                             "ask_survey"};
-enum { LAST_NUMBER = 21 }; /* of the table of refusals */
+                                             "ask_survey", "effective_loss"};
+enum { LAST_NUMBER = 23 }; /* of the table of refusals */
 static uint64_t answers[FUNCTIONS][LAST_NUMBER + 1], calls[FUNCTIONS], longest, seed;
 static volatile int under_way;
 static volatile sig_atomic_t ticks;
@@ -586,7 +586,13 @@ static void round_of_surveys(void)
     call_ask_survey();
     if (answers[ASK_SURVEY][CAROLSEDGE_REFUSED_CAPTURE_INSIDE] == 0)
         fail("a fresh survey is not inside its header");
+    ((uint64_t *)(void *)at(&survey_walk))[2] = 24; /* a file header and no packet */
+    call_ask_survey();
+    if (answers[ASK_SURVEY][CAROLSEDGE_REFUSED_NO_GOOD_PACKET] == 0)
+        fail("a survey of no packet names an identifier");
 }
+
+#include "loss.h"
 
 /* A forged state, and a few calls on it. */
 static void round_of_calls(uint64_t most)
@@ -604,6 +610,8 @@ static void round_of_calls(uint64_t most)
         call_readings();
     if (calls[SHEET] < most / 10)
         call_sheet();
+    if (calls[EFFECTIVE_LOSS] < most / 10)
+        call_effective_loss();
     if (calls[REPLAY] < most / 20)
         call_replay();
     if (calls[FEED_SURVEY] < most / 10)
@@ -625,11 +633,12 @@ int main(int words, char **word)
     pages = room_of(CAROLSEDGE_SHEET_MOST + 100);
     survey_walk = room_of(sizeof surveyed->walk), survey_kept = room_of(sizeof surveyed->kept);
     counts = room_of(sizeof surveyed->counts);
+    make_loss_rooms();
     while (calls[SEAL] < most || calls[OPEN] < most || calls[READ_HEADER] < most || calls[SHEET] < most / 10 ||
-           calls[REPLAY] < most / 20 || calls[FEED_SURVEY] < most / 10)
+           calls[REPLAY] < most / 20 || calls[FEED_SURVEY] < most / 10 || calls[EFFECTIVE_LOSS] < most / 10)
         round_of_calls(most);
     for (int f = 0; f < FUNCTIONS; f++) {
-        printf("forged: %-12s %" PRIu64 " calls; answers", name[f], calls[f]);
+        printf("forged: %-14s %" PRIu64 " calls; answers", name[f], calls[f]);
         for (int k = 0; k <= LAST_NUMBER; k++)
             if (answers[f][k])
                 printf(" %d:%" PRIu64, k, answers[f][k]);

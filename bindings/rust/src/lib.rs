@@ -39,12 +39,14 @@
 //! otherwise in `target/staticlib` at the top of the repository, where `rt staticlib carolsedge` writes it.
 #![deny(missing_docs)]
 
+mod loss;
 mod raw;
 mod record;
 mod refusal;
 mod sample;
 mod survey;
 
+pub use loss::effective_loss;
 pub use record::{sheet, Header, Record, Scene, Unit};
 pub use refusal::Refusal;
 pub use sample::{Opening, Sample};

@@ -286,3 +286,41 @@ fn given<T>(number: u32, figures: T) -> Result<T, u32> {
         number => Err(number),
     }
 }
+
+extern "C" {
+    fn carolsedge_effective_loss(
+        units: u32,
+        losses: *const u32,
+        losses_length: usize,
+        probabilities: *const f64,
+        probabilities_length: usize,
+        keys: *mut f64,
+        keys_length: usize,
+        plain: *mut f64,
+        plain_length: usize,
+    ) -> u32;
+}
+
+/// The refusal's number, or 0.
+pub fn effective_loss(
+    units: u32,
+    losses: &[u32],
+    probabilities: &[f64],
+    keys: &mut [f64],
+    plain: &mut [f64],
+) -> u32 {
+    // SAFETY: pointers and lengths are those of slices, of which the two that are written are borrowed alone.
+    unsafe {
+        carolsedge_effective_loss(
+            units,
+            losses.as_ptr(),
+            losses.len(),
+            probabilities.as_ptr(),
+            probabilities.len(),
+            keys.as_mut_ptr(),
+            keys.len(),
+            plain.as_mut_ptr(),
+            plain.len(),
+        )
+    }
+}

@@ -3,3 +3,4 @@ pub mod Listed
 pub mod Lists
 pub mod Surveys
 pub mod Unplaced
+pub mod Beside

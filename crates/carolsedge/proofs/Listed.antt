@@ -30,7 +30,7 @@ abbrev pub numberIn : Fault → ℕ
 numberIn none = 0
 numberIn (fault k p) = k
 
-of-answer : (f : Fault) (n : ℕ) → Numbered f → numberOf (answer f n) ≡ numberIn f
+pub of-answer : (f : Fault) (n : ℕ) → Numbered f → numberOf (answer f n) ≡ numberIn f
 of-answer none n x = refl
 of-answer (fault k p) n x = x
 

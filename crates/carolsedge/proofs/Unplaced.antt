@@ -16,11 +16,11 @@ abbrev pub Unplaced : Fault → Type 0
 Unplaced none = Unit {0}
 Unplaced (fault k p) = p ≡ 0
 
-of-either : (f g : Fault) → Unplaced f → Unplaced g → Unplaced (f orElse g)
+pub of-either : (f g : Fault) → Unplaced f → Unplaced g → Unplaced (f orElse g)
 of-either none g x y = y
 of-either (fault k p) g x y = x
 
-of-unless : (b : Bool) (k : ℕ) → Unplaced (unless b k)
+pub of-unless : (b : Bool) (k : ℕ) → Unplaced (unless b k)
 of-unless true k = tt
 of-unless false k = refl
 

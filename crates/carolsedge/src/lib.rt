@@ -1,6 +1,7 @@
 // The calls as C functions. A slice goes as a pointer and a length, an array as a pointer. Each function is thin: it
 // hands its memory to the call of `sample`, `record_view`, `record_sheet` or `survey` and splits the answer into
-// numbers. A number is 0 where the call is done, and otherwise that of document 01's table.
+// numbers. A number is 0 where the call is done, and otherwise that of document 01's table. Calls of document 02 that
+// are crates of their own have a file each.
 ghost use mathlib.Core.Path.{_≡_};
 ghost use Rattle.replay.specs.Script.{Replayed};
 ghost use Rattle.rules.specs.Refusals.{listed};
@@ -12,6 +13,9 @@ ghost use Rattle.carolsedge.specs.Contract.{SheetPrinted, SurveyFed, Sur
 ghost use Rattle.survey.specs.State.{stateOf};
 ghost use Rattle.survey.specs.Contract as of-survey;
 ghost use Rattle.carolsedge.specs.Numbers.{mostNumber, mostValue, mostCount};
+
+mod losses;
+
 use capture::Numbers;
 use capture_units::Table;
 use capture_walk::Collected;

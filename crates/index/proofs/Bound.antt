@@ -24,14 +24,14 @@ exact {n} h = le→leb n (2 ^ 53) h
 -- ---- the shapes that a value can have
 
 -- x is a / c, and not negative
-data Is : Float → ℕ → ℕ → Type 0 where
+pub data Is : Float → ℕ → ℕ → Type 0 where
   is : {m : ℕ} {e : ℤ} {a c : ℕ} → m * up e * c ≡ a * down e → Is (fin false m e) a c
 
 pub data AtMost : Float → ℕ → Type 0 where
   at-most : {m : ℕ} {e : ℤ} {n : ℕ} → m * up e ≤ n * down e → AtMost (fin false m e) n
 
 -- not negative and no NaN
-data Plain : Float → Type 0 where
+pub data Plain : Float → Type 0 where
   finite : {m : ℕ} {e : ℤ} → Plain (fin false m e)
   infinite : Plain (inf false)
 
@@ -44,7 +44,7 @@ shape (fin false m e) a c h = is (h .1)
 plain : {x : Float} {a c : ℕ} → Is x a c → Plain x
 plain (is p) = finite
 
-whole : (n : ℕ) → n ≤ 2 ^ 53 → Is (round binary64 false n 1) n 1
+pub whole : (n : ℕ) → n ≤ 2 ^ 53 → Is (round binary64 false n 1) n 1
 whole n h = shape (round binary64 false n 1) n 1 (round-whole binary64 false n h)
 
 -- ---- `round`
@@ -57,7 +57,7 @@ units-plain q k = go (ltb (q * 2 ^ k) (2 ^ 2098))
     go true = plain (shape (odd 54 false q k 1074) (q * 2 ^ k) (2 ^ 1074) (odd-sign 54 false q k 1074))
     go false = infinite
 
-round-plain : (a b : ℕ) → Plain (round binary64 false a b)
+pub round-plain : (a b : ℕ) → Plain (round binary64 false a b)
 round-plain a b = rw (round-is binary64 false a b) (units-plain (kept 53 (a * 2 ^ 1074) b) (drop 53 (a * 2 ^ 1074) b))
 
 lt-or-eq : (a b : ℕ) → T (ltb a b || (eqb a b && true)) → a ≤ b
@@ -68,13 +68,13 @@ lt-or-eq a b = go (ltb a b) (ltb→lt a b)
     go false h t = le-of-eq (eqb→eq a b (and-l (eqb a b) true t))
 
 -- what is not above n is at most n
-under : {x y : Float} {n : ℕ} → Plain x → Is y n 1 → T (le x y) → AtMost x n
+pub under : {x y : Float} {n : ℕ} → Plain x → Is y n 1 → T (le x y) → AtMost x n
 unfolding le
 under infinite (is q) h = absurd h
 under {n = n} (finite {m} {e}) (is {m = k} {e = d} q) h =
     at-most (rw mul-one at (through (m * up e) (k * up d) n (down e) (down d) 1 (down-pos d) (lt-or-eq (m * up e * down d) (k * up d * down e) h) (le-of-eq q)))
 
-round-at-most : (a b n : ℕ) → 0 < b → n ≤ 2 ^ 53 → a ≤ n * b → AtMost (round binary64 false a b) n
+pub round-at-most : (a b n : ℕ) → 0 < b → n ≤ 2 ^ 53 → a ≤ n * b → AtMost (round binary64 false a b) n
 round-at-most a b n B N h = under (round-plain a b) (whole n N) (round-mono binary64 a b n 1 B (zero-lt-suc 0) (rw mul-one h))
 
 -- ---- the operations
@@ -126,7 +126,7 @@ div-at-most {a = a} {b = b} (is {m = m} {e = e} p) (is {m = k} {e = d} q) B h =
 
 -- ---- the index
 
-small : {x : Float} {n : ℕ} → Is x n 1 → AtMost x n
+pub small : {x : Float} {n : ℕ} → Is x n 1 → AtMost x n
 small (is p) = at-most (le-of-eq (rw mul-one at p))
 
 -- a count over one that is no smaller
@@ -134,7 +134,7 @@ ratio : (a b : ℕ) → 0 < b → a ≤ b → b ≤ 2 ^ 53 → AtMost (div binar
 unfolding ofInt
 ratio a b B h N = div-at-most (whole a (le-trans h N)) (whole b N) B h
 
-upper : {x : Float} (n : ℕ) → n ≤ 2 ^ 53 → AtMost x n → T (le x (float n))
+pub upper : {x : Float} (n : ℕ) → n ≤ 2 ^ 53 → AtMost x n → T (le x (float n))
 unfolding ofInt
 upper n N (at-most {m = m} {e = e} p) =
     le-of-values (fin false m e) (float n) (m * up e) (down e) n 1 (down-pos e) (zero-lt-suc 0) (refl, refl) (round-whole binary64 false n N) (rw mul-one p)

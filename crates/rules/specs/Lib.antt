@@ -22,3 +22,4 @@ pub mod Calls
 pub mod Digits
 pub mod Sheet
 pub mod Survey
+pub mod EffectiveLoss

@@ -6,6 +6,7 @@
 --   reading  16, 17, 18 Reading.readingFault, 19 Reading.rowFault
 --   sheet    16, 17, 18, then 15: Sheet.sheetAnswer
 --   survey   4 to 8, then 11, then 21: Survey.surveyFault (21 Survey.noGood)
+--   losses   22 and 23 EffectiveLoss.lossFault
 use Prim.Native.Nat.{ℕ, _≤_}
 use mathlib.Core.Bool.{Bool, true, false}
 use Rattle.rules.specs.declared.Answer.{Answer}
@@ -35,9 +36,9 @@ answer (fault k p) n = Refused k p
 
 -- ---- the table's numbers, from 1 on
 
--- the last of them: 20 joined with document 02, R-2, 21 with R-4
+-- the last of them: 20 joined with document 02, R-2, 21 with R-4, 22 and 23 with R-8
 abbrev pub lastNumber : ℕ
-lastNumber = 21
+lastNumber = 23
 
 abbrev pub InTable : ℕ → Type 0
 InTable k = (1 ≤ k) × (k ≤ lastNumber)

@@ -11,7 +11,7 @@ pub struct Opening {
 }
 
 // The last number of the table of refusals.
-pub const LAST_NUMBER: u64 = 21;
+pub const LAST_NUMBER: u64 = 23;
 
 // What a call answers: done, with its length, or refused, with document 01's number and the place.
 pub enum Answer {
@@ -82,4 +82,10 @@ pub enum SceneAnswer {
 pub enum SurveyAnswer {
     Most { identifier: u64, count: u64 },
     Refused { number: u64, place: u64 },
+}
+
+// A loss that spreads over units (document 02, R-8) is either a key-frame loss or a plain loss, each with its amount.
+pub enum Loss {
+    KeyFrame(f64),
+    Plain(f64),
 }

@@ -6,6 +6,7 @@ mod capture;
 mod cells;
 mod film;
 mod lent;
+mod loss;
 mod luma;
 mod make;
 mod opening;
@@ -37,8 +38,10 @@ measure-again measure W H D PID CAPTURE LUMA RECORD [EDITION]
 measure-again survey CAPTURE
 measure-again survey < CAPTURE
 measure-again survey-replay < SCRIPT
+measure-again loss < LOSSES
 measure-again make SEED KIND > SCRIPT
 measure-again make-survey SEED [limit] > SCRIPT
+measure-again make-loss SEED > LOSSES
 measure-again kinds
 measure-again recut SEED < SCRIPT > SCRIPT
 measure-again records SEED > RECORD
@@ -98,10 +101,10 @@ fn opening_of(values: [&str; 5]) -> io::Result<Opening> {
 fn run(arguments: &[&str], out: &mut impl Write) -> io::Result<()> {
     match *arguments {
         ["replay"] => replay::replay(script(), out),
-        ["show"] => out.write_all(record::show(&standard_input()?).as_bytes()),
-        ["sheet"] => out.write_all(&sheet::print(&standard_input()?)),
+        ["show"] => out.write_all(record::show(&standard_input(record::LONGEST)?).as_bytes()),
+        ["sheet"] => out.write_all(&sheet::print(&standard_input(record::LONGEST)?)),
         ["sheet-into", bytes] => {
-            let record = standard_input()?;
+            let record = standard_input(record::LONGEST)?;
             lent::print_call(out, "sheet", room(bytes)?, |buffer| sheet::write(&record, buffer))
         }
         ["measure", width, height, display_time, pid, capture, luma, record, ref more @ ..] if more.len() < 2 => {
@@ -111,6 +114,7 @@ fn run(arguments: &[&str], out: &mut impl Write) -> io::Result<()> {
         ["survey"] => print_survey(io::stdin(), out),
         ["survey", capture] => print_survey(File::open(capture)?, out),
         ["survey-replay"] => replay::replay_survey(script(), out),
+        ["loss"] => out.write_all(loss::print(&standard_input(loss::LONGEST_INPUT)?).as_bytes()),
         ["recut", seed] => recut::recut(number(seed)?, script(), out),
         ["bench", ref what @ ..] => bench(what),
         _ => run_maker(arguments, out),
@@ -126,6 +130,7 @@ fn run_maker(arguments: &[&str], out: &mut impl Write) -> io::Result<()> {
         }
         ["make-survey", seed] => make::make_survey(number(seed)?, out),
         ["make-survey", seed, make::LIMIT] => make::make_survey_limit(number(seed)?, out),
+        ["make-loss", seed] => out.write_all(&make::loss_input(number(seed)?)),
         ["records", seed] => out.write_all(&records::random_record(number(seed)?)),
         ["captures", seed] => out.write_all(&make::capture_file(number(seed)?)),
         _ => Err(usage()),
@@ -136,10 +141,10 @@ fn script() -> impl Read {
     BufReader::with_capacity(1 << 20, io::stdin())
 }
 
-/// Standard input, but no more of it than it takes to see that it is too long for a record.
-fn standard_input() -> io::Result<Vec<u8>> {
+/// Standard input, but no more of it than it takes to see that it is longer than allowed.
+fn standard_input(longest: usize) -> io::Result<Vec<u8>> {
     let mut bytes = Vec::new();
-    io::stdin().take(record::LONGEST as u64 + 1).read_to_end(&mut bytes)?;
+    io::stdin().take(longest as u64 + 1).read_to_end(&mut bytes)?;
     Ok(bytes)
 }
 

@@ -65,7 +65,7 @@ pub of-either : (f g : Fault) → Numbered f → Numbered g → Numbered (f orEl
 of-either none g x y = y
 of-either (fault k p) g x y = x
 
-of-unless : (b : Bool) (k : ℕ) → listed k ≡ k → Numbered (unless b k)
+pub of-unless : (b : Bool) (k : ℕ) → listed k ≡ k → Numbered (unless b k)
 of-unless true k x = tt
 of-unless false k x = x
 

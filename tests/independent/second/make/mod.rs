@@ -3,6 +3,7 @@
 mod captures;
 mod films;
 mod limit;
+mod losses;
 mod surveys;
 mod weave;
 
@@ -12,6 +13,7 @@ use captures::{CaptureMaker, Fault};
 use films::{FilmMaker, Style};
 use std::io::{self, Write};
 pub use limit::make_survey as make_survey_limit;
+pub use losses::input as loss_input;
 pub use surveys::{capture_file, make as make_survey};
 use weave::{weave, Cutting, Plan, Side};
 

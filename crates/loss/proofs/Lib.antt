@@ -1,0 +1,3 @@
+-- The laws that the functions' proofs stand on.
+pub mod Steps
+pub mod Theorems
