@@ -227,6 +227,18 @@ uint32_t carolsedge_effective_loss(uint32_t units, const uint32_t *losses, size_
                                    const double *probabilities, size_t probabilities_length,
                                    double *keys, size_t keys_length, double *plain, size_t plain_length);
 
+/* ---- the busiest possible sample */
+
+/* The greatest number of scenes that so many pictures (1 to 750) of this display time in microseconds can have, in
+ * *value. Refused: 2, then 14 for no picture or 10 for more than 750; *value is 0. Proved: no sample has more, and one
+ * has that many. */
+uint32_t carolsedge_most_scenes(uint32_t time, uint32_t pictures, uint64_t *value);
+
+/* Luma with that many scenes: fills the piece with its bytes from byte at on, and *value is how many were written; the
+ * piece's bytes behind them stand. Refused: 1, then as above; the piece stands, and *value is 0. */
+uint32_t carolsedge_busiest_luma(uint32_t width, uint32_t height, uint32_t time, uint32_t pictures, uint64_t at,
+                                 uint8_t *piece, size_t length, uint64_t *value);
+
 #ifdef __cplusplus
 }
 #endif

@@ -2,7 +2,8 @@
 //!
 //!     compare replay AGAIN REPLAY FIRST COUNT    scripts of every kind: `AGAIN replay` beside REPLAY
 //!     compare limit AGAIN REPLAY                 the scripts about the 256 MiB of a capture
-//!     compare VERB AGAIN OURS FIRST COUNT        inputs of a verb of FILTERS: `AGAIN VERB` beside OURS
+//!     compare VERB AGAIN OURS FIRST COUNT        inputs of a verb of FILTERS, or arguments of one of ARGUMENTS:
+//!                                                `AGAIN VERB` beside OURS
 //!
 //! AGAIN is the independent program, which also makes the inputs. VERB and OURS may have arguments, parted by spaces
 //! (`sheet-into 6060`, for one); when OURS prints a refusal and nothing else, it may end with status 1. Two threads
@@ -27,6 +28,9 @@ const FILTERS: [(&str, &str); 6] = [
     ("survey-replay", "make-survey"),
     ("loss", "make-loss"),
 ];
+
+/// Verbs that take arguments, each with what makes them, an argument a line.
+const ARGUMENTS: [(&str, &str); 1] = [("busiest", "make-busiest")];
 
 /// What was compared so far.
 #[derive(Default)]
@@ -109,6 +113,17 @@ fn compare(make: [&str; 3], again: &[&str], ours: &str) -> io::Result<(Vec<u8>, 
     Ok((output(program, &again[1..], &input)?, output(ours[0], &ours[1..], &input)?))
 }
 
+/// One list of arguments, made by `make`, for both programs.
+fn compare_arguments(make: [&str; 2], again: &[&str], ours: &str) -> io::Result<(Vec<u8>, Vec<u8>)> {
+    let lines = output(again[0], &make, b"")?;
+    let lines = String::from_utf8_lossy(&lines).into_owned();
+    let run = |program: Vec<&str>| {
+        let arguments: Vec<&str> = program[1..].iter().copied().chain(lines.lines()).collect();
+        output(program[0], &arguments, b"")
+    };
+    Ok((run(again.to_vec())?, run(ours.split(' ').collect())?))
+}
+
 /// Runs every case on two threads, and tallies.
 fn run_all(exact: bool, cases: u64, case: impl Fn(u64) -> io::Result<(String, Vec<u8>, Vec<u8>)> + Sync) -> Tally {
     let next = AtomicU64::new(0);
@@ -177,13 +192,18 @@ fn run(arguments: &[&str]) -> io::Result<ExitCode> {
             Ok(report("limit", "calls", &tally))
         }
         [verb, again, ours, first, count] => {
-            let filter = FILTERS.iter().find(|(name, _)| verb.split(' ').next() == Some(*name));
-            let (_, maker) = filter.ok_or_else(|| io::Error::other(format!("{verb} is nothing to compare")))?;
+            let filter = maker_of(&FILTERS, verb);
+            let maker = filter.or(maker_of(&ARGUMENTS, verb));
+            let maker = maker.ok_or_else(|| io::Error::other(format!("{verb} is nothing to compare")))?;
             let (first, count) = (number(first)?, number(count)?);
             let tally = run_all(true, count, |case| {
                 let seed = (first + case).to_string();
                 let again: Vec<&str> = iter::once(again).chain(verb.split(' ')).collect();
-                let (a, b) = compare([maker, &seed, ""], &again, ours)?;
+                let (a, b) = if filter.is_some() {
+                    compare([maker, &seed, ""], &again, ours)?
+                } else {
+                    compare_arguments([maker, &seed], &again, ours)?
+                };
                 Ok((format!("{maker} of seed {seed}"), a, b))
             });
             println!("{verb}: {maker} of seeds {first} to {}", first + count.saturating_sub(1));
@@ -191,6 +211,11 @@ fn run(arguments: &[&str]) -> io::Result<ExitCode> {
         }
         _ => Err(io::Error::other("compare replay|limit|VERB AGAIN OURS [FIRST COUNT]")),
     }
+}
+
+/// What makes the inputs of a verb of a table.
+fn maker_of(table: &[(&str, &'static str)], verb: &str) -> Option<&'static str> {
+    table.iter().find(|(name, _)| verb.split(' ').next() == Some(*name)).map(|&(_, maker)| maker)
 }
 
 fn number(word: &str) -> io::Result<u64> {

@@ -1,4 +1,4 @@
-/* Functions with one fault each (FAULT, 1 to 13) in the place of the library's own, by the linker's --wrap: the forged
+/* Functions with one fault each (FAULT, 1 to 16) in the place of the library's own, by the linker's --wrap: the forged
  * calls have to notice every one. */
 #include <stddef.h>
 #include <stdint.h>
@@ -15,6 +15,8 @@ uint32_t __real_carolsedge_effective_loss(uint32_t, const uint32_t *, size_t, co
                                           double *, size_t);
 uint32_t __real_carolsedge_read_header(const uint8_t *, size_t, struct carolsedge_header *);
 uint32_t __real_carolsedge_read_unit(const uint8_t *, size_t, size_t, struct carolsedge_unit *);
+uint32_t __real_carolsedge_busiest_luma(uint32_t, uint32_t, uint32_t, uint32_t, uint64_t, uint8_t *, size_t,
+                                        uint64_t *);
 
 uint32_t __wrap_carolsedge_feed_capture(uint64_t *walk, uint8_t *kept, uint64_t *numbers, uint64_t *table, const uint8_t *piece, size_t length,
                                         uint64_t *value)
@@ -94,4 +96,10 @@ uint32_t __wrap_carolsedge_effective_loss(uint32_t units, const uint32_t *losses
     if (FAULT == 14 && k == 23) /* clears a list although it refuses */
         plain[0] = 0;
     return FAULT == 15 && k == 23 ? 0 : k; /* lets a probability pass */
+}
+
+uint32_t __wrap_carolsedge_busiest_luma(uint32_t w, uint32_t h, uint32_t d, uint32_t n, uint64_t from, uint8_t *piece,
+                                        size_t length, uint64_t *value)
+{
+    return __real_carolsedge_busiest_luma(w, FAULT == 16 ? w : h, d, n, from, piece, length, value); /* w rows for h */
 }

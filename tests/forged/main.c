@@ -3,8 +3,8 @@
  * in some of the calls, and what is left of a page is compared afterwards. A call that takes longer than LIMIT seconds, an answer past the
  * table's last number, a refusal that wrote to its buffer, and an opening that answers something else than the rule says end the run too.
  *
- * Usage: forged CALLS SEED. Makes so many calls of each function (of sheet, effective_loss and of a survey's a tenth,
- * of replay, which makes several, a twentieth), and prints what they answered.
+ * Usage: forged CALLS SEED. Makes so many calls of each function (of sheet, effective_loss and of a survey's a tenth;
+ * of replay, which makes several, and of the busiest sample's a twentieth), and prints what they answered.
  */
 #define _GNU_SOURCE
 #include <inttypes.h>
@@ -24,10 +24,10 @@
 #endif
 
 enum { OPEN, FEED_CAPTURE, FEED_LUMA, SEAL, READ_HEADER, READ_UNIT, READ_SCENE, SHEET, REPLAY,
-       OPEN_SURVEY, FEED_SURVEY, ASK_SURVEY, EFFECTIVE_LOSS, FUNCTIONS };
+       OPEN_SURVEY, FEED_SURVEY, ASK_SURVEY, EFFECTIVE_LOSS, MOST_SCENES, BUSIEST_LUMA, FUNCTIONS };
 static const char *const name[FUNCTIONS] = {"open", "feed_capture", "feed_luma", "seal", "read_header", "read_unit",
                                              "read_scene", "sheet", "replay", "open_survey", "feed_survey",
-                                             "ask_survey", "effective_loss"};
+                                             "ask_survey", "effective_loss", "most_scenes", "busiest_luma"};
 enum { LAST_NUMBER = 23 }; /* of the table of refusals */
 static uint64_t answers[FUNCTIONS][LAST_NUMBER + 1], calls[FUNCTIONS], longest, seed;
 static volatile int under_way;
@@ -592,7 +592,10 @@ static void round_of_surveys(void)
         fail("a survey of no packet names an identifier");
 }
 
+/* ---- the calls beside the sample */
+
 #include "loss.h"
+#include "busiest.h"
 
 /* A forged state, and a few calls on it. */
 static void round_of_calls(uint64_t most)
@@ -616,6 +619,10 @@ static void round_of_calls(uint64_t most)
         call_replay();
     if (calls[FEED_SURVEY] < most / 10)
         round_of_surveys();
+    if (calls[MOST_SCENES] < most / 20)
+        call_most_scenes();
+    if (calls[BUSIEST_LUMA] < most / 20)
+        call_busiest_luma();
 }
 
 int main(int words, char **word)

@@ -40,6 +40,7 @@
 #![deny(missing_docs)]
 
 mod loss;
+mod busiest;
 mod raw;
 mod record;
 mod refusal;
@@ -47,6 +48,7 @@ mod sample;
 mod survey;
 
 pub use loss::effective_loss;
+pub use busiest::{busiest_luma, most_scenes};
 pub use record::{sheet, Header, Record, Scene, Unit};
 pub use refusal::Refusal;
 pub use sample::{Opening, Sample};

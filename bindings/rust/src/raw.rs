@@ -104,6 +104,17 @@ extern "C" {
         room: usize,
         value: &mut u64,
     ) -> u32;
+    fn carolsedge_most_scenes(time: u32, pictures: u32, value: &mut u64) -> u32;
+    fn carolsedge_busiest_luma(
+        width: u32,
+        height: u32,
+        time: u32,
+        pictures: u32,
+        at: u64,
+        piece: *mut u8,
+        length: usize,
+        value: &mut u64,
+    ) -> u32;
 }
 
 impl State {
@@ -274,6 +285,40 @@ pub fn sheet(record: &[u8], buffer: &mut [u8]) -> (u32, u64) {
             record.len(),
             buffer.as_mut_ptr(),
             buffer.len(),
+            &mut value,
+        )
+    };
+    (number, value)
+}
+
+/// The refusal's number, or 0, and the value.
+pub fn most_scenes(time: u32, pictures: u32) -> (u32, u64) {
+    let mut value = 0;
+    // SAFETY: the function writes to the value and nothing else.
+    let number = unsafe { carolsedge_most_scenes(time, pictures, &mut value) };
+    (number, value)
+}
+
+/// The refusal's number, or 0, and the value.
+pub fn busiest_luma(
+    width: u32,
+    height: u32,
+    time: u32,
+    pictures: u32,
+    at: u64,
+    piece: &mut [u8],
+) -> (u32, u64) {
+    let mut value = 0;
+    // SAFETY: pointer and length are those of a slice that is borrowed alone.
+    let number = unsafe {
+        carolsedge_busiest_luma(
+            width,
+            height,
+            time,
+            pictures,
+            at,
+            piece.as_mut_ptr(),
+            piece.len(),
             &mut value,
         )
     };

@@ -4,3 +4,4 @@ pub mod Lists
 pub mod Surveys
 pub mod Unplaced
 pub mod Beside
+pub mod BusiestNumbers

@@ -1,7 +1,6 @@
 // The calls as C functions. A slice goes as a pointer and a length, an array as a pointer. Each function is thin: it
-// hands its memory to the call of `sample`, `record_view`, `record_sheet` or `survey` and splits the answer into
-// numbers. A number is 0 where the call is done, and otherwise that of document 01's table. Calls of document 02 that
-// are crates of their own have a file each.
+// hands its memory to the call of the crate below and splits the answer into numbers. A number is 0 where the call is
+// done, and otherwise that of document 01's table. Calls of document 02 that are crates of their own have a file each.
 ghost use mathlib.Core.Path.{_≡_};
 ghost use Rattle.replay.specs.Script.{Replayed};
 ghost use Rattle.rules.specs.Refusals.{listed};
@@ -14,6 +13,7 @@ ghost use Rattle.survey.specs.State.{stateOf};
 ghost use Rattle.survey.specs.Contract as of-survey;
 ghost use Rattle.carolsedge.specs.Numbers.{mostNumber, mostValue, mostCount};
 
+mod busiest;
 mod losses;
 
 use capture::Numbers;

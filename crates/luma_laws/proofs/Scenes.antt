@@ -140,7 +140,7 @@ score-inside hs i h = go (decLe 2 i) (decLt (i + 2) (length hs))
         absurd (omega arith)
     go (no f) k = let z = missing (rw (lt-leb 2 i (omega arith))) in absurd (omega arith)
 
-cut-inside : (hs : List (List (List ℕ))) (i : ℕ) → 1000 < getD (cutScores hs) i 0 → i < length hs - 2
+pub cut-inside : (hs : List (List (List ℕ))) (i : ℕ) → 1000 < getD (cutScores hs) i 0 → i < length hs - 2
 cut-inside hs i h =
     let l = scores-length hs in
     let k = below-length (cutScores hs) i h in

@@ -23,3 +23,4 @@ pub mod Digits
 pub mod Sheet
 pub mod Survey
 pub mod EffectiveLoss
+pub mod Busiest

@@ -7,6 +7,7 @@
 --   sheet    16, 17, 18, then 15: Sheet.sheetAnswer
 --   survey   4 to 8, then 11, then 21: Survey.surveyFault (21 Survey.noGood)
 --   losses   22 and 23 EffectiveLoss.lossFault
+--   busiest  2, then 14 or 10: Busiest.mostFault; 1 before them: Busiest.busiestFault
 use Prim.Native.Nat.{ℕ, _≤_}
 use mathlib.Core.Bool.{Bool, true, false}
 use Rattle.rules.specs.declared.Answer.{Answer}

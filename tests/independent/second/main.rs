@@ -2,6 +2,7 @@
 #![forbid(unsafe_code)]
 
 mod bench;
+mod busiest;
 mod capture;
 mod cells;
 mod film;
@@ -39,9 +40,12 @@ measure-again survey CAPTURE
 measure-again survey < CAPTURE
 measure-again survey-replay < SCRIPT
 measure-again loss < LOSSES
+measure-again busiest W H D N > LUMA
+measure-again most D N
 measure-again make SEED KIND > SCRIPT
 measure-again make-survey SEED [limit] > SCRIPT
 measure-again make-loss SEED > LOSSES
+measure-again make-busiest SEED > ARGUMENTS
 measure-again kinds
 measure-again recut SEED < SCRIPT > SCRIPT
 measure-again records SEED > RECORD
@@ -51,7 +55,8 @@ measure-again bench capture PIECE TIMES
 ";
 
 fn main() -> ExitCode {
-    let arguments: Vec<String> = std::env::args().skip(1).collect();
+    let arguments: Vec<String> =
+        std::env::args_os().skip(1).map(|argument| argument.to_string_lossy().into_owned()).collect();
     let arguments: Vec<&str> = arguments.iter().map(String::as_str).collect();
     let mut out = BufWriter::with_capacity(1 << 20, io::stdout());
     match run(&arguments, &mut out).and_then(|()| out.flush()) {
@@ -115,6 +120,8 @@ fn run(arguments: &[&str], out: &mut impl Write) -> io::Result<()> {
         ["survey", capture] => print_survey(File::open(capture)?, out),
         ["survey-replay"] => replay::replay_survey(script(), out),
         ["loss"] => out.write_all(loss::print(&standard_input(loss::LONGEST_INPUT)?).as_bytes()),
+        ["busiest", ref values @ ..] => busiest::write(values, out),
+        ["most", display_time, pictures] => print_number(busiest::most(number(display_time)?, number(pictures)?), out),
         ["recut", seed] => recut::recut(number(seed)?, script(), out),
         ["bench", ref what @ ..] => bench(what),
         _ => run_maker(arguments, out),
@@ -131,6 +138,7 @@ fn run_maker(arguments: &[&str], out: &mut impl Write) -> io::Result<()> {
         ["make-survey", seed] => make::make_survey(number(seed)?, out),
         ["make-survey", seed, make::LIMIT] => make::make_survey_limit(number(seed)?, out),
         ["make-loss", seed] => out.write_all(&make::loss_input(number(seed)?)),
+        ["make-busiest", seed] => out.write_all(make::busiest_arguments(number(seed)?).as_bytes()),
         ["records", seed] => out.write_all(&records::random_record(number(seed)?)),
         ["captures", seed] => out.write_all(&make::capture_file(number(seed)?)),
         _ => Err(usage()),
@@ -169,6 +177,13 @@ fn measure(opening: Opening, capture: &str, luma: &str, record: &str) -> io::Res
         Err(Refusal { number, place }) => println!("refused {number} {place}"),
     }
     Ok(())
+}
+
+fn print_number(answer: Result<u32, Refusal>, out: &mut impl Write) -> io::Result<()> {
+    match answer {
+        Ok(number) => writeln!(out, "{number}"),
+        Err(Refusal { number, place }) => writeln!(out, "refused {number} {place}"),
+    }
 }
 
 fn print_survey(capture: impl Read, out: &mut impl Write) -> io::Result<()> {

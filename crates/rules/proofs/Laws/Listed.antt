@@ -24,6 +24,7 @@ use Rattle.rules.specs.Seal.{sealedLength, captureUnfinished, noPacket, 
 use Rattle.rules.specs.Seal.{sealFault}
 use Rattle.rules.specs.Survey.{noGood, surveyFault}
 use Rattle.rules.specs.Reading.{allowed, readingFault, rowFault, unitFault, sceneFault}
+use Rattle.rules.specs.Busiest.{mostFault, busiestFault}
 
 -- ---- a number in the table, below it and above it
 
@@ -210,3 +211,16 @@ unit r j = of-either (readingFault r) (rowFault (word32 r 8) j) (reading r) (of-
 pub scene : (r : List ℕ) (j : ℕ) → Numbered (sceneFault r j)
 unfolding sceneFault
 scene r j = of-either (readingFault r) (rowFault (word32 r 16) j) (reading r) (of-row (word32 r 16) j)
+
+-- of the busiest sample
+pub most : (d n : ℕ) → Numbered (mostFault d n)
+unfolding mostFault noPicture
+most d n =
+    of-either (unless (goodTime d) 2) _ (of-unless (goodTime d) 2 refl)
+    (of-either (pick (eqb n 0) (fault 14 0) none) _ (of-pick (eqb n 0) (fault 14 0) none refl tt)
+    (of-unless (leb n 750) 10 refl))
+
+pub busiest : (w h d n : ℕ) → Numbered (busiestFault w h d n)
+unfolding busiestFault
+busiest w h d n =
+    of-either (unless (goodSize w h) 1) (mostFault d n) (of-unless (goodSize w h) 1 refl) (most d n)

@@ -1,5 +1,6 @@
 //! `make`: random scripts for comparing two programs, by families.
 
+mod busiest;
 mod captures;
 mod films;
 mod limit;
@@ -12,6 +13,7 @@ use crate::prng::Prng;
 use captures::{CaptureMaker, Fault};
 use films::{FilmMaker, Style};
 use std::io::{self, Write};
+pub use busiest::arguments as busiest_arguments;
 pub use limit::make_survey as make_survey_limit;
 pub use losses::input as loss_input;
 pub use surveys::{capture_file, make as make_survey};

@@ -1,0 +1,34 @@
+-- `print_refusal` prints a part of its buffer.
+use Rattle.record_text.proofs.Made.{within-buffer, whole-line}
+use borrow.Author.Needs.{needs}
+use Rattle.busiest.proofs.print_refusal.Statement.{statement}
+use Rattle.busiest.proofs.print_refusal.Tie as tie
+
+slice-aggregate-refused-line : tie.Need-slice-aggregate-refused-line
+slice-aggregate-refused-line c = search needs
+
+refused-line-requires : tie.Need-refused-line-requires
+refused-line-requires c κs = search needs
+
+array-share-prefix-text : tie.Need-array-share-prefix-text
+array-share-prefix-text c = within-buffer _ _ _ _ (c .before .refused-line .ensures)
+
+slice-aggregate-write-all : tie.Need-slice-aggregate-write-all
+slice-aggregate-write-all c = whole-line _ _ _ _ (c .before .before .refused-line .ensures)
+
+write-all-requires : tie.Need-write-all-requires
+write-all-requires c κs = search needs
+
+returns : tie.Need-returns
+returns c = search needs
+
+pub print-refusal-spec : {M : Type 1} → statement M
+print-refusal-spec =
+    tie.close
+    (tie.spec
+    slice-aggregate-refused-line
+    refused-line-requires
+    array-share-prefix-text
+    slice-aggregate-write-all
+    write-all-requires
+    returns)
