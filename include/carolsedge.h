@@ -45,7 +45,7 @@ enum {
     CAROLSEDGE_REFUSED_NO_PACKET = 12,      /* seal: no packet of PID */
     CAROLSEDGE_REFUSED_LUMA_INSIDE = 13,    /* seal: the luma ends inside a picture; place: its bytes fed */
     CAROLSEDGE_REFUSED_NO_PICTURE = 14,     /* seal: no picture */
-    CAROLSEDGE_REFUSED_BUFFER = 15,         /* seal, sheet: the buffer is too short; place: the length needed */
+    CAROLSEDGE_REFUSED_BUFFER = 15,         /* what is lent to be written is too short; place: the length needed */
     CAROLSEDGE_REFUSED_SHORT = 16,          /* reading: under 64 bytes */
     CAROLSEDGE_REFUSED_EDITION = 17,        /* reading: an edition that there is not */
     CAROLSEDGE_REFUSED_RECORD = 18,         /* reading: not allowed */
@@ -53,7 +53,8 @@ enum {
     CAROLSEDGE_REFUSED_OPENING_EDITION = 20, /* opening: an edition that there is not; tried after 3 */
     CAROLSEDGE_REFUSED_NO_GOOD_PACKET = 21,  /* survey: a complete capture without a good packet; tried after 11 */
     CAROLSEDGE_REFUSED_LOSS_LISTS = 22,     /* loss: N outside 1 to 750, or one of the four lists not N long */
-    CAROLSEDGE_REFUSED_PROBABILITY = 23     /* loss: a probability not within 0 to 1, NaN included; tried after 22 */
+    CAROLSEDGE_REFUSED_PROBABILITY = 23,    /* loss: a probability not within 0 to 1, NaN included; tried after 22 */
+    CAROLSEDGE_REFUSED_GAPS = 24            /* gap runs: above 15 gaps */
 };
 
 /* ---- a sample */
@@ -226,6 +227,13 @@ uint32_t carolsedge_sheet(const uint8_t *record, size_t length, uint8_t *buffer,
 uint32_t carolsedge_effective_loss(uint32_t units, const uint32_t *losses, size_t losses_length,
                                    const double *probabilities, size_t probabilities_length,
                                    double *keys, size_t keys_length, double *plain, size_t plain_length);
+
+/* How many runs of n gaps of the counter, each 0 to 15, have one lost total (document 02, R-10; docs/RULE.md): entry L
+ * of the table gets the number of those that lose L, for each L from 0 to 14 n, and *value is the number of entries,
+ * 14 n + 1; entries behind them stand. Refused: 24 for n above 15, then 15 for a table of fewer entries, *value being
+ * the number needed; the table stands. Length and value count entries. Proved: together the entries are 16 to the
+ * power n. */
+uint32_t carolsedge_gap_runs(uint32_t n, uint64_t *table, size_t length, uint64_t *value);
 
 /* ---- the busiest possible sample */
 

@@ -47,6 +47,7 @@ const MENDS: &[&str] = &[
     "See that a transport stream was captured: plain UDP over IPv4, unencrypted, all bytes of a frame (tcpdump -s 0).",
     "Give 1 to 750 units, and for each a loss of 4 bytes and then a probability of 8: 4 + 12 N bytes in all.",
     "Give probabilities from 0 to 1; what is no number, or was divided by nothing, is none.",
+    "Ask for at most 15 gaps: of more, 64 bits do not hold the number of runs.",
 ];
 
 const DAMAGED: &str =

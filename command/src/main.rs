@@ -5,6 +5,7 @@
 #![deny(unsafe_code)]
 
 mod explain;
+mod gaps;
 mod input;
 mod loss;
 mod measure;
@@ -29,9 +30,15 @@ pub struct Subcommand {
     run: fn(Vec<OsString>) -> Result<(), Stop>,
 }
 
-const SUBCOMMANDS: &[Subcommand] =
-    &[survey::SUBCOMMAND, measure::SUBCOMMAND, show::SUBCOMMAND, sheet::SUBCOMMAND, loss::SUBCOMMAND,
-      explain::SUBCOMMAND];
+const SUBCOMMANDS: &[Subcommand] = &[
+    survey::SUBCOMMAND,
+    measure::SUBCOMMAND,
+    show::SUBCOMMAND,
+    sheet::SUBCOMMAND,
+    loss::SUBCOMMAND,
+    gaps::SUBCOMMAND,
+    explain::SUBCOMMAND,
+];
 
 const VERSION: &str = concat!("carolsedge ", env!("CARGO_PKG_VERSION"), "\n");
 

@@ -30,7 +30,8 @@ const FILTERS: [(&str, &str); 6] = [
 ];
 
 /// Verbs that take arguments, each with what makes them, an argument a line.
-const ARGUMENTS: [(&str, &str); 1] = [("busiest", "make-busiest")];
+const ARGUMENTS: [(&str, &str); 3] =
+    [("busiest", "make-busiest"), ("gaps", "make-gaps"), ("gaps-into", "make-gaps-into")];
 
 /// What was compared so far.
 #[derive(Default)]

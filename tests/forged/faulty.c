@@ -1,4 +1,4 @@
-/* Functions with one fault each (FAULT, 1 to 16) in the place of the library's own, by the linker's --wrap: the forged
+/* Functions with one fault each (FAULT, 1 to 18) in the place of the library's own, by the linker's --wrap: the forged
  * calls have to notice every one. */
 #include <stddef.h>
 #include <stdint.h>
@@ -13,6 +13,7 @@ uint32_t __real_carolsedge_feed_survey(uint64_t *, uint8_t *, uint32_t *, const 
 uint32_t __real_carolsedge_ask_survey(const uint64_t *, const uint32_t *, uint64_t *, uint64_t *);
 uint32_t __real_carolsedge_effective_loss(uint32_t, const uint32_t *, size_t, const double *, size_t, double *, size_t,
                                           double *, size_t);
+uint32_t __real_carolsedge_gap_runs(uint32_t, uint64_t *, size_t, uint64_t *);
 uint32_t __real_carolsedge_read_header(const uint8_t *, size_t, struct carolsedge_header *);
 uint32_t __real_carolsedge_read_unit(const uint8_t *, size_t, size_t, struct carolsedge_unit *);
 uint32_t __real_carolsedge_busiest_luma(uint32_t, uint32_t, uint32_t, uint32_t, uint64_t, uint8_t *, size_t,
@@ -102,4 +103,12 @@ uint32_t __wrap_carolsedge_busiest_luma(uint32_t w, uint32_t h, uint32_t d, uint
                                         size_t length, uint64_t *value)
 {
     return __real_carolsedge_busiest_luma(w, FAULT == 16 ? w : h, d, n, from, piece, length, value); /* w rows for h */
+}
+
+uint32_t __wrap_carolsedge_gap_runs(uint32_t n, uint64_t *table, size_t length, uint64_t *value)
+{
+    uint32_t k = __real_carolsedge_gap_runs(n, table, length, value);
+    if (FAULT == 17 && !k && *value < length) /* writes an entry past 14 n */
+        table[*value] = 0;
+    return FAULT == 18 && k == 24 && length < 225 ? 15 : k; /* tries 15 before 24 */
 }

@@ -3,8 +3,8 @@
  * in some of the calls, and what is left of a page is compared afterwards. A call that takes longer than LIMIT seconds, an answer past the
  * table's last number, a refusal that wrote to its buffer, and an opening that answers something else than the rule says end the run too.
  *
- * Usage: forged CALLS SEED. Makes so many calls of each function (of sheet, effective_loss and of a survey's a tenth;
- * of replay, which makes several, and of the busiest sample's a twentieth), and prints what they answered.
+ * Usage: forged CALLS SEED. Makes so many calls of each function (of sheet, effective_loss, gap_runs and of a survey's
+ * a tenth; of replay, which makes several, and of the busiest sample's a twentieth), and prints what they answered.
  */
 #define _GNU_SOURCE
 #include <inttypes.h>
@@ -23,12 +23,13 @@
 #define LIMIT 5 /* seconds that a call may take */
 #endif
 
-enum { OPEN, FEED_CAPTURE, FEED_LUMA, SEAL, READ_HEADER, READ_UNIT, READ_SCENE, SHEET, REPLAY,
-       OPEN_SURVEY, FEED_SURVEY, ASK_SURVEY, EFFECTIVE_LOSS, MOST_SCENES, BUSIEST_LUMA, FUNCTIONS };
+enum { OPEN, FEED_CAPTURE, FEED_LUMA, SEAL, READ_HEADER, READ_UNIT, READ_SCENE, SHEET, REPLAY, OPEN_SURVEY,
+       FEED_SURVEY, ASK_SURVEY, EFFECTIVE_LOSS, MOST_SCENES, BUSIEST_LUMA, GAP_RUNS, FUNCTIONS };
 static const char *const name[FUNCTIONS] = {"open", "feed_capture", "feed_luma", "seal", "read_header", "read_unit",
                                              "read_scene", "sheet", "replay", "open_survey", "feed_survey",
-                                             "ask_survey", "effective_loss", "most_scenes", "busiest_luma"};
-enum { LAST_NUMBER = 23 }; /* of the table of refusals */
+                                             "ask_survey", "effective_loss", "most_scenes", "busiest_luma",
+                                             "gap_runs"};
+enum { LAST_NUMBER = 24 }; /* of the table of refusals */
 static uint64_t answers[FUNCTIONS][LAST_NUMBER + 1], calls[FUNCTIONS], longest, seed;
 static volatile int under_way;
 static volatile sig_atomic_t ticks;
@@ -594,6 +595,7 @@ static void round_of_surveys(void)
 
 /* ---- the calls beside the sample */
 
+#include "gaps.h"
 #include "loss.h"
 #include "busiest.h"
 
@@ -615,6 +617,8 @@ static void round_of_calls(uint64_t most)
         call_sheet();
     if (calls[EFFECTIVE_LOSS] < most / 10)
         call_effective_loss();
+    if (calls[GAP_RUNS] < most / 10)
+        call_gap_runs();
     if (calls[REPLAY] < most / 20)
         call_replay();
     if (calls[FEED_SURVEY] < most / 10)
@@ -641,8 +645,10 @@ int main(int words, char **word)
     survey_walk = room_of(sizeof surveyed->walk), survey_kept = room_of(sizeof surveyed->kept);
     counts = room_of(sizeof surveyed->counts);
     make_loss_rooms();
+    gap_table = room_of(8 * TABLE_MOST);
     while (calls[SEAL] < most || calls[OPEN] < most || calls[READ_HEADER] < most || calls[SHEET] < most / 10 ||
-           calls[REPLAY] < most / 20 || calls[FEED_SURVEY] < most / 10 || calls[EFFECTIVE_LOSS] < most / 10)
+           calls[REPLAY] < most / 20 || calls[FEED_SURVEY] < most / 10 || calls[EFFECTIVE_LOSS] < most / 10 ||
+           calls[GAP_RUNS] < most / 10)
         round_of_calls(most);
     for (int f = 0; f < FUNCTIONS; f++) {
         printf("forged: %-14s %" PRIu64 " calls; answers", name[f], calls[f]);

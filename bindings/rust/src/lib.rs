@@ -39,6 +39,7 @@
 //! otherwise in `target/staticlib` at the top of the repository, where `rt staticlib carolsedge` writes it.
 #![deny(missing_docs)]
 
+mod gaps;
 mod loss;
 mod busiest;
 mod raw;
@@ -47,6 +48,7 @@ mod refusal;
 mod sample;
 mod survey;
 
+pub use gaps::gap_runs;
 pub use loss::effective_loss;
 pub use busiest::{busiest_luma, most_scenes};
 pub use record::{sheet, Header, Record, Scene, Unit};

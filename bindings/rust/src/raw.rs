@@ -369,3 +369,15 @@ pub fn effective_loss(
         )
     }
 }
+
+extern "C" {
+    fn carolsedge_gap_runs(n: u32, table: *mut u64, length: usize, value: &mut u64) -> u32;
+}
+
+/// The refusal's number, or 0, and the value.
+pub fn gap_runs(n: u32, table: &mut [u64]) -> (u32, u64) {
+    let mut value = 0;
+    // SAFETY: pointer and length are those of a slice that is borrowed alone.
+    let number = unsafe { carolsedge_gap_runs(n, table.as_mut_ptr(), table.len(), &mut value) };
+    (number, value)
+}

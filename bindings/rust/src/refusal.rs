@@ -3,12 +3,12 @@ use std::fmt;
 
 /// A call that was refused: the number of documents 01 and 02, 1 to 23, and the place.
 ///
-/// The place counts bytes from 0. Of 4 to 10 it is where the refusal shows, of 11 and 13 how many bytes that side was fed, of 15 how long a buffer the
-/// record or the sheet needs, and of all others 0.
+/// The place counts bytes from 0. Of 4 to 10 it is where the refusal shows, of 11 and 13 how many bytes that side was
+/// fed, of 15 how long the lent buffer or table has to be (of a table in entries), and of all others 0.
 #[derive(Debug, Clone, Copy, PartialEq, Eq, Hash)]
 pub struct Refusal {
     /// 1 to 3 and 20: opening; 4 to 9: the capture; 10: the luma; 11 to 15: sealing (11: a survey too, 15: a sheet
-    /// too); 16 to 19: reading; 21: a survey; 22 and 23: losses.
+    /// and runs of gaps too); 16 to 19: reading; 21: a survey; 22 and 23: losses; 24: runs of gaps.
     pub number: u32,
     /// Where, or 0 where no place is named.
     pub place: u64,
@@ -41,6 +41,7 @@ impl Refusal {
             21 => "the capture has no good packet",
             22 => "the units are not 1 to 750, or the lists of losses are not all so long",
             23 => "a key-frame probability is not within 0 to 1",
+            24 => "the gaps of a run are more than 15",
             _ => "a number that is not in the table",
         }
     }
@@ -52,7 +53,7 @@ impl fmt::Display for Refusal {
         match self.number {
             4..=10 => write!(f, " (at byte {})", self.place),
             11 | 13 => write!(f, " ({} bytes fed)", self.place),
-            15 => write!(f, " ({} bytes needed)", self.place),
+            15 => write!(f, " ({} needed)", self.place),
             _ => Ok(()),
         }
     }

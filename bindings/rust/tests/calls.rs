@@ -420,7 +420,7 @@ fn a_clone_goes_on_by_itself() {
 
 #[test]
 fn words() {
-    let said: Vec<String> = (1..=23)
+    let said: Vec<String> = (1..=24)
         .map(|number| refusal(number, 0).meaning().to_string())
         .collect();
     for (i, words) in said.iter().enumerate() {
@@ -428,7 +428,7 @@ fn words() {
     }
     assert_eq!(
         refusal(15, 128).to_string(),
-        "refused 15: the buffer is too short (128 bytes needed)"
+        "refused 15: the buffer is too short (128 needed)"
     );
     assert_eq!(
         refusal(6, 23).to_string(),

@@ -4,10 +4,13 @@ use Prim.Native.Nat.{ℕ}
 use mathlib.Core.Path.{_≡_, refl}
 use mathlib.Core.List.{List}
 use lib.ListN.{length}
+use lib.Dec.{leb}
 use lib.Ieee.{Float}
 use Rattle.rules.specs.Refusals.{unless, _orElse_}
+use Rattle.rules.specs.Seal.{noRoom}
 use Rattle.rules.specs.EffectiveLoss.{Lists, goodLengths, areProbabilities, lossFault, lossAnswer}
-use Rattle.rules.proofs.Laws.Listed.{of-either, of-unless}
+use Rattle.rules.specs.GapRuns.{entryCount, gapFault, gapAnswer}
+use Rattle.rules.proofs.Laws.Listed.{of-either, of-unless, room}
 use Rattle.carolsedge.specs.Numbers.{numberOf}
 use Rattle.carolsedge.proofs.Listed.{numberIn, of-answer}
 use Rattle.carolsedge.proofs.Unplaced as unplaced
@@ -30,3 +33,12 @@ module _ (n : ℕ) (losses : List ℕ) (probabilities : List Float) (l : Lists) 
       let probable = areProbabilities probabilities in
       unplaced.of-either (unless good 22) (unless probable 23) (unplaced.of-unless good 22)
       (unplaced.of-unless probable 23)
+
+-- ---- what a lost count can hide
+
+pub gap-number : (n m : ℕ) → numberOf (gapAnswer n m) ≡ numberIn (gapFault n m)
+unfolding gapAnswer gapFault
+gap-number n m =
+    let size = entryCount n in
+    of-answer (unless (leb n 15) 24 orElse noRoom m size) size
+    (of-either (unless (leb n 15) 24) (noRoom m size) (of-unless (leb n 15) 24 refl) (room m size))

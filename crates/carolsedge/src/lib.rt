@@ -14,6 +14,7 @@ ghost use Rattle.survey.specs.Contract as of-survey;
 ghost use Rattle.carolsedge.specs.Numbers.{mostNumber, mostValue, mostCount};
 
 mod busiest;
+mod gaps;
 mod losses;
 
 use capture::Numbers;

@@ -24,3 +24,4 @@ pub mod Sheet
 pub mod Survey
 pub mod EffectiveLoss
 pub mod Busiest
+pub mod GapRuns

@@ -11,7 +11,7 @@ pub struct Opening {
 }
 
 // The last number of the table of refusals.
-pub const LAST_NUMBER: u64 = 23;
+pub const LAST_NUMBER: u64 = 24;
 
 // What a call answers: done, with its length, or refused, with document 01's number and the place.
 pub enum Answer {

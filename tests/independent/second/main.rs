@@ -6,6 +6,7 @@ mod busiest;
 mod capture;
 mod cells;
 mod film;
+mod gaps;
 mod lent;
 mod loss;
 mod luma;
@@ -42,10 +43,14 @@ measure-again survey-replay < SCRIPT
 measure-again loss < LOSSES
 measure-again busiest W H D N > LUMA
 measure-again most D N
+measure-again gaps N
+measure-again gaps-into N ROOM
 measure-again make SEED KIND > SCRIPT
 measure-again make-survey SEED [limit] > SCRIPT
 measure-again make-loss SEED > LOSSES
 measure-again make-busiest SEED > ARGUMENTS
+measure-again make-gaps SEED > ARGUMENTS
+measure-again make-gaps-into SEED > ARGUMENTS
 measure-again kinds
 measure-again recut SEED < SCRIPT > SCRIPT
 measure-again records SEED > RECORD
@@ -87,7 +92,7 @@ fn positive(word: &str) -> io::Result<usize> {
     number(word).and_then(|number| if number > 0 { Ok(number) } else { Err(usage()) })
 }
 
-/// The bytes of a buffer to be lent; 1 MiB is the most.
+/// The bytes of a buffer to be lent, or the entries of a table; 1,048,576 are the most.
 fn room(word: &str) -> io::Result<usize> {
     number(word).and_then(|room| if room <= script::LONGEST_PIECE { Ok(room) } else { Err(usage()) })
 }
@@ -122,6 +127,8 @@ fn run(arguments: &[&str], out: &mut impl Write) -> io::Result<()> {
         ["loss"] => out.write_all(loss::print(&standard_input(loss::LONGEST_INPUT)?).as_bytes()),
         ["busiest", ref values @ ..] => busiest::write(values, out),
         ["most", display_time, pictures] => print_number(busiest::most(number(display_time)?, number(pictures)?), out),
+        ["gaps", gaps] => gaps::print(number(gaps)?, out),
+        ["gaps-into", gaps, entries] => gaps::print_call(number(gaps)?, room(entries)?, out),
         ["recut", seed] => recut::recut(number(seed)?, script(), out),
         ["bench", ref what @ ..] => bench(what),
         _ => run_maker(arguments, out),
@@ -139,6 +146,11 @@ fn run_maker(arguments: &[&str], out: &mut impl Write) -> io::Result<()> {
         ["make-survey", seed, make::LIMIT] => make::make_survey_limit(number(seed)?, out),
         ["make-loss", seed] => out.write_all(&make::loss_input(number(seed)?)),
         ["make-busiest", seed] => out.write_all(make::busiest_arguments(number(seed)?).as_bytes()),
+        ["make-gaps", seed] => writeln!(out, "{}", number::<u64>(seed)? % 18),
+        ["make-gaps-into", seed] => {
+            let (gaps, more) = (number::<u64>(seed)? % 18, number::<u64>(seed)? / 18 % 5);
+            writeln!(out, "{gaps}\n{}", (14 * gaps + more).saturating_sub(1))
+        }
         ["records", seed] => out.write_all(&records::random_record(number(seed)?)),
         ["captures", seed] => out.write_all(&make::capture_file(number(seed)?)),
         _ => Err(usage()),

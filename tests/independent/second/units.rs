@@ -62,7 +62,7 @@ impl Units {
 }
 
 /// Cells lost between two counters of 4 bits: g - 1 if their gap g modulo 16 exceeds 1.
-fn lost_between(before: u8, counter: u8) -> u32 {
+pub fn lost_between(before: u8, counter: u8) -> u32 {
     let gap = counter.wrapping_sub(before) & 15;
     u32::from(gap.saturating_sub(1))
 }

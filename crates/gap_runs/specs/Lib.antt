@@ -1,0 +1,2 @@
+-- How one gap more moves the entries of the table. The rule is `GapRuns` of the rules.
+pub mod Entries
