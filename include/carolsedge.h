@@ -49,12 +49,14 @@ enum {
     CAROLSEDGE_REFUSED_SHORT = 16,          /* reading: under 64 bytes */
     CAROLSEDGE_REFUSED_EDITION = 17,        /* reading: an edition that there is not */
     CAROLSEDGE_REFUSED_RECORD = 18,         /* reading: not allowed */
-    CAROLSEDGE_REFUSED_ROW = 19,            /* reading: a row's number at or past the count */
+    CAROLSEDGE_REFUSED_ROW = 19,            /* reading: a row's number, or a shelf's record's, at or past the count */
     CAROLSEDGE_REFUSED_OPENING_EDITION = 20, /* opening: an edition that there is not; tried after 3 */
     CAROLSEDGE_REFUSED_NO_GOOD_PACKET = 21,  /* survey: a complete capture without a good packet; tried after 11 */
     CAROLSEDGE_REFUSED_LOSS_LISTS = 22,     /* loss: N outside 1 to 750, or one of the four lists not N long */
     CAROLSEDGE_REFUSED_PROBABILITY = 23,    /* loss: a probability not within 0 to 1, NaN included; tried after 22 */
-    CAROLSEDGE_REFUSED_GAPS = 24            /* gap runs: above 15 gaps */
+    CAROLSEDGE_REFUSED_GAPS = 24,           /* gap runs: above 15 gaps */
+    CAROLSEDGE_REFUSED_SHELF = 27,          /* shelf: not laid out as one */
+    CAROLSEDGE_REFUSED_SHELF_RECORD = 28    /* shelf: a record is refused by the reader; place: its number */
 };
 
 /* ---- a sample */
@@ -246,6 +248,31 @@ uint32_t carolsedge_most_scenes(uint32_t time, uint32_t pictures, uint64_t *valu
  * piece's bytes behind them stand. Refused: 1, then as above; the piece stands, and *value is 0. */
 uint32_t carolsedge_busiest_luma(uint32_t width, uint32_t height, uint32_t time, uint32_t pictures, uint64_t at,
                                  uint8_t *piece, size_t length, uint64_t *value);
+
+/* ---- a shelf: at most 4,096 records of any editions behind a head of offsets (docs/RULE.md, The shelf) */
+
+enum { CAROLSEDGE_SHELF_RECORDS_MOST = 4096 };
+
+struct carolsedge_shelf {
+    uint64_t records; /* how many there are */
+    uint64_t lost;    /* lost packets of all units of all of them */
+};
+
+struct carolsedge_part {
+    uint64_t start, end; /* the bytes from start up to end are the record */
+};
+CAROLSEDGE_ASSERT(sizeof(struct carolsedge_shelf) == 16 && sizeof(struct carolsedge_part) == 16,
+                  "the figures are 64-bit numbers without gaps");
+
+/* Tests a whole shelf, which has the length given, and every record of it, and gives its figures. Refused: 27, or 28,
+ * whose place is the number of the first record that the reader refuses, from 0. *place is the place, 0 where nothing
+ * is refused; on a refusal *figures stands. */
+uint32_t carolsedge_shelf_open(const uint8_t *shelf, size_t length, struct carolsedge_shelf *figures, uint64_t *place);
+
+/* Tests a whole shelf likewise, and gives the part that is record j, from 0. Refused: 27, 28, then 19 where j is at or
+ * past the number of records, and *part stands. Proved of every slice: a part that is given lies within it. */
+uint32_t carolsedge_shelf_part(const uint8_t *shelf, size_t length, size_t j, struct carolsedge_part *part,
+                               uint64_t *place);
 
 #ifdef __cplusplus
 }

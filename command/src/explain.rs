@@ -17,7 +17,8 @@ NUMBER, of all refusals.
 
 A refused run prints `refused NUMBER PLACE` on standard output. The place counts
 bytes from 0: of 4 to 10 it is where the refusal shows, of 11 and 13 how many
-bytes that side has, of 15 how long a buffer the record needs; otherwise 0.
+bytes that side has, of 15 how long a buffer the record needs, of 28 it is the
+number of a record; otherwise 0.
 
 Exit status: 0 done, 2 wrong words, or standard output cannot be written.
 ";
@@ -42,12 +43,16 @@ const MENDS: &[&str] = &[
     "The file is no record, or was cut short: measure again, or look for another copy.",
     "The file is no record, or one of a later edition: show it with a later program.",
     "The file was altered or cut, or has bytes behind the record: look for another copy.",
-    "Ask for rows from 0 up to, but without, the count in the record's header.",
+    "Ask for rows from 0 up to, but without, the count in the record's header; for records, the count of the shelf.",
     "Give --edition of the rules as 1, 2 or 3, or leave it out: the newest is taken then.",
     "See that a transport stream was captured: plain UDP over IPv4, unencrypted, all bytes of a frame (tcpdump -s 0).",
     "Give 1 to 750 units, and for each a loss of 4 bytes and then a probability of 8: 4 + 12 N bytes in all.",
     "Give probabilities from 0 to 1; what is no number, or was divided by nothing, is none.",
     "Ask for at most 15 gaps: of more, 64 bits do not hold the number of runs.",
+    "Number 25 joins the table with request R-11.",
+    "Number 26 joins the table with request R-12.",
+    "The file is no shelf, or was altered or cut: look for another copy, or make it again of at most 4,096 records.",
+    "The place is that record's number, from 0: look for another copy of the shelf, or make it without that record.",
 ];
 
 const DAMAGED: &str =

@@ -12,6 +12,7 @@ mod measure;
 mod output;
 mod record_file;
 mod sheet;
+mod shelf;
 mod show;
 mod signals;
 mod stop;
@@ -37,6 +38,7 @@ const SUBCOMMANDS: &[Subcommand] = &[
     sheet::SUBCOMMAND,
     loss::SUBCOMMAND,
     gaps::SUBCOMMAND,
+    shelf::SUBCOMMAND,
     explain::SUBCOMMAND,
 ];
 

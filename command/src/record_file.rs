@@ -1,4 +1,5 @@
-//! Writing a record: beside its name first, and put under it only over nothing or a regular file that is no input.
+//! Writing a record or a shelf: beside its name first, and put under it only over nothing or a regular file that is no
+//! input.
 use crate::input::Identity;
 use crate::signals;
 use crate::stop::Stop;
@@ -49,7 +50,7 @@ impl RecordFile {
             return left(named(about.file_type()));
         }
         match self.inputs.iter().find(|(input, _)| *input == Identity::of(&about)) {
-            Some((_, name)) => left(&format!("the same file as {name}, which was to be measured")),
+            Some((_, name)) => left(&format!("the same file as {name}, which is read")),
             None => Ok(Some(about.permissions())),
         }
     }

@@ -80,6 +80,11 @@ impl Words {
         }
     }
 
+    /// All words that are no options.
+    pub fn all(&self) -> &[OsString] {
+        &self.plain
+    }
+
     /// The words that are no options: the `names` by turn, of which the last `free` may be missing.
     pub fn plain(&self, names: &[&str], free: usize) -> Result<Vec<Option<OsString>>, Stop> {
         if let Some(word) = self.plain.get(names.len()) {

@@ -13,7 +13,7 @@ def test():
         meaning, mends = text.splitlines()
         check(len(mends.strip()) > 20 and mends not in told[:-1], "explain %d: %s" % (number, mends))
         told.append(mends)
-    check(number >= 24, "explain knows refusals up to %d" % number)
+    check(number >= 28, "explain knows refusals up to %d" % number)
     expect("hexadecimal", 0, None, [], "explain", "0x10")
     for word in ("0", str(number + 1), "x", "-1", "", "1.0", "4294967297"):
         said = "no such option" if word.startswith("-") else "%s: not 1 to %d" % (word, number)

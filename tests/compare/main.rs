@@ -20,13 +20,16 @@ use std::sync::Mutex;
 use std::thread;
 
 /// Verbs of the independent program that read standard input, each with what makes its inputs.
-const FILTERS: [(&str, &str); 6] = [
+const FILTERS: [(&str, &str); 9] = [
     ("show", "records"),
     ("sheet", "records"),
     ("sheet-into", "records"),
     ("survey", "captures"),
     ("survey-replay", "make-survey"),
     ("loss", "make-loss"),
+    ("rtp", "make-rtp"),
+    ("rtp-into", "make-rtp"),
+    ("shelf", "make-shelf"),
 ];
 
 /// Verbs that take arguments, each with what makes them, an argument a line.

@@ -1,10 +1,11 @@
-/* Functions with one fault each (FAULT, 1 to 18) in the place of the library's own, by the linker's --wrap: the forged
+/* Functions with one fault each (FAULT, 1 to 21) in the place of the library's own, by the linker's --wrap: the forged
  * calls have to notice every one. */
 #include <stddef.h>
 #include <stdint.h>
 
 struct carolsedge_header;
 struct carolsedge_unit;
+struct carolsedge_shelf;
 uint32_t __real_carolsedge_feed_capture(uint64_t *, uint8_t *, uint64_t *, uint64_t *, const uint8_t *, size_t, uint64_t *);
 uint32_t __real_carolsedge_feed_luma(uint64_t *, uint32_t *, uint32_t *, uint8_t *, const uint8_t *, size_t, uint64_t *);
 uint32_t __real_carolsedge_seal(const uint64_t *, const uint8_t *, const uint64_t *, const uint64_t *, const uint64_t *, uint8_t *, size_t, uint64_t *);
@@ -18,6 +19,8 @@ uint32_t __real_carolsedge_read_header(const uint8_t *, size_t, struct carolsedg
 uint32_t __real_carolsedge_read_unit(const uint8_t *, size_t, size_t, struct carolsedge_unit *);
 uint32_t __real_carolsedge_busiest_luma(uint32_t, uint32_t, uint32_t, uint32_t, uint64_t, uint8_t *, size_t,
                                         uint64_t *);
+uint32_t __real_carolsedge_shelf_open(const uint8_t *, size_t, struct carolsedge_shelf *, uint64_t *);
+uint32_t __real_carolsedge_shelf_part(const uint8_t *, size_t, size_t, uint64_t *, uint64_t *);
 
 uint32_t __wrap_carolsedge_feed_capture(uint64_t *walk, uint8_t *kept, uint64_t *numbers, uint64_t *table, const uint8_t *piece, size_t length,
                                         uint64_t *value)
@@ -111,4 +114,23 @@ uint32_t __wrap_carolsedge_gap_runs(uint32_t n, uint64_t *table, size_t length, 
     if (FAULT == 17 && !k && *value < length) /* writes an entry past 14 n */
         table[*value] = 0;
     return FAULT == 18 && k == 24 && length < 225 ? 15 : k; /* tries 15 before 24 */
+}
+
+uint32_t __wrap_carolsedge_shelf_open(const uint8_t *shelf, size_t length, struct carolsedge_shelf *figures,
+                                      uint64_t *place)
+{
+    uint32_t k = __real_carolsedge_shelf_open(shelf, length, figures, place);
+    if (FAULT == 19) /* reads the byte behind a shelf */
+        (void)*(const volatile uint8_t *)(shelf + length);
+    if (FAULT == 20 && k) /* writes to a refused shelf's figures */
+        *(uint64_t *)(void *)figures = 1;
+    return k;
+}
+
+uint32_t __wrap_carolsedge_shelf_part(const uint8_t *shelf, size_t length, size_t j, uint64_t *part, uint64_t *place)
+{
+    uint32_t k = __real_carolsedge_shelf_part(shelf, length, j, part, place);
+    if (FAULT == 21 && !k) /* a part that ends behind the shelf */
+        part[1] = length + 1;
+    return k;
 }

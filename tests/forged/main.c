@@ -4,7 +4,8 @@
  * table's last number, a refusal that wrote to its buffer, and an opening that answers something else than the rule says end the run too.
  *
  * Usage: forged CALLS SEED. Makes so many calls of each function (of sheet, effective_loss, gap_runs and of a survey's
- * a tenth; of replay, which makes several, and of the busiest sample's a twentieth), and prints what they answered.
+ * and the shelf's a tenth; of replay, which makes several, and of the busiest sample's a twentieth), and prints what
+ * they answered.
  */
 #define _GNU_SOURCE
 #include <inttypes.h>
@@ -24,12 +25,13 @@
 #endif
 
 enum { OPEN, FEED_CAPTURE, FEED_LUMA, SEAL, READ_HEADER, READ_UNIT, READ_SCENE, SHEET, REPLAY, OPEN_SURVEY,
-       FEED_SURVEY, ASK_SURVEY, EFFECTIVE_LOSS, MOST_SCENES, BUSIEST_LUMA, GAP_RUNS, FUNCTIONS };
+       FEED_SURVEY, ASK_SURVEY, EFFECTIVE_LOSS, MOST_SCENES, BUSIEST_LUMA, GAP_RUNS, SHELF_OPEN, SHELF_PART,
+       FUNCTIONS };
 static const char *const name[FUNCTIONS] = {"open", "feed_capture", "feed_luma", "seal", "read_header", "read_unit",
                                              "read_scene", "sheet", "replay", "open_survey", "feed_survey",
                                              "ask_survey", "effective_loss", "most_scenes", "busiest_luma",
-                                             "gap_runs"};
-enum { LAST_NUMBER = 24 }; /* of the table of refusals */
+                                             "gap_runs", "shelf_open", "shelf_part"};
+enum { LAST_NUMBER = 28 }; /* of the table of refusals */
 static uint64_t answers[FUNCTIONS][LAST_NUMBER + 1], calls[FUNCTIONS], longest, seed;
 static volatile int under_way;
 static volatile sig_atomic_t ticks;
@@ -216,7 +218,7 @@ static void make_true(int i)
 /* ---- forging */
 
 static struct room walk, kept, numbers, table, luma, sums, bins, picture, out, header, lent, script, pages;
-static struct room survey_walk, survey_kept, counts;
+static struct room survey_walk, survey_kept, counts, shelves;
 
 /* The words of a lent array, by one way of forging. */
 static void forge(uint8_t *p, size_t size, const void *true_words, size_t word, int way)
@@ -484,6 +486,69 @@ static void call_sheet(void)
     check_slack(&pages), check_slack(&out), check_slack(&lent);
 }
 
+/* A shelf of up to 5 of the smaller true records, some with altered words of the head or altered bytes, some cut. */
+enum { SHELVED = 5, SHELF_MOST = 8 + SHELVED * (4 + CAROLSEDGE_RECORD_MOST) };
+static const uint8_t *forge_shelf(size_t *length)
+{
+    static uint8_t made[SHELF_MOST];
+    size_t count = below(SHELVED + 1), n = 8 + 4 * count;
+    for (size_t j = 0; j < count; j++) {
+        size_t i = below(3);
+        put32(made + 8 + 4 * j, (uint32_t)n);
+        memcpy(made + n, true_record[i], true_length[i]);
+        n += true_length[i];
+    }
+    put32(made, (uint32_t)count), put32(made + 4, (uint32_t)n);
+    for (uint64_t k = below(2) ? below(3) : 0; k > 0; k--) {
+        uint8_t *word = made + 4 * below(2 + count);
+        if (below(3) == 0)
+            put32(word, (uint32_t)figure());
+        else if (below(2))
+            word[0] = (uint8_t)(word[0] + (below(2) ? 1 : 255));
+        else
+            made[below(n)] = (uint8_t)figure();
+    }
+    if (below(8) == 0)
+        n = below(2) ? below(n + 1) : below(40);
+    *length = n;
+    return memcpy(lend(&shelves, n), made, n);
+}
+
+/* A shelf, and a record of it: a part lies within; both calls refuse alike, or the second with 19 at or past the count. */
+static void call_shelf(void)
+{
+    size_t length, j = below(3) ? below(SHELVED + 1) : (size_t)figure();
+    const uint8_t *p = forge_shelf(&length);
+    struct carolsedge_shelf *figures = (struct carolsedge_shelf *)(void *)lend(&header, sizeof *figures);
+    struct carolsedge_part *part = (struct carolsedge_part *)(void *)lend(&out, sizeof *part);
+    uint64_t *place = (uint64_t *)(void *)lend(&lent, 8), first;
+    int guarded = below(4) == 0;
+    if (guarded)
+        protect(&shelves, PROT_READ);
+    begin(SHELF_OPEN);
+    uint32_t k = end(carolsedge_shelf_open(p, length, figures, place)), right = k;
+    if (k != CAROLSEDGE_DONE && k != CAROLSEDGE_REFUSED_SHELF && k != CAROLSEDGE_REFUSED_SHELF_RECORD)
+        fail("a refusal that is none of a shelf's");
+    if (k != CAROLSEDGE_DONE && !untouched(at(&header), sizeof *figures))
+        fail("a refused shelf's figures were written");
+    if (k == CAROLSEDGE_REFUSED_SHELF_RECORD ? *place >= SHELVED : *place != 0)
+        fail("a place that is none of a shelf's");
+    if (k == CAROLSEDGE_DONE && j >= figures->records)
+        right = CAROLSEDGE_REFUSED_ROW;
+    first = *place;
+    begin(SHELF_PART);
+    k = end(carolsedge_shelf_part(p, length, j, part, place));
+    if (guarded)
+        protect(&shelves, PROT_READ | PROT_WRITE);
+    if (k != right || *place != first)
+        fail("a record of a shelf that is refused, or that it has not");
+    if (k == CAROLSEDGE_DONE && (part->start >= part->end || part->end > length))
+        fail("a part that is not within its shelf");
+    if (k != CAROLSEDGE_DONE && !untouched(at(&out), sizeof *part))
+        fail("a refused part was written");
+    check_slack(&shelves), check_slack(&header), check_slack(&out), check_slack(&lent);
+}
+
 /* A script of up to 12 calls, now and then wild or cut: whether it has room, and what stands where it has not. */
 static void call_replay(void)
 {
@@ -619,6 +684,8 @@ static void round_of_calls(uint64_t most)
         call_effective_loss();
     if (calls[GAP_RUNS] < most / 10)
         call_gap_runs();
+    if (calls[SHELF_OPEN] < most / 10)
+        call_shelf();
     if (calls[REPLAY] < most / 20)
         call_replay();
     if (calls[FEED_SURVEY] < most / 10)
@@ -646,9 +713,10 @@ int main(int words, char **word)
     counts = room_of(sizeof surveyed->counts);
     make_loss_rooms();
     gap_table = room_of(8 * TABLE_MOST);
+    shelves = room_of(SHELF_MOST);
     while (calls[SEAL] < most || calls[OPEN] < most || calls[READ_HEADER] < most || calls[SHEET] < most / 10 ||
            calls[REPLAY] < most / 20 || calls[FEED_SURVEY] < most / 10 || calls[EFFECTIVE_LOSS] < most / 10 ||
-           calls[GAP_RUNS] < most / 10)
+           calls[GAP_RUNS] < most / 10 || calls[SHELF_OPEN] < most / 10)
         round_of_calls(most);
     for (int f = 0; f < FUNCTIONS; f++) {
         printf("forged: %-14s %" PRIu64 " calls; answers", name[f], calls[f]);

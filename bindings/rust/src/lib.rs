@@ -46,6 +46,7 @@ mod raw;
 mod record;
 mod refusal;
 mod sample;
+mod shelf;
 mod survey;
 
 pub use gaps::gap_runs;
@@ -54,6 +55,7 @@ pub use busiest::{busiest_luma, most_scenes};
 pub use record::{sheet, Header, Record, Scene, Unit};
 pub use refusal::Refusal;
 pub use sample::{Opening, Sample};
+pub use shelf::{shelf_of, shelf_part, Shelf, SHELF_RECORDS_MOST};
 pub use survey::{Most, Survey};
 
 /// The version of this crate, and of the library's header (`CAROLSEDGE_VERSION`).

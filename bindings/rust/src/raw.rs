@@ -115,6 +115,19 @@ extern "C" {
         length: usize,
         value: &mut u64,
     ) -> u32;
+    fn carolsedge_shelf_open(
+        shelf: *const u8,
+        length: usize,
+        totals: &mut [u64; 2],
+        place: &mut u64,
+    ) -> u32;
+    fn carolsedge_shelf_part(
+        shelf: *const u8,
+        length: usize,
+        j: usize,
+        part: &mut [u64; 2],
+        place: &mut u64,
+    ) -> u32;
 }
 
 impl State {
@@ -323,6 +336,24 @@ pub fn busiest_luma(
         )
     };
     (number, value)
+}
+
+/// Records and lost packets of a shelf, or the refusal's number and place.
+pub fn shelf_open(shelf: &[u8]) -> Result<[u64; 2], (u32, u64)> {
+    let (mut totals, mut place) = ([0; 2], 0);
+    // SAFETY: pointer and length are a slice's; the array has the size that the function writes to.
+    let number =
+        unsafe { carolsedge_shelf_open(shelf.as_ptr(), shelf.len(), &mut totals, &mut place) };
+    given(number, totals).map_err(|number| (number, place))
+}
+
+/// Start and end of record j in a shelf, or the refusal's number and place.
+pub fn shelf_part(shelf: &[u8], j: usize) -> Result<[u64; 2], (u32, u64)> {
+    let (mut part, mut place) = ([0; 2], 0);
+    // SAFETY: pointer and length are a slice's; the array has the size that the function writes to.
+    let number =
+        unsafe { carolsedge_shelf_part(shelf.as_ptr(), shelf.len(), j, &mut part, &mut place) };
+    given(number, part).map_err(|number| (number, place))
 }
 
 fn given<T>(number: u32, figures: T) -> Result<T, u32> {

@@ -1,14 +1,16 @@
 use std::error::Error;
 use std::fmt;
 
-/// A call that was refused: the number of documents 01 and 02, 1 to 23, and the place.
+/// A call that was refused: the number of documents 01 and 02, 1 to 28, and the place.
 ///
 /// The place counts bytes from 0. Of 4 to 10 it is where the refusal shows, of 11 and 13 how many bytes that side was
-/// fed, of 15 how long the lent buffer or table has to be (of a table in entries), and of all others 0.
+/// fed, of 15 how long the lent buffer or table has to be (of a table in entries), of 28 the number of the record that
+/// is refused, and of all others 0.
 #[derive(Debug, Clone, Copy, PartialEq, Eq, Hash)]
 pub struct Refusal {
     /// 1 to 3 and 20: opening; 4 to 9: the capture; 10: the luma; 11 to 15: sealing (11: a survey too, 15: a sheet
-    /// and runs of gaps too); 16 to 19: reading; 21: a survey; 22 and 23: losses; 24: runs of gaps.
+    /// and runs of gaps too); 16 to 19: reading (19: a shelf too); 21: a survey; 22 and 23: losses; 24: runs of
+    /// gaps; 27 and 28: a shelf.
     pub number: u32,
     /// Where, or 0 where no place is named.
     pub place: u64,
@@ -36,12 +38,14 @@ impl Refusal {
             16 => "the record has fewer than 64 bytes",
             17 => "the record's edition is one that there is not",
             18 => "the record is not allowed",
-            19 => "the record has no row with that number",
+            19 => "the record has no row, or the shelf no record, with that number",
             20 => "there is no such edition of the rules",
             21 => "the capture has no good packet",
             22 => "the units are not 1 to 750, or the lists of losses are not all so long",
             23 => "a key-frame probability is not within 0 to 1",
             24 => "the gaps of a run are more than 15",
+            27 => "the shelf is not laid out as one",
+            28 => "the shelf holds a record that is refused",
             _ => "a number that is not in the table",
         }
     }
@@ -54,6 +58,7 @@ impl fmt::Display for Refusal {
             4..=10 => write!(f, " (at byte {})", self.place),
             11 | 13 => write!(f, " ({} bytes fed)", self.place),
             15 => write!(f, " ({} needed)", self.place),
+            28 => write!(f, " (record {})", self.place),
             _ => Ok(()),
         }
     }

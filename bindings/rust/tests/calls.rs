@@ -421,6 +421,7 @@ fn a_clone_goes_on_by_itself() {
 #[test]
 fn words() {
     let said: Vec<String> = (1..=24)
+        .chain([27, 28])
         .map(|number| refusal(number, 0).meaning().to_string())
         .collect();
     for (i, words) in said.iter().enumerate() {

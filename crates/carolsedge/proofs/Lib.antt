@@ -5,3 +5,4 @@ pub mod Surveys
 pub mod Unplaced
 pub mod Beside
 pub mod BusiestNumbers
+pub mod Shelf

@@ -3,3 +3,4 @@ pub mod Figures
 pub mod Contract
 pub mod Calls
 pub mod Surveys
+pub mod Shelf

@@ -16,6 +16,7 @@ ghost use Rattle.carolsedge.specs.Numbers.{mostNumber, mostValue, mostCo
 mod busiest;
 mod gaps;
 mod losses;
+mod shelves;
 
 use capture::Numbers;
 use capture_units::Table;
@@ -30,6 +31,8 @@ use rules::SceneRow;
 use rules::SurveyAnswer;
 use rules::UnitAnswer;
 use rules::UnitRow;
+pub use shelves::carolsedge_shelf_open;
+pub use shelves::carolsedge_shelf_part;
 use survey::Counts;
 
 // A refusal's number.

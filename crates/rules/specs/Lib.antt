@@ -25,3 +25,4 @@ pub mod Survey
 pub mod EffectiveLoss
 pub mod Busiest
 pub mod GapRuns
+pub mod Shelf

@@ -11,7 +11,7 @@ pub struct Opening {
 }
 
 // The last number of the table of refusals.
-pub const LAST_NUMBER: u64 = 24;
+pub const LAST_NUMBER: u64 = 28;
 
 // What a call answers: done, with its length, or refused, with document 01's number and the place.
 pub enum Answer {
@@ -88,4 +88,16 @@ pub enum SurveyAnswer {
 pub enum Loss {
     KeyFrame(f64),
     Plain(f64),
+}
+
+// What reading a shelf answers (R-13): how many records it holds and how many cells they lost, or a refusal.
+pub enum ShelfAnswer {
+    Given { records: usize, lost: u64 },
+    Refused { number: u64, place: u64 },
+}
+
+// Where a record starts and ends in its shelf, or a refusal.
+pub enum PartAnswer {
+    Given { start: usize, end: usize },
+    Refused { number: u64, place: u64 },
 }

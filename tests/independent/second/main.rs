@@ -17,9 +17,11 @@ mod record;
 mod records;
 mod recut;
 mod replay;
+mod rtp;
 mod sample;
 mod script;
 mod sheet;
+mod shelf;
 mod survey;
 mod units;
 
@@ -45,12 +47,18 @@ measure-again busiest W H D N > LUMA
 measure-again most D N
 measure-again gaps N
 measure-again gaps-into N ROOM
+measure-again rtp < PACKETS
+measure-again rtp-into ROOM < PACKETS
+measure-again shelf check SHELF
+measure-again shelf take SHELF J > RECORD
 measure-again make SEED KIND > SCRIPT
 measure-again make-survey SEED [limit] > SCRIPT
 measure-again make-loss SEED > LOSSES
 measure-again make-busiest SEED > ARGUMENTS
 measure-again make-gaps SEED > ARGUMENTS
 measure-again make-gaps-into SEED > ARGUMENTS
+measure-again make-rtp SEED > PACKETS
+measure-again make-shelf SEED > SHELF
 measure-again kinds
 measure-again recut SEED < SCRIPT > SCRIPT
 measure-again records SEED > RECORD
@@ -124,13 +132,27 @@ fn run(arguments: &[&str], out: &mut impl Write) -> io::Result<()> {
         ["survey"] => print_survey(io::stdin(), out),
         ["survey", capture] => print_survey(File::open(capture)?, out),
         ["survey-replay"] => replay::replay_survey(script(), out),
+        ["shelf", "check", file] => out.write_all(shelf::check(&std::fs::read(file)?).as_bytes()),
+        ["shelf", "take", file, record] => out.write_all(&shelf::take(&std::fs::read(file)?, number(record)?)),
+        ["recut", seed] => recut::recut(number(seed)?, script(), out),
+        ["bench", ref what @ ..] => bench(what),
+        _ => run_alone(arguments, out),
+    }
+}
+
+/// Runs one of the subcommands that need neither a sample nor a record.
+fn run_alone(arguments: &[&str], out: &mut impl Write) -> io::Result<()> {
+    match *arguments {
         ["loss"] => out.write_all(loss::print(&standard_input(loss::LONGEST_INPUT)?).as_bytes()),
         ["busiest", ref values @ ..] => busiest::write(values, out),
         ["most", display_time, pictures] => print_number(busiest::most(number(display_time)?, number(pictures)?), out),
         ["gaps", gaps] => gaps::print(number(gaps)?, out),
         ["gaps-into", gaps, entries] => gaps::print_call(number(gaps)?, room(entries)?, out),
-        ["recut", seed] => recut::recut(number(seed)?, script(), out),
-        ["bench", ref what @ ..] => bench(what),
+        ["rtp"] => out.write_all(rtp::print(&standard_input(rtp::LONGEST_INPUT)?).as_bytes()),
+        ["rtp-into", bytes] => {
+            let packets = standard_input(rtp::LONGEST_INPUT)?;
+            lent::print_call(out, "rtp", room(bytes)?, |buffer| rtp::write_input(&packets, buffer))
+        }
         _ => run_maker(arguments, out),
     }
 }
@@ -151,6 +173,8 @@ fn run_maker(arguments: &[&str], out: &mut impl Write) -> io::Result<()> {
             let (gaps, more) = (number::<u64>(seed)? % 18, number::<u64>(seed)? / 18 % 5);
             writeln!(out, "{gaps}\n{}", (14 * gaps + more).saturating_sub(1))
         }
+        ["make-rtp", seed] => out.write_all(&make::rtp_input(number(seed)?)),
+        ["make-shelf", seed] => out.write_all(&make::shelf(number(seed)?)),
         ["records", seed] => out.write_all(&records::random_record(number(seed)?)),
         ["captures", seed] => out.write_all(&make::capture_file(number(seed)?)),
         _ => Err(usage()),

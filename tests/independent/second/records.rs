@@ -36,6 +36,12 @@ pub fn random_record(seed: u64) -> Vec<u8> {
     bytes
 }
 
+/// A random record that the reader allows.
+pub fn allowed_record(random: &mut Prng) -> Vec<u8> {
+    let way = if random.once_in(40) { 18 } else { random.pick(&[19, 20, 21, 22, 23]) };
+    random_record(WAYS * (random.next() >> 8) + way)
+}
+
 fn random_parts(random: &mut Prng) -> Parts {
     let (units, scenes) = (random.between(1, 6), random.between(1, 6));
     let units = (0..units).map(|_| random_unit(random)).collect();

@@ -25,6 +25,7 @@ use Rattle.rules.specs.Seal.{sealFault}
 use Rattle.rules.specs.Survey.{noGood, surveyFault}
 use Rattle.rules.specs.Reading.{allowed, readingFault, rowFault, unitFault, sceneFault}
 use Rattle.rules.specs.Busiest.{mostFault, busiestFault}
+use Rattle.rules.specs.Shelf.{recordCount, laidOut, records, refusedAt, firstRefused, shelfFault, partFault}
 
 -- ---- a number in the table, below it and above it
 
@@ -224,3 +225,25 @@ pub busiest : (w h d n : ℕ) → Numbered (busiestFault w h d n)
 unfolding busiestFault
 busiest w h d n =
     of-either (unless (goodSize w h) 1) (mostFault d n) (of-unless (goodSize w h) 1 refl) (most d n)
+
+-- of a shelf
+of-refused : (f : Fault) (j : ℕ) → Numbered (refusedAt f j)
+of-refused none j = tt
+of-refused (fault k p) j = refl
+
+of-records : (j : ℕ) (rs : List (List ℕ)) → Numbered (firstRefused j rs)
+unfolding firstRefused
+of-records j [] = tt
+of-records j (r ∷ rs) =
+    of-either (refusedAt (readingFault r) j) (firstRefused (j + 1) rs) (of-refused (readingFault r) j)
+    (of-records (j + 1) rs)
+
+pub shelf : (s : List ℕ) → Numbered (shelfFault s)
+unfolding shelfFault
+shelf s =
+    of-either (unless (laidOut s) 27) (firstRefused 0 (records s)) (of-unless (laidOut s) 27 refl)
+    (of-records 0 (records s))
+
+pub part : (s : List ℕ) (j : ℕ) → Numbered (partFault s j)
+unfolding partFault
+part s j = of-either (shelfFault s) _ (shelf s) (of-unless (ltb j (recordCount s)) 19 refl)

@@ -5,6 +5,8 @@ mod captures;
 mod films;
 mod limit;
 mod losses;
+mod packets;
+mod shelves;
 mod surveys;
 mod weave;
 
@@ -16,6 +18,8 @@ use std::io::{self, Write};
 pub use busiest::arguments as busiest_arguments;
 pub use limit::make_survey as make_survey_limit;
 pub use losses::input as loss_input;
+pub use packets::input as rtp_input;
+pub use shelves::shelf;
 pub use surveys::{capture_file, make as make_survey};
 use weave::{weave, Cutting, Plan, Side};
 

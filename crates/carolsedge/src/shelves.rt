@@ -1,0 +1,54 @@
+// A shelf (document 02, R-13) as C functions: each hands its memory to the call of `shelf` and splits the answer into
+// numbers.
+ghost use mathlib.Core.Path.{_≡_};
+ghost use Rattle.carolsedge.specs.Shelf.{ShelfOpened, PartTaken};
+use crate::listed_number;
+use rules::PartAnswer;
+use rules::ShelfAnswer;
+
+// Tests a whole shelf, and gives how many records it holds and how many cells they lost. The place of 28 is the number
+// of the first record that the reader refuses; on a refusal the lent array stands as it was.
+#[no_mangle]
+pub extern "C" fn carolsedge_shelf_open(bytes: &[u8], totals: &mut [u64; 2], place: &mut u64) -> u32
+    ensures { λ r. ⌜ ShelfOpened (now (bytes .entry)) (now (totals .entry)) r (now (place .exit))
+        (now (totals .exit)) ⌝ }
+{
+    match shelf::open(bytes) {
+        ShelfAnswer::Given { records, lost } => {
+            *totals = [records as u64, lost];
+            *place = 0;
+            0
+        }
+        ShelfAnswer::Refused {
+            number,
+            place: first,
+        } => {
+            *place = first;
+            listed_number(number)
+        }
+    }
+}
+
+// Tests a whole shelf, and gives where record j starts and ends.
+#[no_mangle]
+pub extern "C" fn carolsedge_shelf_part(
+    bytes: &[u8],
+    j: usize,
+    part: &mut [u64; 2],
+    place: &mut u64,
+) -> u32
+    ensures { λ r. ⌜ PartTaken (now (bytes .entry)) j (now (part .entry)) r (now (place .exit))
+        (now (part .exit)) ⌝ }
+{
+    match shelf::part(bytes, j) {
+        PartAnswer::Given { start, end } => {
+            *part = [start as u64, end as u64];
+            *place = 0;
+            0
+        }
+        PartAnswer::Refused { number, place: at } => {
+            *place = at;
+            listed_number(number)
+        }
+    }
+}
