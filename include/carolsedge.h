@@ -42,7 +42,7 @@ enum {
     CAROLSEDGE_REFUSED_UNITS = 9,           /* a 751st unit begins; place: byte 3 of the packet that begins it */
     CAROLSEDGE_REFUSED_LUMA_LENGTH = 10,    /* a byte of the luma past 750 pictures; place: that byte */
     CAROLSEDGE_REFUSED_CAPTURE_INSIDE = 11, /* seal, survey: it ends inside its header or a frame; place: its bytes fed */
-    CAROLSEDGE_REFUSED_NO_PACKET = 12,      /* seal: no packet of PID */
+    CAROLSEDGE_REFUSED_NO_PACKET = 12,      /* seal: no packet of PID, or damaged ones alone */
     CAROLSEDGE_REFUSED_LUMA_INSIDE = 13,    /* seal: the luma ends inside a picture; place: its bytes fed */
     CAROLSEDGE_REFUSED_NO_PICTURE = 14,     /* seal: no picture */
     CAROLSEDGE_REFUSED_BUFFER = 15,         /* what is lent to be written is too short; place: the length needed */
@@ -62,7 +62,7 @@ enum {
 /* ---- a sample */
 
 enum {
-    CAROLSEDGE_NEWEST_EDITION = 3, /* the editions of the rules are 1 to this one (docs/RULE.md, 1) */
+    CAROLSEDGE_NEWEST_EDITION = 4, /* the editions of the rules are 1 to this one (docs/RULE.md, 1) */
     CAROLSEDGE_WALK_WORDS = 16,
     CAROLSEDGE_COLLECTED_BYTES = 64,
     CAROLSEDGE_NUMBERS = 16,
@@ -100,7 +100,7 @@ uint32_t carolsedge_seal(const uint64_t *walk, const uint8_t *kept, const uint64
                          const uint64_t *luma, uint8_t *buffer, size_t length, uint64_t *value);
 
 /* Opens a sample: width W and height H of a picture, its display time d in microseconds, packet identifier PID, and
- * the edition of the rules, 1 to 3, that it is measured by. Refused: 1, 2, 3 or 20, which its feeds and seals then
+ * the edition of the rules, 1 to 4, that it is measured by. Refused: 1, 2, 3 or 20, which its feeds and seals then
  * repeat. */
 static inline uint32_t carolsedge_sample_open(struct carolsedge_sample *s, uint32_t width, uint32_t height, uint32_t time,
                                               uint32_t pid, uint32_t edition)
@@ -196,6 +196,7 @@ struct carolsedge_unit {
     uint64_t least, greatest; /* times of its packets, in microseconds */
     uint64_t size;            /* 184 for each packet */
     uint64_t packets, lost;
+    uint64_t damaged;         /* packets marked as damaged, which count nowhere else; 0 in editions 1 to 3 */
 };
 
 struct carolsedge_scene {
@@ -204,7 +205,8 @@ struct carolsedge_scene {
     uint64_t score, peak;       /* sum and greatest of the cut scores */
     uint64_t change;            /* sum of the changes */
 };
-CAROLSEDGE_ASSERT(sizeof(struct carolsedge_header) == 96 && sizeof(struct carolsedge_unit) == 40 && sizeof(struct carolsedge_scene) == 56,
+CAROLSEDGE_ASSERT(sizeof(struct carolsedge_header) == 96 && sizeof(struct carolsedge_unit) == 48 &&
+                      sizeof(struct carolsedge_scene) == 56,
                   "the figures are 64-bit numbers without gaps");
 
 /* Tests a whole record, which has the length given, and gives the figures of its header. Refused: 16, 17 or 18, and *header stands. */

@@ -44,7 +44,7 @@ const MENDS: &[&str] = &[
     "The file is no record, or one of a later edition: show it with a later program.",
     "The file was altered or cut, or has bytes behind the record: look for another copy.",
     "Ask for rows from 0 up to, but without, the count in the record's header; for records, the count of the shelf.",
-    "Give --edition of the rules as 1, 2 or 3, or leave it out: the newest is taken then.",
+    "Give --edition of the rules as 1 to 4, or leave it out: the newest is taken then.",
     "See that a transport stream was captured: plain UDP over IPv4, unencrypted, all bytes of a frame (tcpdump -s 0).",
     "Give 1 to 750 units, and for each a loss of 4 bytes and then a probability of 8: 4 + 12 N bytes in all.",
     "Give probabilities from 0 to 1; what is no number, or was divided by nothing, is none.",

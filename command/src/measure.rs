@@ -36,7 +36,7 @@ Measures a capture and its pictures into a record. Prints `sealed LENGTH`, or
   --size WxH   width and height of a picture
   --time US    microseconds that a picture is shown
   --rate N[/D] pictures a second, in place of --time: 25, 30000/1001
-  --edition N  the edition of the rules, 1 to 3; the newest if it is not given
+  --edition N  the edition of the rules, 1 to 4; the newest if it is not given
 
 Numbers may also be hexadecimal, as 0x100. Only 8-bit luma is measured; of a
 y4m file's pictures the luma plane is taken, and its rate unless one is given.

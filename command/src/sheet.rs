@@ -17,8 +17,9 @@ usage: carolsedge sheet RECORD
 Prints a record, a file or - for standard input, as a sheet for a printer: pages
 of 60 lines of 100 columns. The first line has W, H, the number of pictures and
 the index's bits; a line with U is a unit (number, least and greatest time,
-size, packets, lost), one with S a scene (number, first picture, pictures,
-repeated, longest run, sum of cut scores, greatest, sum of changes).
+size, packets, lost, and in edition 4 damaged ones), one with S a scene (number,
+first picture, pictures, repeated, longest run, sum of cut scores, greatest, sum
+of changes).
 
   carolsedge sheet seat.record | lp
 

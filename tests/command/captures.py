@@ -69,6 +69,14 @@ def named():
     expect("another identifier", 1, b"refused 12 0\n", said, *words)
     write("capture.pcap", capture(good(1) + [carrying(packets(2, sync=0))]))
     expect("bad packets", 0, b"sealed 128\n", ["2 bad packets", "warning: 2 packets without 0x47"], *words)
+    broken = carrying(packets(3, damaged=True))
+    write("capture.pcap", capture([broken] + good(1) + [carrying(packets(2, sync=0)), broken]))
+    said = ["5 bad packets", "warning: 2 packets without 0x47", "warning: 3 packets marked as damaged before the"]
+    expect("damaged packets", 0, b"sealed 128\n", said, *words)
+    write("capture.pcap", capture([broken] * 2))
+    said = ["The receiver marked 6 packets of identifier 256 as damaged"]
+    got = expect("damaged packets alone", 1, b"refused 12 0\n", said, *words)
+    check("--pid" not in got[2], "damaged packets alone: a hint about the identifier")
     whole = capture(good(1))
     for name, data, line, said in (
         ("big-endian", b"\xa1\xb2\xc3\xd4" + whole[4:], b"refused 5 3\n", "editcap -F pcap"),

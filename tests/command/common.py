@@ -83,7 +83,7 @@ def stream(name, ending):
     return os.path.join(STREAMS, name + ending)
 
 
-NEWEST = 3  # edition of the rules
+NEWEST = 4  # edition of the rules
 
 
 def proved(width, height, time, pid, capture, luma, edition=NEWEST):
@@ -106,11 +106,12 @@ def same_record(name, record, made="record"):
 PCAP = struct.pack("<IHHiIII", 0xA1B2C3D4, 2, 4, 0, 0, 65535, 1)
 
 
-def packets(n, pid=256, counter=0, sync=0x47):
-    """Transport packets, the first with a start mark."""
+def packets(n, pid=256, counter=0, sync=0x47, damaged=False):
+    """Transport packets, the first with a start mark; marked as damaged or not."""
     all = b""
     for i in range(n):
-        head = bytes([sync, (0x40 if i == 0 else 0) | pid >> 8, pid & 255, 0x10 | (counter + i) % 16])
+        marks = (0x80 if damaged else 0) | (0x40 if i == 0 else 0)
+        head = bytes([sync, marks | pid >> 8, pid & 255, 0x10 | (counter + i) % 16])
         all += head + bytes(184)
     return all
 

@@ -1,6 +1,6 @@
 # sheet: the pages of the proved program, byte for byte, and its refusals with their exit status.
 import random
-from common import counted, expect, proved, run, stream, write
+from common import NEWEST, counted, expect, proved, run, stream, write
 from show import made
 
 
@@ -15,7 +15,7 @@ def test():
     record = proved("64", "48", "40000", "256", stream("clip", ".pcap"), stream("clip", ".y"))[0]
     same("clip", record)
     for seed in range(20):
-        same("seed %d" % seed, made(random.Random(seed)))
+        same("seed %d" % seed, made(random.Random(seed), edition=1 + seed % NEWEST))
     for name, data, number in (
         ("63 bytes", record[:63], 16),
         ("another edition", b"\x09" + record[1:], 17),

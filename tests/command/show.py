@@ -8,7 +8,8 @@ import random
 import struct
 from common import NEWEST, check, counted, expect, proved, read, run, stream, write
 
-UNIT = ["least", "greatest", "size", "packets", "lost"]
+UNIT = ["least", "greatest", "size", "packets", "lost"]  # as the lines have them
+DAMAGED = 4  # the edition from which on damaged packets are known
 SCENE = ["first", "pictures", "repeated", "longest", "score", "peak", "change"]
 SAMPLE = ["width", "height", "time", "pid", "pictures", "frames", "skipped", "bad"]
 
@@ -24,7 +25,8 @@ def made(pick, bits=None, edition=1):
     for _ in range(units):
         times = sorted(pick.getrandbits(pick.choice((20, 51, 64))) for _ in range(2))
         cells = pick.randint(1, (2**32 - 1) // 184)
-        out += struct.pack("<QQ4I", *times, 184 * cells, cells, pick.getrandbits(32), 0)
+        damaged = pick.getrandbits(32) if edition >= DAMAGED else 0
+        out += struct.pack("<QQ4I", *times, 184 * cells, cells, pick.getrandbits(32), damaged)
     for a, b in zip(cuts, cuts[1:]):
         out += struct.pack("<8I", a, b - a, *(pick.getrandbits(32) for _ in range(5)), 0)
     return out
@@ -51,7 +53,8 @@ def same_json(name, text, sample, unit, scene):
 
 def same_csv(name, text, sample, unit, scene):
     rows = list(csv.reader(io.StringIO(text.decode())))
-    kinds = ("sample", ["edition"] + SAMPLE + ["index_bits"], [sample]), ("unit", UNIT, unit), ("scene", SCENE, scene)
+    kinds = [("sample", ["edition"] + SAMPLE + ["index_bits"], [sample])]
+    kinds += [("unit", UNIT + ["damaged"], unit), ("scene", SCENE, scene)]
     for kind, names, want in kinds:
         heading, *found = [row for row in rows if row[0] == kind]
         check(all(len(row) == len(heading) for row in found), name + ": CSV rows of another length")
@@ -72,7 +75,8 @@ def on_page(name, text, sample, unit, scene):
     for j, row in enumerate(unit):
         words = lines[at + j].replace(",", "").split()
         seconds = ["%d.%06d" % divmod(t, 10**6) for t in (row["least"] - first, row["greatest"] - row["least"])]
-        wanted = [str(j), *seconds, *(str(row[key]) for key in UNIT[2:])]
+        also = ["damaged"] if sample["edition"] >= DAMAGED else []
+        wanted = [str(j), *seconds, *(str(row[key]) for key in UNIT[2:] + also)]
         check(words[:1] + words[3:] == wanted, "%s: page: %s" % (name, words))
         if row["least"] < 2**51:
             date = datetime.datetime(1970, 1, 1) + datetime.timedelta(microseconds=row["least"])
@@ -88,8 +92,9 @@ def every_form(name, record):
     lines = run(program="show", stdin=record)[1]
     expect(name, 0, lines, [], "show", "--lines", "record")
     expect(name, 0, lines, [], "show", "-", "--lines", stdin=record)
-    sample, *rows = figures(lines)
-    told = dict(sample, edition=record[0]), *rows
+    sample, unit, scene = figures(lines)
+    unit = [dict(row, damaged=struct.unpack_from("<I", record, 64 + 32 * j + 28)[0]) for j, row in enumerate(unit)]
+    told = dict(sample, edition=record[0]), unit, scene
     same_json(name, expect(name, 0, None, [], "show", "record", "--json")[1], *told)
     same_csv(name, expect(name, 0, None, [], "show", "record", "--csv")[1], *told)
     on_page(name, expect(name, 0, None, [], "show", "record")[1], *told)

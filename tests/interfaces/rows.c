@@ -51,11 +51,22 @@ int main(void)
         return 4;
     if (carolsedge_read_unit(shown, 128, 0, &u) != CAROLSEDGE_DONE)
         return 5;
-    if (u.least != 10000005 || u.greatest != 10000005 || u.size != 184 || u.packets != 1 || u.lost != 0)
+    if (u.least != 10000005 || u.greatest != 10000005 || u.size != 184 || u.packets != 1 || u.lost || u.damaged)
         return 5;
     if (carolsedge_read_scene(shown, 128, 0, &s) != CAROLSEDGE_DONE)
         return 6;
     if (s.first != 0 || s.pictures != 2 || s.repeated != 1 || s.longest != 1 || s.score != 0)
         return 6;
+
+    /* a unit's word 28 is let through in edition 4 alone, a scene's never */
+    r[0] = 3;
+    if (!both(r, 128, 0, 18))
+        return 7;
+    r[0] = 4;
+    if (carolsedge_read_unit(r, 128, 0, &u) != CAROLSEDGE_DONE || u.lost != 0 || u.damaged != 1)
+        return 7;
+    r[92] = 0, r[124] = 1;
+    if (!both(r, 128, 0, 18))
+        return 7;
     return 0;
 }

@@ -62,7 +62,7 @@ pub use survey::{Most, Survey};
 pub const VERSION: &str = env!("CARGO_PKG_VERSION");
 
 /// The newest edition of the rules (`docs/RULE.md`, 1). The editions are 1 to this one.
-pub const NEWEST_EDITION: u32 = 3;
+pub const NEWEST_EDITION: u32 = 4;
 
 /// No record is longer: 64 bytes, and 32 for each of 750 units and 250 scenes.
 pub const RECORD_MOST: usize = 32_064;

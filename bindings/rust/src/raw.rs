@@ -22,7 +22,7 @@ pub struct SurveyState {
 }
 
 pub type Figures = [u64; 12];
-pub type UnitFigures = [u64; 5];
+pub type UnitFigures = [u64; 6];
 pub type SceneFigures = [u64; 7];
 
 extern "C" {
@@ -274,7 +274,7 @@ pub fn read_header(record: &[u8]) -> Result<Figures, u32> {
 
 /// Unit row j, or the refusal's number.
 pub fn read_unit(record: &[u8], j: usize) -> Result<UnitFigures, u32> {
-    let mut row = [0; 5];
+    let mut row = [0; 6];
     // SAFETY: pointer and length are a slice's; the array has the size that the function writes to.
     let number = unsafe { carolsedge_read_unit(record.as_ptr(), record.len(), j, &mut row) };
     given(number, row)

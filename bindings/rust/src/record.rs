@@ -43,6 +43,8 @@ pub struct Unit {
     pub packets: u32,
     /// Packets that the gaps of the counter say are missing.
     pub lost: u32,
+    /// Packets that are marked as damaged, which count nowhere else: 0 in editions 1 to 3.
+    pub damaged: u32,
 }
 
 /// A row of the scenes.
@@ -100,7 +102,7 @@ impl<'a> Record<'a> {
 
     /// Unit row j, from 0, or refusal 19. The record is tested again.
     pub fn unit(&self, j: usize) -> Result<Unit, Refusal> {
-        let [least, greatest, size, packets, lost] =
+        let [least, greatest, size, packets, lost, damaged] =
             raw::read_unit(self.bytes, j).map_err(unplaced)?;
         Ok(Unit {
             least,
@@ -108,6 +110,7 @@ impl<'a> Record<'a> {
             size: size as u32,
             packets: packets as u32,
             lost: lost as u32,
+            damaged: damaged as u32,
         })
     }
 

@@ -103,6 +103,7 @@ fn worked_sample() {
         size: 184,
         packets: 1,
         lost: 0,
+        damaged: 0,
     };
     let scene = Scene {
         first: 0,
@@ -238,7 +239,7 @@ fn openings() {
     }
 }
 
-// A gap of 5 at a cell with a splice mark, and one of 3 behind it: edition 1 counts both, 2 and 3 the later one alone.
+// A gap of 5 at a cell with a splice mark, and one of 3 behind it: edition 1 counts both, 2 to 4 the later one alone.
 #[test]
 fn editions() {
     let mut spliced = packet(256, false, 5);
@@ -249,6 +250,7 @@ fn editions() {
         (spliced, 1, 4 + 2),
         (spliced, 2, 2),
         (spliced, 3, 2),
+        (spliced, 4, 2),
         (unmarked, 2, 4 + 2),
     ] {
         let cells = [packet(256, true, 0), cell, packet(256, false, 8)];
@@ -268,6 +270,71 @@ fn editions() {
     }
 }
 
+// A cell, marked as damaged.
+fn broken(pid: u16, start: bool, counter: u8) -> [u8; 188] {
+    let mut cell = packet(pid, start, counter);
+    cell[1] |= 0x80;
+    cell
+}
+
+// A damaged start mark before the first unit, then counters 3 and 5 with a damaged start mark between, whose counter
+// is another: editions 1 to 3 trust it; 4 counts the first as a bad cell and the other in the unit's word 28 alone.
+#[test]
+fn damaged() {
+    let first = [broken(256, true, 9), packet(256, false, 3)];
+    let later = [broken(256, true, 12), packet(256, false, 5)];
+    let frames = [
+        frame(10, 5, &carrying(&first)),
+        frame(9, 0, &carrying(&later[..1])),
+        frame(11, 0, &carrying(&later[1..])),
+    ]
+    .concat();
+    let capture = [file_header(), frames].concat();
+    let measured = |edition| {
+        let mut sample = Sample::open(Opening { edition, ..BLACK }).unwrap();
+        sample.feed_capture(&capture).unwrap();
+        sample.feed_luma(&[0; 2 * PICTURE]).unwrap();
+        sealed(&sample).unwrap()
+    };
+    let unit = Unit {
+        least: 10_000_005,
+        greatest: 11_000_000,
+        size: 2 * 184,
+        packets: 2,
+        lost: 1,
+        damaged: 1,
+    };
+    let bytes = measured(4);
+    let record = Record::read(&bytes).unwrap();
+    assert_eq!(record.units().collect::<Vec<_>>(), [unit]);
+    assert_eq!(record.header().bad, 1);
+    // its sheet has a field more, and in another edition word 28 is not let through
+    let mut page = [0; 6060];
+    assert_eq!(sheet(&bytes, &mut page), Ok(6060));
+    assert_eq!(page[101 + 87..101 + 100], *b"          1  ");
+    let mut other = bytes.clone();
+    other[0] = 3;
+    assert_eq!(Record::read(&other).map(|_| ()), Err(refusal(18, 0)));
+    for edition in 1..4 {
+        let bytes = measured(edition);
+        let record = Record::read(&bytes).unwrap();
+        let rows: Vec<_> = record
+            .units()
+            .map(|u| (u.packets, u.lost, u.damaged))
+            .collect();
+        assert_eq!(rows, [(2, 9, 0), (2, 8 + 8, 0)], "edition {edition}");
+        assert_eq!(record.header().bad, 0);
+        assert_eq!(sheet(&bytes, &mut page), Ok(6060));
+        assert_eq!(page[101 + 87..101 + 100], *b"             ");
+    }
+    // damaged cells alone begin no unit
+    let mut sample = Sample::open(Opening { edition: 4, ..BLACK }).unwrap();
+    sample
+        .feed_capture(&[file_header(), frame(10, 5, &carrying(&first[..1]))].concat())
+        .unwrap();
+    assert_eq!(sealed(&sample), Err(refusal(12, 0)));
+}
+
 // Pictures of 16 by 32: of the second four pixels are higher by 1 and four lower, so that 100 times the deviation is
 // 12.5, a tie; of the third every fourth pixel is higher by 2 (e 0 0 0 2), and it is 86.60.
 #[test]
@@ -284,7 +351,7 @@ fn changes() {
     for pixel in luma[1024..].iter_mut().step_by(4) {
         *pixel += 2;
     }
-    for (edition, change) in [(1, 12 + 86), (2, 12 + 86), (3, 13 + 87)] {
+    for (edition, change) in [(1, 12 + 86), (2, 12 + 86), (3, 13 + 87), (4, 13 + 87)] {
         let opening = Opening {
             width: 16,
             height: 32,
@@ -442,7 +509,7 @@ fn words() {
     let error: Box<dyn std::error::Error> = refusal(12, 0).into();
     assert_eq!(
         error.to_string(),
-        "refused 12: the capture has no packet with the identifier"
+        "refused 12: the capture has no packet with the identifier, or damaged ones alone"
     );
 }
 
@@ -470,8 +537,7 @@ fn surveys() {
     let good = |pid| packet(pid, false, 0);
     let mut bad = good(256);
     bad[0] = 0x46;
-    let mut damaged = good(256);
-    damaged[1] |= 0x80;
+    let damaged = broken(256, false, 0);
     let most = |pid, packets| Ok(Most { pid, packets });
     assert_eq!(
         survey(&capture(&[good(257), good(256), good(257)])),
@@ -482,8 +548,9 @@ fn surveys() {
     assert_eq!(survey(&capture(&[bad, bad, good(300)])), most(300, 1));
     assert_eq!(
         survey(&capture(&[damaged, damaged, good(300)])),
-        most(256, 2)
+        most(300, 1)
     );
+    assert_eq!(survey(&capture(&[damaged])), Err(refusal(21, 0)));
     assert_eq!(survey(&capture(&[bad])), Err(refusal(21, 0)));
     assert_eq!(survey(&file_header()), Err(refusal(21, 0)));
     assert_eq!(survey(&[]), Err(refusal(11, 0)));

@@ -21,9 +21,14 @@ pub fn sealed(header: &Header, measured: &Measured) {
         say(&format!("warning: {} of {frames} skipped: {}\n", grouped(skipped.into()), reasons(&measured.walk)));
         tell(&mends(&measured.walk));
     }
-    if bad > 0 {
-        let bad = count(bad.into(), "packet");
+    let without = measured.walk.bad();
+    if without > 0 {
+        let bad = count(without, "packet");
         say(&format!("warning: {bad} without 0x47 at the beginning: damaged, or no transport stream\n"));
+    }
+    if u64::from(bad) > without {
+        let early = count(u64::from(bad) - without, "packet");
+        say(&format!("warning: {early} marked as damaged before the first unit\n"));
     }
     for doubt in &measured.doubts {
         say(&format!("warning: {doubt}\n"));
@@ -94,6 +99,10 @@ fn no_packet(pid: u32, walk: &Walk) -> Vec<String> {
         return vec![format!(
             "All {bad} in {frames} are bad: none begins with 0x47, so this is no transport stream."
         )];
+    }
+    if let Some((_, all)) = identifiers.iter().find(|(of, _)| *of == pid as usize) {
+        let all = count(*all, "packet");
+        return vec![format!("The receiver marked {all} of identifier {pid} as damaged, and there is no other of it.")];
     }
     let most = identifiers.iter().take(6).map(|(of, n)| format!("{of} ({})", count(*n, "packet")));
     let most = most.collect::<Vec<_>>().join(", ");

@@ -40,17 +40,23 @@ fn units(record: &Record) -> String {
     let first = record.units().map(|unit| unit.least).min().unwrap_or(0);
     let packets = record.units().map(|unit| u64::from(unit.packets)).sum();
     let lost: u64 = record.units().map(|unit| u64::from(unit.lost)).sum();
+    let damaged: u64 = record.units().map(|unit| u64::from(unit.damaged)).sum();
+    // Damaged packets are known from edition 4 on.
+    let known = record.header().edition >= 4;
+    let also = if known { format!(", {} damaged", grouped(damaged)) } else { String::new() };
     let mut text = format!(
-        "\nUnits: {}, {}, {} lost (counted modulo 16: there may be more)\n",
+        "\nUnits: {}, {}, {} lost (counted modulo 16: there may be more){also}\n",
         grouped(record.units().len() as u64),
         count(packets, "packet"),
         grouped(lost)
     );
-    text += "   No.  first packet (UTC)          after s     lasts s      bytes packets  lost\n";
+    text += "   No.  first packet (UTC)          after s     lasts s      bytes packets  lost";
+    text += if known { " damaged\n" } else { "\n" };
     for (j, u) in record.units().enumerate() {
         let (after, lasts) = (seconds(u.least - first), seconds(u.greatest - u.least));
         let (size, packets, lost) = (grouped(u.size.into()), grouped(u.packets.into()), grouped(u.lost.into()));
-        text += &format!("{j:6}  {} {after:>11} {lasts:>11} {size:>10} {packets:>7} {lost:>5}\n", date(u.least));
+        text += &format!("{j:6}  {} {after:>11} {lasts:>11} {size:>10} {packets:>7} {lost:>5}", date(u.least));
+        text += &if known { format!(" {:>7}\n", grouped(u.damaged.into())) } else { "\n".into() };
     }
     text
 }

@@ -2,7 +2,7 @@
 use carolsedge::{Header, Record, Scene, Unit};
 
 const SAMPLE: [&str; 9] = ["width", "height", "time", "pid", "pictures", "frames", "skipped", "bad", "index_bits"];
-const UNIT: [&str; 5] = ["least", "greatest", "size", "packets", "lost"];
+const UNIT: [&str; 6] = ["least", "greatest", "size", "packets", "lost", "damaged"];
 const SCENE: [&str; 7] = ["first", "pictures", "repeated", "longest", "score", "peak", "change"];
 
 /// The sample's figures but the index.
@@ -10,8 +10,8 @@ fn sample(h: &Header) -> [u32; 8] {
     [h.width, h.height, h.time, h.pid, h.pictures, h.frames, h.skipped, h.bad]
 }
 
-fn unit(u: Unit) -> [u64; 5] {
-    [u.least, u.greatest, u.size.into(), u.packets.into(), u.lost.into()]
+fn unit(u: Unit) -> [u64; 6] {
+    [u.least, u.greatest, u.size.into(), u.packets.into(), u.lost.into(), u.damaged.into()]
 }
 
 fn scene(s: Scene) -> [u64; 7] {
@@ -33,7 +33,7 @@ pub fn lines(record: &Record) -> String {
     let h = record.header();
     let mut text = format!("sample {} {}\n", joined(&sample(&h), " "), bits(&h));
     for (j, row) in record.units().map(unit).enumerate() {
-        text += &format!("unit {j} {}\n", joined(&row, " "));
+        text += &format!("unit {j} {}\n", joined(&row[..5], " "));
     }
     for (j, row) in record.scenes().map(scene).enumerate() {
         text += &format!("scene {j} {}\n", joined(&row, " "));

@@ -7,7 +7,6 @@ use mathlib.Core.Bool.{Bool}
 use lib.ListN.{length}
 use borrow.Author.Tests.{eq-eqb, ne-eqb}
 use Rattle.rules.specs.declared.Opening.{Opening}
-use Rattle.rules.specs.Editions.{heedsSplices}
 use Rattle.rules.specs.Capture.{units, frameCount, skippedCount, tooManyUnits, captureInside}
 use Rattle.rules.proofs.Laws.Clear.{none-both}
 use Rattle.rules.proofs.Laws.Bounds.{frame-count-few, skipped-few, bad-few}
@@ -18,7 +17,7 @@ use Rattle.capture_walk.specs.State as walk
 use Rattle.capture_walk.specs.Contract.{Asks}
 use Rattle.capture_walk.proofs.Use.{says-fed, says-clear, says-none, says-frames, says-skipped, clear-long, whole-few}
 use Rattle.capture_walk.proofs.Format.{capture-format}
-use Rattle.capture_units.specs.Units.{isCell, ofPid, unitsIn}
+use Rattle.capture_units.specs.Units.{ofPid, unitsIn}
 use Rattle.capture_units.proofs.Steps.{totals-exact}
 use Rattle.capture_units.proofs.Laws.{units-cells, bad-all, pid-few}
 use Rattle.capture_counts.specs.declared.Tally.{Tally}
@@ -34,10 +33,10 @@ module _ {kept table : List ℕ} {w : Walk} {t : Tally} {o : Opening} {joined : 
       let a = frame-count-few joined in
       let b = skipped-few joined in
       let c = bad-few o joined in
-      let d = pid-few (heedsSplices (o .edition)) (o .pid) (wholeCells joined) in
+      let d = pid-few (o .edition) (o .pid) (wholeCells joined) in
       let d′ = whole-few joined in
       let k = v .counts .table in
-      let few : length (ofPid (heedsSplices (o .edition)) (o .pid) (wholeCells joined)) < 2 ^ 24 = omega arith in
+      let few : length (ofPid (o .edition) (o .pid) (wholeCells joined)) < 2 ^ 24 = omega arith in
       let u = units-cells o joined in
       record {
         good = v .good;

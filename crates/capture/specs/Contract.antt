@@ -9,7 +9,6 @@ use Rattle.rules.specs.declared.Opening.{Opening}
 use Rattle.rules.specs.declared.Answer.{Answer}
 use Rattle.rules.specs.Bytes.{pick, total}
 use Rattle.rules.specs.Refusals.{Fault, none, fault, _orElse_}
-use Rattle.rules.specs.Editions.{heedsSplices}
 use Rattle.rules.specs.Opening.{openingFault}
 use Rattle.rules.specs.Capture as rule
 use Rattle.rules.specs.Capture.{frameCount, skippedCount, badCount, captureFault, captureInside}
@@ -60,8 +59,8 @@ pub record Figures (rows : List ℕ) (o : Opening) (joined : List ℕ) (r : Summ
   pub lost : r .lost ≡ total (map (λ u. u .lost) (rule.units o joined))
   -- the table of units, for whoever reads its rows
   pub beside : Units
-  pub table : table.Stands rows beside (ofPid (heedsSplices (o .edition)) (o .pid) (wholeCells joined))
-  pub few : length (ofPid (heedsSplices (o .edition)) (o .pid) (wholeCells joined)) < 2 ^ 24
+  pub table : table.Stands rows beside (ofPid (o .edition) (o .pid) (wholeCells joined))
+  pub few : length (ofPid (o .edition) (o .pid) (wholeCells joined)) < 2 ^ 24
 
 pub record SumOf (rows : List ℕ) (o : Opening) (joined : List ℕ) (r : Summary) : Type 0 where
   pub refusal : openingFault o orElse captureFault o joined ≡ standing (r .number) (r .place)

@@ -5,7 +5,6 @@ use mathlib.Core.List.{List}
 use lib.ListN.{length, getD}
 use Rattle.rules.specs.declared.Opening.{Opening}
 use Rattle.rules.specs.Refusals.{none, fault, _orElse_}
-use Rattle.rules.specs.Editions.{heedsSplices}
 use Rattle.rules.specs.Opening.{openingFault}
 use Rattle.rules.specs.Capture.{captureFault}
 use Rattle.capture_walk.specs.declared.types.Walk.{Walk}
@@ -36,7 +35,7 @@ loaded w =
 pub record Live (table : List ℕ) (t : Tally) (o : Opening) (joined : List ℕ) : Type 0 where
   pub good : openingFault o ≡ none
   pub clear : captureFault o joined ≡ none
-  pub counts : Counts table t (heedsSplices (o .edition)) (o .pid) (wholeCells joined)
+  pub counts : Counts table t (o .edition) (o .pid) (wholeCells joined)
 
 -- the table and the numbers stand for the opening o and the joined bytes: a refusal stands, the opening's or the first that the bytes show; or none does
 pub data Counting (table : List ℕ) (t : Tally) (o : Opening) (joined : List ℕ) : Type 0 where

@@ -3,154 +3,291 @@ use Prim.Native.Nat.{ℕ, suc, zero, _+_, _*_, _%_, _^_, _-_, _<_, _≤_}
 use native.Mathlib.Omega.{arith}
 use mathlib.Core.Path.{_≡_, refl, sym, ap, subst, _∙_}
 use mathlib.Core.List.{List, [], _∷_, _++_, append-nil, append-assoc, map}
-use mathlib.Core.Bool.{Bool, true, false, not, _&&_, true≢false}
+use mathlib.Core.Bool.{Bool, true, false, not, _&&_, true≢false, false≢true}
 use lib.ListN.{length, drop, length-append, length-drop}
 use lib.Seq.{drop-drop}
 use lib.Dec.{ltb, eqb}
+use borrow.Author.Tests.{eq-eqb, eqb-true}
 use Rattle.rules.specs.Bytes.{pick, count, only}
 use Rattle.rules.specs.Refusals.{Fault, none, fault}
-use Rattle.rules.specs.Editions.{heedsSplices}
+use Rattle.rules.specs.Packets.{isBad, isDamaged, packetsFrom}
 use Rattle.rules.specs.Units as rule
 use Rattle.rules.specs.Capture.{beginsAt}
-use Rattle.rules.proofs.Laws.Lists.{only-append, count-append, count-few}
-use Rattle.capture_cells.specs.declared.Cell.{Cell}
-use Rattle.capture_cells.specs.Cells.{cellIn}
-use Rattle.capture_walk.specs.Format.{cellsFrom}
-use Rattle.rules.specs.Packets.{packetsFrom}
+use Rattle.rules.proofs.Laws.Lists.{both, count-append, count-few}
 use Rattle.rules.proofs.Laws.Onward.{from-split}
-use Rattle.capture_cells.specs.Cells.{cellOf}
+use Rattle.capture_cells.specs.declared.Cell.{Cell}
+use Rattle.capture_cells.specs.Cells.{cellIn, cellOf}
+use Rattle.capture_walk.specs.Format.{cellsFrom}
 use Rattle.capture_walk.proofs.Lists.{cells-more, from-cells, map-append}
 use Rattle.capture_units.specs.declared.Units.{Units}
-use Rattle.capture_units.specs.Units.{isCell, seen, ofPid, badIn, arrivals, beginnings, nineIn}
+use Rattle.capture_units.specs.Units.{isOf, seen, allOf, fromSound, beforeSound, ofPid, badIn, arrivalsAfter, arrivals}
+use Rattle.capture_units.specs.Units.{beginnings, nineIn}
 use Rattle.capture_units.specs.State as table
 use Rattle.capture_units.specs.Contract as units
-use Rattle.capture_units.proofs.More.{begins-nine}
+use Rattle.capture_units.proofs.More.{begins-nine, units-none, units-some}
 use Rattle.capture_units.proofs.Steps.{none-yet}
-use Rattle.capture_units.proofs.Laws.{pid-append, nine-kept}
+use Rattle.capture_units.proofs.Laws.{all-few, all-append, from-append, from-none, before-some, before-none, nine-kept}
 use Rattle.capture_counts.specs.declared.Tally.{Tally}
-use Rattle.capture_counts.specs.Counts.{Counts, Stops, Counted, going, stopped, Checked, fits, full, Runs}
+use Rattle.capture_counts.specs.Counts.{Counts, Stops, Counted, going, stopped, Checked, fits, full, Accounts}
+use Rattle.capture_counts.specs.Counts.{Runs, withBad}
 
 -- ---- a cell more
 
-few-nine : (heeded : Bool) (pid : ℕ) (cs : List Cell) → nineIn heeded pid cs ≡ none → length (beginnings (ofPid heeded pid cs)) ≤ 750
+few-nine : (e pid : ℕ) (cs : List Cell) → nineIn e pid cs ≡ none → length (beginnings (ofPid e pid cs)) ≤ 750
 unfolding nineIn
-few-nine heeded pid cs h = go (drop 750 (beginnings (ofPid heeded pid cs))) (length-drop 750 (beginnings (ofPid heeded pid cs))) h
+few-nine e pid cs h = go (drop 750 (beginnings (ofPid e pid cs))) (length-drop 750 (beginnings (ofPid e pid cs))) h
   where
-    go : (xs : List rule.Arrival) → length xs ≡ length (beginnings (ofPid heeded pid cs)) - 750 → beginsAt xs ≡ none → length (beginnings (ofPid heeded pid cs)) ≤ 750
-    go [] e n = omega arith
-    go (x ∷ xs) e n = let z : _≡_ {A = ℕ} 0 1 = cc in absurd (omega arith)
+    go : (xs : List rule.Arrival) → length xs ≡ length (beginnings (ofPid e pid cs)) - 750 → beginsAt xs ≡ none →
+        length (beginnings (ofPid e pid cs)) ≤ 750
+    go [] z n = omega arith
+    go (x ∷ xs) z n = let y : _≡_ {A = ℕ} 0 1 = cc in absurd (omega arith)
 
-of-more : (heeded : Bool) (pid : ℕ) (cs : List Cell) (c : Cell) → ofPid heeded pid (cs ++ c ∷ []) ≡ ofPid heeded pid cs ++ pick (isCell (c .condition) && eqb (c .identifier) pid) (seen heeded c ∷ []) []
-unfolding ofPid only
-of-more heeded pid cs c =
-    pid-append heeded pid cs (c ∷ []) ∙ ap (λ (x : List Cell). ofPid heeded pid cs ++ x) (one (isCell (c .condition) && eqb (c .identifier) pid))
+all-more : (e pid : ℕ) (cs : List Cell) (c : Cell) →
+    allOf e pid (cs ++ c ∷ []) ≡ allOf e pid cs ++ pick (isOf pid c) (seen e c ∷ []) []
+unfolding allOf only
+all-more e pid cs c = all-append e pid cs (c ∷ []) ∙ ap (λ (x : List Cell). allOf e pid cs ++ x) (one (isOf pid c))
   where
-    one : (t : Bool) → map (seen heeded) (pick t (c ∷ []) []) ≡ pick t (seen heeded c ∷ []) []
+    one : (t : Bool) → map (seen e) (pick t (c ∷ []) []) ≡ pick t (seen e c ∷ []) []
     one true = refl
     one false = refl
 
-bad-more : (cs : List Cell) (c : Cell) → badIn (cs ++ c ∷ []) ≡ badIn cs + pick (not (isCell (c .condition))) 1 0
+-- how a cell of the identifier comes: damaged before the first unit, or behind those that units are made of
+data Comes (e pid : ℕ) (cs : List Cell) (c : Cell) : Type 0 where
+  early : ofPid e pid cs ≡ [] → isDamaged (seen e c .condition) ≡ true → ofPid e pid (cs ++ c ∷ []) ≡ [] →
+      beforeSound (allOf e pid (cs ++ c ∷ [])) ≡ beforeSound (allOf e pid cs) + 1 → Comes e pid cs c
+  joins : (ofPid e pid cs ≡ [] → isDamaged (seen e c .condition) ≡ false) →
+      ofPid e pid (cs ++ c ∷ []) ≡ ofPid e pid cs ++ seen e c ∷ [] →
+      beforeSound (allOf e pid (cs ++ c ∷ [])) ≡ beforeSound (allOf e pid cs) → Comes e pid cs c
+
+none-left : (xs : List Cell) → Dec (xs ≡ [])
+none-left [] = yes refl
+none-left (x ∷ xs) = no (λ e. let z : _≡_ {A = ℕ} 0 1 = cc in omega arith)
+
+comes : (e pid : ℕ) (cs : List Cell) (c : Cell) → isOf pid c ≡ true → Comes e pid cs c
+unfolding ofPid
+comes e pid cs c h = go (none-left (fromSound all)) (isDamaged (seen e c .condition)) refl
+  where
+    all : List Cell
+    all = allOf e pid cs
+
+    more : allOf e pid (cs ++ c ∷ []) ≡ all ++ seen e c ∷ []
+    more = all-more e pid cs c ∙ ap (λ (t : Bool). all ++ pick t (seen e c ∷ []) []) h
+
+    go : Dec (fromSound all ≡ []) → (d : Bool) → isDamaged (seen e c .condition) ≡ d → Comes e pid cs c
+    go (yes n) true z =
+        early n z
+        (ap fromSound more ∙ from-none all (seen e c) n ∙ ap (λ (t : Bool). pick t [] (seen e c ∷ [])) z)
+        (ap beforeSound more ∙ before-none all (seen e c) n ∙ ap (λ (t : Bool). beforeSound all + pick t 1 0) z)
+    go (yes n) false z =
+        joins (λ _. z)
+        (ap fromSound more ∙ from-none all (seen e c) n ∙ ap (λ (t : Bool). pick t [] (seen e c ∷ [])) z
+        ∙ ap (λ (x : List Cell). x ++ seen e c ∷ []) (sym n))
+        (ap beforeSound more ∙ before-none all (seen e c) n ∙ ap (λ (t : Bool). beforeSound all + pick t 1 0) z
+        ∙ omega arith)
+    go (no n) d z =
+        joins (λ m. absurd (n m)) (ap fromSound more ∙ from-append all (seen e c ∷ []) n)
+        (ap beforeSound more ∙ before-some all (seen e c ∷ []) n)
+
+-- the table is of no unit exactly if no cell has come
+none-if : {w : List ℕ} {s : Units} {ps : List Cell} → table.Stands w s ps → s .count ≡ 0 → ps ≡ []
+none-if {ps = []} st z = refl
+none-if {ps = x ∷ ps} st z = absurd (omega (arith, st .count, units-some x ps))
+
+zero-if : {w : List ℕ} {s : Units} {ps : List Cell} → table.Stands w s ps → ps ≡ [] → s .count ≡ 0
+zero-if {ps = []} st z = st .count ∙ ap length units-none
+zero-if {ps = x ∷ ps} st z = let y : _≡_ {A = ℕ} 0 1 = cc in absurd (omega arith)
+
+-- bad cells
+bad-more : (e pid : ℕ) (cs : List Cell) (c : Cell) (n : ℕ) →
+    beforeSound (allOf e pid (cs ++ c ∷ [])) ≡ beforeSound (allOf e pid cs) + n →
+    badIn e pid (cs ++ c ∷ []) ≡ badIn e pid cs + pick (isBad (c .condition)) 1 0 + n
 unfolding badIn count
-bad-more cs c = count-append (λ (x : Cell). not (isCell (x .condition))) cs (c ∷ []) ∙ omega arith
+bad-more e pid cs c n h = let a = count-append (λ (x : Cell). isBad (x .condition)) cs (c ∷ []) in omega arith
 
-bad-few : (cs : List Cell) → badIn cs ≤ length cs
+before-few : (xs : List Cell) → beforeSound xs ≤ length xs
+unfolding beforeSound
+before-few [] = omega arith
+before-few (c ∷ cs) = go (isDamaged (c .condition)) (before-few cs)
+  where
+    go : (t : Bool) → beforeSound cs ≤ length cs → pick t (suc (beforeSound cs)) 0 ≤ suc (length cs)
+    go true h = omega arith
+    go false h = omega arith
+
+bad-few : (e pid : ℕ) (cs : List Cell) → badIn e pid cs ≤ 2 * length cs
 unfolding badIn
-bad-few cs = count-few (λ (x : Cell). not (isCell (x .condition))) cs
+bad-few e pid cs =
+    let a = count-few (λ (x : Cell). isBad (x .condition)) cs in
+    let b = before-few (allOf e pid cs) in
+    let c = all-few e pid cs in
+    omega arith
 
-module _ (t : Tally) (c : Cell) (b : Bool) (e : b ≡ isCell (c .condition) && eqb (c .identifier) (t .pid)) where
-  is-wanted : {w : List ℕ} {heeded : Bool} {pid : ℕ} {cs : List Cell} → Counts w t heeded pid cs → b ≡ isCell (c .condition) && eqb (c .identifier) pid
-  is-wanted k = e ∙ ap (λ (n : ℕ). isCell (c .condition) && eqb (c .identifier) n) (k .own)
+-- one of the identifier is not bad
+not-bad : (pid : ℕ) (c : Cell) → isOf pid c ≡ true → _≡_ {A = ℕ} (pick (isBad (c .condition)) 1 0) 0
+not-bad pid c h = go (isBad (c .condition)) (eqb (c .identifier) pid) h
+  where
+    go : (x y : Bool) → not x && y ≡ true → _≡_ {A = ℕ} (pick x 1 0) 0
+    go true y z = absurd (false≢true z)
+    go false y z = refl
 
-  of-yes : {w : List ℕ} (heeded : Bool) (pid : ℕ) (cs : List Cell) → Counts w t heeded pid cs → b ≡ true → ofPid heeded pid (cs ++ c ∷ []) ≡ ofPid heeded pid cs ++ seen heeded c ∷ []
-  of-yes heeded pid cs k f = of-more heeded pid cs c ∙ rw (← is-wanted k, f)
+module _ (t : Tally) (c : Cell) (b : Bool) (be : b ≡ isOf (t .pid) c) where
+  is-of : {w : List ℕ} {e pid : ℕ} {cs : List Cell} → Counts w t e pid cs → isOf pid c ≡ b
+  is-of k = ap (λ (n : ℕ). isOf n c) (sym (k .own)) ∙ sym be
 
-  of-no : {w : List ℕ} (heeded : Bool) (pid : ℕ) (cs : List Cell) → Counts w t heeded pid cs → b ≡ false → ofPid heeded pid (cs ++ c ∷ []) ≡ ofPid heeded pid cs
-  of-no heeded pid cs k f = of-more heeded pid cs c ∙ rw (← is-wanted k, f) (append-nil (ofPid heeded pid cs))
+  -- one of another identifier, or a bad one
+  module _ (f : b ≡ false) {w : List ℕ} (e pid : ℕ) (cs : List Cell) (k : Counts w t e pid cs) where
+    all-no : allOf e pid (cs ++ c ∷ []) ≡ allOf e pid cs
+    all-no = all-more e pid cs c ∙ rw (is-of k, f) (append-nil (allOf e pid cs))
 
-  same-nine : {w : List ℕ} (heeded : Bool) (pid : ℕ) (cs : List Cell) → Counts w t heeded pid cs → b ≡ false → nineIn heeded pid (cs ++ c ∷ []) ≡ none
-  same-nine heeded pid cs k f = unfold nineIn in rw (of-no heeded pid cs k f) (unfold nineIn in k .nine)
+    of-no : ofPid e pid (cs ++ c ∷ []) ≡ ofPid e pid cs
+    of-no = unfold ofPid in ap fromSound all-no
 
-  pub check-other : b ≡ false → (w : List ℕ) (heeded : Bool) (pid : ℕ) (cs : List Cell) → c .place + 3 < 18446744073709551616 → Counts w t heeded pid cs → Checked t c t heeded pid cs
-  check-other f w heeded pid cs h k = fits refl (same-nine heeded pid cs k f)
+    nine-no : nineIn e pid (cs ++ c ∷ []) ≡ none
+    nine-no = unfold nineIn in rw of-no (unfold nineIn in k .nine)
 
-  module _ {g : Bool} (f : b ≡ true) (fu : units.Full (t .units) (c .start) g) where
-    nine-is : (w : List ℕ) (heeded : Bool) (pid : ℕ) (cs : List Cell) → Counts w t heeded pid cs → nineIn heeded pid (cs ++ c ∷ []) ≡ pick g (fault 9 (c .place + 3)) none
-    nine-is w heeded pid cs k = unfold nineIn in
-        rw (of-yes heeded pid cs k f) (begins-nine (ofPid heeded pid cs) (seen heeded c) (few-nine heeded pid cs (k .nine)) ∙ rw (← fu w (ofPid heeded pid cs) (seen heeded c) refl (k .table)))
+  pub check-other : b ≡ false → (w : List ℕ) (e pid : ℕ) (cs : List Cell) → c .place + 3 < 18446744073709551616 →
+      Counts w t e pid cs → Checked t c t e pid cs
+  check-other f w e pid cs h k = fits refl (nine-no f e pid cs k)
 
-    pub check-room : g ≡ false → (w : List ℕ) (heeded : Bool) (pid : ℕ) (cs : List Cell) → c .place + 3 < 18446744073709551616 → Counts w t heeded pid cs → Checked t c t heeded pid cs
-    check-room n w heeded pid cs h k = fits refl (nine-is w heeded pid cs k ∙ rw n)
+  -- one of the identifier, d as it is seen
+  module _ {d : Cell} (de : d ≡ seen (t .edition) c) (f : b ≡ true) where
+    seen-is : {w : List ℕ} {e pid : ℕ} {cs : List Cell} → Counts w t e pid cs → d ≡ seen e c
+    seen-is k = de ∙ ap (λ (n : ℕ). seen n c) (k .edition)
 
-    pub check-full : (r : Tally) → g ≡ true → r .status ≡ 9 → r .place ≡ (c .place + 3) % 2 ^ 64 → (w : List ℕ) (heeded : Bool) (pid : ℕ) (cs : List Cell) → c .place + 3 < 18446744073709551616 →
-        Counts w t heeded pid cs → Checked t c r heeded pid cs
-    check-full r n rs rp w heeded pid cs h k =
-        let p : r .place ≡ c .place + 3 = omega arith in
-        full (record { some = omega arith; nine = rw (rs, p) (nine-is w heeded pid cs k ∙ rw n) })
+    module _ {g : Bool} (fu : units.Full (t .units) d g) where
+      nine-is : (w : List ℕ) (e pid : ℕ) (cs : List Cell) → Counts w t e pid cs →
+          nineIn e pid (cs ++ c ∷ []) ≡ pick g (fault 9 (c .place + 3)) none
+      nine-is w e pid cs k = go (comes e pid cs c (is-of k ∙ f))
+        where
+          told : g ≡ ltb 750 (length (beginnings (ofPid e pid cs ++ seen e c ∷ [])))
+          told = fu w (ofPid e pid cs) (k .table)
+              ∙ ap (λ (x : Cell). ltb 750 (length (beginnings (ofPid e pid cs ++ x ∷ [])))) (seen-is k)
 
-  -- it is counted
-  pub account-wanted : {w w′ : List ℕ} (r : Tally) → b ≡ true → units.Added w (t .units) (seen (heedsSplices (t .edition)) c) (r .units) w′ → r .status ≡ t .status → r .pid ≡ t .pid → r .edition ≡ t .edition → r .bad ≡ t .bad → (heeded : Bool) (pid : ℕ) (cs : List Cell) →
-      length cs < 4294967296 → nineIn heeded pid (cs ++ c ∷ []) ≡ none → Counts w t heeded pid cs → Counts w′ r heeded pid (cs ++ c ∷ [])
-  account-wanted {w} {w′} r f ad rs rp re rb heeded pid cs l n k =
-      let q = of-yes heeded pid cs k f in
-      let m = few-nine heeded pid (cs ++ c ∷ []) n in
-      record {
-        status = rs ∙ k .status;
-        own = rp ∙ k .own;
-        heeds = ap heedsSplices re ∙ k .heeds;
-        bad =
-            let z : _≡_ {A = ℕ} (pick (not (isCell (c .condition))) 1 0) 0 = good (isCell (c .condition)) (eqb (c .identifier) (t .pid)) (sym e ∙ f) in
-            let a = bad-more cs c in
-            let y = k .bad in
-            omega arith;
-        table =
-            let added = subst (λ (h : Bool). units.Added w (t .units) (seen h c) (r .units) w′) (k .heeds) ad in
-            rw q (added (ofPid heeded pid cs) (k .table) (rw q at m));
-        nine = n;
-      }
-    where
-      good : (x y : Bool) → x && y ≡ true → _≡_ {A = ℕ} (pick (not x) 1 0) 0
-      good true y h = refl
-      good false y h = let z : _≡_ {A = Bool} true false = sym h in absurd (true≢false z)
+          go : Comes e pid cs c → nineIn e pid (cs ++ c ∷ []) ≡ pick g (fault 9 (c .place + 3)) none
+          go (early n z o m) =
+              let q : g ≡ false = told ∙ ap (λ (x : List Cell). ltb 750 (length (beginnings (x ++ seen e c ∷ [])))) n
+              ∙ (unfold beginnings arrivals arrivalsAfter only in refl) in
+              rw q (unfold nineIn in rw o (unfold beginnings arrivals only in refl))
+          go (joins n o m) = unfold nineIn in
+              rw o (begins-nine (ofPid e pid cs) (seen e c) (few-nine e pid cs (k .nine)) ∙ rw (← told))
 
-  pub account-other : {w : List ℕ} {g : Bool} (r : Tally) → b ≡ false → g ≡ isCell (c .condition) → r .status ≡ t .status → r .pid ≡ t .pid → r .edition ≡ t .edition → r .units ≡ t .units →
-      r .bad ≡ (t .bad + pick g 0 1) % 2 ^ 64 → (heeded : Bool) (pid : ℕ) (cs : List Cell) → length cs < 4294967296 → nineIn heeded pid (cs ++ c ∷ []) ≡ none → Counts w t heeded pid cs → Counts w r heeded pid (cs ++ c ∷ [])
-  account-other {w} {g} r f ge rs rp re ru rb heeded pid cs l n k =
-      record {
-        status = rs ∙ k .status;
-        own = rp ∙ k .own;
-        heeds = ap heedsSplices re ∙ k .heeds;
-        bad =
-            let z : _≡_ {A = ℕ} (pick (not (isCell (c .condition))) 1 0) (pick g 0 1) = rw (← ge) (turn g) in
-            let a = bad-more cs c in
-            let y = k .bad in
-            let v = bad-few cs in
-            let o = small g in
-            omega arith;
-        table = rw (of-no heeded pid cs k f, ru) (k .table);
-        nine = n;
-      }
-    where
-      turn : (x : Bool) → _≡_ {A = ℕ} (pick (not x) 1 0) (pick x 0 1)
-      turn true = refl
-      turn false = refl
+      pub check-room : g ≡ false → (w : List ℕ) (e pid : ℕ) (cs : List Cell) → c .place + 3 < 18446744073709551616 →
+          Counts w t e pid cs → Checked t c t e pid cs
+      check-room n w e pid cs h k = fits refl (nine-is w e pid cs k ∙ rw n)
 
-      small : (x : Bool) → pick x 0 1 ≤ 1
-      small true = omega arith
-      small false = omega arith
+      pub check-full : (r : Tally) → g ≡ true → r .status ≡ 9 → r .place ≡ (c .place + 3) % 2 ^ 64 →
+          (w : List ℕ) (e pid : ℕ) (cs : List Cell) → c .place + 3 < 18446744073709551616 →
+          Counts w t e pid cs → Checked t c r e pid cs
+      check-full r n rs rp w e pid cs h k =
+          let p : r .place ≡ c .place + 3 = omega arith in
+          full (record { some = omega arith; nine = rw (rs, p) (nine-is w e pid cs k ∙ rw n) })
+
+    -- it is counted: as a bad cell, where it is damaged before the first unit
+    module _ {y : Bool} (ye : y ≡ eqb (t .units .count) 0 && isDamaged (d .condition)) where
+      zero-first : y ≡ true → (t .units .count ≡ 0) × (isDamaged (d .condition) ≡ true)
+      zero-first z = let x = both (eqb (t .units .count) 0) (isDamaged (d .condition)) (sym ye ∙ z) in
+          (eqb-true (t .units .count) 0 (x .0), x .1)
+
+      pub account-early : {w : List ℕ} → y ≡ true → Accounts w t c w (withBad t)
+      account-early {w} z e pid cs l n k = go (comes e pid cs c (is-of k ∙ f))
+        where
+          go : Comes e pid cs c → Counts w (withBad t) e pid (cs ++ c ∷ [])
+          go (early nothing broken o m) =
+              record {
+                status = k .status;
+                own = k .own;
+                edition = k .edition;
+                bad =
+                    let a = bad-more e pid cs c 1 m in
+                    let v = bad-few e pid cs in
+                    let x = k .bad in
+                    let w = not-bad pid c (is-of k ∙ f) in
+                    omega arith;
+                table = rw (o ∙ sym nothing) (k .table);
+                nine = n;
+              }
+          go (joins clean o m) =
+              absurd (true≢false (sym (zero-first z .1) ∙ ap (λ (x : Cell). isDamaged (x .condition)) (seen-is k)
+              ∙ clean (none-if (k .table) (zero-first z .0))))
+
+      pub account-wanted : {w w′ : List ℕ} (r : Tally) → y ≡ false → units.Added w (t .units) d (r .units) w′ →
+          r .status ≡ t .status → r .pid ≡ t .pid → r .edition ≡ t .edition → r .bad ≡ t .bad → Accounts w t c w′ r
+      account-wanted {w} {w′} r z ad rs rp re rb e pid cs l n k = go (comes e pid cs c (is-of k ∙ f))
+        where
+          go : Comes e pid cs c → Counts w′ r e pid (cs ++ c ∷ [])
+          go (early nothing broken o m) =
+              let y′ =
+              ye
+              ∙ ap (λ (q : Bool). q && isDamaged (d .condition))
+              (eq-eqb (t .units .count) 0 (zero-if (k .table) nothing))
+              ∙ ap (λ (x : Cell). isDamaged (x .condition)) (seen-is k)
+              ∙ broken in
+              absurd (true≢false (sym y′ ∙ z))
+          go (joins clean o m) =
+              let q = few-nine e pid (cs ++ c ∷ []) n in
+              record {
+                status = rs ∙ k .status;
+                own = rp ∙ k .own;
+                edition = re ∙ k .edition;
+                bad =
+                    let a = bad-more e pid cs c 0 (m ∙ omega arith) in
+                    let x = k .bad in
+                    let w = not-bad pid c (is-of k ∙ f) in
+                    omega arith;
+                table =
+                    let added = subst (λ (x : Cell). units.Added w (t .units) x (r .units) w′) (seen-is k) ad in
+                    rw o (added (ofPid e pid cs) (k .table) (rw o at q));
+                nine = n;
+              }
+
+  -- one that is not of the identifier: it is bad, or nothing changes
+  module _ (f : b ≡ false) {g : Bool} (ge : g ≡ isBad (c .condition)) where
+    other-bad : {w : List ℕ} {e pid : ℕ} {cs : List Cell} → Counts w t e pid cs →
+        badIn e pid (cs ++ c ∷ []) ≡ badIn e pid cs + pick g 1 0
+    other-bad {e = e} {pid = pid} {cs = cs} k =
+        bad-more e pid cs c 0 (ap beforeSound (all-no f e pid cs k) ∙ omega arith)
+        ∙ ap (λ (x : Bool). badIn e pid cs + pick x 1 0 + 0) (sym ge) ∙ omega arith
+
+    pub account-bad : {w : List ℕ} → g ≡ true → Accounts w t c w (withBad t)
+    account-bad z e pid cs l n k =
+        record {
+          status = k .status;
+          own = k .own;
+          edition = k .edition;
+          bad = let a = other-bad k in let v = bad-few e pid cs in let x = k .bad in let y = one z in omega arith;
+          table = rw (of-no f e pid cs k) (k .table);
+          nine = n;
+        }
+      where
+        one : g ≡ true → _≡_ {A = ℕ} (pick g 1 0) 1
+        one z = ap (λ (x : Bool). pick x 1 0) z
+
+    pub account-same : {w : List ℕ} → g ≡ false → Accounts w t c w t
+    account-same z e pid cs l n k =
+        record {
+          status = k .status;
+          own = k .own;
+          edition = k .edition;
+          bad = let a = other-bad k in let x = k .bad in let y = one z in omega arith;
+          table = rw (of-no f e pid cs k) (k .table);
+          nine = n;
+        }
+      where
+        one : g ≡ false → _≡_ {A = ℕ} (pick g 1 0) 0
+        one z = ap (λ (x : Bool). pick x 1 0) z
 
 -- no cell yet
 pub counts-none : (w : List ℕ) (pid edition : ℕ) → length w ≡ 3750 →
     Counts w
     (record { status = 0; place = 0; pid = pid; bad = 0; units = record { count = 0; previous = 0; packets = 0; lost = 0 }; edition = edition })
-    (heedsSplices edition) pid []
+    edition pid []
 counts-none w pid edition h =
     record {
       status = refl;
       own = refl;
-      heeds = refl;
-      bad = unfold badIn count in refl;
-      table = unfold ofPid only in none-yet w h;
-      nine = unfold nineIn ofPid only beginnings arrivals in refl;
+      edition = refl;
+      bad = unfold badIn count allOf only beforeSound in refl;
+      table = unfold ofPid allOf only fromSound in none-yet w h;
+      nine = unfold nineIn ofPid allOf only fromSound beginnings arrivals in refl;
     }
 
 -- ---- a run
@@ -169,17 +306,19 @@ cells-split a b time place s =
 
 -- the first k cells are in
 pub record Going (w : List ℕ) (t : Tally) (ds : List Cell) (w′ : List ℕ) (r : Tally) : Type 0 where
-  pub goes : (heeded : Bool) (pid : ℕ) (cs : List Cell) → length cs + length ds < 4294967296 → Counts w t heeded pid cs → Counts w′ r heeded pid (cs ++ ds)
+  pub goes : (e pid : ℕ) (cs : List Cell) → length cs + length ds < 4294967296 → Counts w t e pid cs →
+      Counts w′ r e pid (cs ++ ds)
 
 pub going-none : (w : List ℕ) (t : Tally) (time place : ℕ) (s : List ℕ) → Going w t (cellsFrom 0 time place s) w t
-going-none w t time place s = record { goes = λ heeded pid cs l k. unfold cellsFrom in rw (append-nil cs) k }
+going-none w t time place s = record { goes = λ e pid cs l k. unfold cellsFrom in rw (append-nil cs) k }
 
 pub going-all : {w w′ : List ℕ} {t r : Tally} (k n time place : ℕ) (s : List ℕ) → k ≡ n → Going w t (cellsFrom k time place s) w′ r → Runs w t (cellsFrom n time place s) w′ r
-going-all k n time place s e g heeded pid cs l c = going (rw e at (g .goes heeded pid cs (rw e l) c))
+going-all k n time place s y g e pid cs l c = going (rw y at (g .goes e pid cs (rw y l) c))
 
 module _ {w w′ : List ℕ} {t d r : Tally} (k time place₀ at₀ : ℕ) (piece : List ℕ) (at place : ℕ) (c : Cell) (g : Going w t (cellsFrom k time place₀ (drop at₀ piece)) w′ d)
     (ae : at ≡ at₀ + 188 * k) (pe : place ≡ place₀ + 188 * k) (small : place ≤ 268435456) (ce : c ≡ cellIn time place (drop at piece))
-    (ch : (w : List ℕ) (heeded : Bool) (pid : ℕ) (cs : List Cell) → c .place + 3 < 18446744073709551616 → Counts w d heeded pid cs → Checked d c r heeded pid cs) where
+    (ch : (w : List ℕ) (e pid : ℕ) (cs : List Cell) → c .place + 3 < 18446744073709551616 → Counts w d e pid cs →
+    Checked d c r e pid cs) where
   abbrev ds : List Cell
   ds = cellsFrom k time place₀ (drop at₀ piece)
 
@@ -196,52 +335,50 @@ module _ {w w′ : List ℕ} {t d r : Tally} (k time place₀ at₀ : ℕ) (piec
 
   -- a cell that shows 9 ends it
   pub going-stops : (n : ℕ) → k < n → (r .status ≡ 0 → ⊥) → Runs w t (cellsFrom n time place₀ (drop at₀ piece)) w′ r
-  going-stops n h z heeded pid cs l q = go (ch w′ heeded pid (cs ++ ds) here v)
+  going-stops n h z e pid cs l q = go (ch w′ e pid (cs ++ ds) here v)
     where
-      v : Counts w′ d heeded pid (cs ++ ds)
-      v = g .goes heeded pid cs (lengths cs n h l) q
+      v : Counts w′ d e pid (cs ++ ds)
+      v = g .goes e pid cs (lengths cs n h l) q
 
       rest : List Cell
       rest = cellsFrom (n - (k + 1)) time (place₀ + 188 * (k + 1)) (drop (188 * (k + 1)) (drop at₀ piece))
 
       all : cellsFrom n time place₀ (drop at₀ piece) ≡ ds ++ c ∷ [] ++ rest
       all =
-          let e : n ≡ k + 1 + (n - (k + 1)) = omega arith in
-          ap (λ (x : ℕ). cellsFrom x time place₀ (drop at₀ piece)) e ∙ cells-split (k + 1) (n - (k + 1)) time place₀ (drop at₀ piece) ∙ ap (λ (x : List Cell). x ++ rest) one-more
+          let y : n ≡ k + 1 + (n - (k + 1)) = omega arith in
+          ap (λ (x : ℕ). cellsFrom x time place₀ (drop at₀ piece)) y
+          ∙ cells-split (k + 1) (n - (k + 1)) time place₀ (drop at₀ piece)
+          ∙ ap (λ (x : List Cell). x ++ rest) one-more
 
-      go : Checked d c r heeded pid (cs ++ ds) → Counted w′ r heeded pid (cs ++ cellsFrom n time place₀ (drop at₀ piece))
-      go (fits e f) = absurd (z (ap (λ (x : Tally). x .status) e ∙ v .status))
+      go : Checked d c r e pid (cs ++ ds) → Counted w′ r e pid (cs ++ cellsFrom n time place₀ (drop at₀ piece))
+      go (fits y f) = absurd (z (ap (λ (x : Tally). x .status) y ∙ v .status))
       go (full s) =
-          let e : cs ++ cellsFrom n time place₀ (drop at₀ piece) ≡ cs ++ ds ++ c ∷ [] ++ rest = ap (λ (x : List Cell). cs ++ x) all ∙ simp append-assoc in
-          stopped (record { some = s .some; nine = rw e (nine-kept heeded pid (cs ++ ds ++ c ∷ []) rest (r .status) (r .place) (s .nine)) })
+          let y : cs ++ cellsFrom n time place₀ (drop at₀ piece) ≡ cs ++ ds ++ c ∷ [] ++ rest =
+          ap (λ (x : List Cell). cs ++ x) all ∙ simp append-assoc in
+          stopped (record {
+            some = s .some;
+            nine = rw y (nine-kept e pid (cs ++ ds ++ c ∷ []) rest (r .status) (r .place) (s .nine));
+          })
 
   -- one that does not is counted
   pub going-more : {w″ : List ℕ} (n : ℕ) (u : Tally) → k < n → r .status ≡ 0 →
-      ((heeded : Bool) (pid : ℕ) (cs : List Cell) → length cs < 4294967296 → nineIn heeded pid (cs ++ c ∷ []) ≡ none → Counts w′ r heeded pid cs → Counts w″ u heeded pid (cs ++ c ∷ [])) →
+      ((e pid : ℕ) (cs : List Cell) → length cs < 4294967296 → nineIn e pid (cs ++ c ∷ []) ≡ none →
+      Counts w′ r e pid cs → Counts w″ u e pid (cs ++ c ∷ [])) →
       Going w t (cellsFrom (k + 1) time place₀ (drop at₀ piece)) w″ u
-  going-more {w″} n u h z ac = record { goes = λ heeded pid cs l q. go heeded pid cs l q }
+  going-more {w″} n u h z ac = record { goes = λ e pid cs l q. go e pid cs l q }
     where
-      go : (heeded : Bool) (pid : ℕ) (cs : List Cell) → length cs + length (cellsFrom (k + 1) time place₀ (drop at₀ piece)) < 4294967296 → Counts w t heeded pid cs →
-          Counts w″ u heeded pid (cs ++ cellsFrom (k + 1) time place₀ (drop at₀ piece))
-      go heeded pid cs l q = step (ch w′ heeded pid (cs ++ ds) here v)
+      go : (e pid : ℕ) (cs : List Cell) →
+          length cs + length (cellsFrom (k + 1) time place₀ (drop at₀ piece)) < 4294967296 → Counts w t e pid cs →
+          Counts w″ u e pid (cs ++ cellsFrom (k + 1) time place₀ (drop at₀ piece))
+      go e pid cs l q = step (ch w′ e pid (cs ++ ds) here v)
         where
-          v : Counts w′ d heeded pid (cs ++ ds)
-          v = g .goes heeded pid cs (lengths cs (k + 1) (omega arith) l) q
+          v : Counts w′ d e pid (cs ++ ds)
+          v = g .goes e pid cs (lengths cs (k + 1) (omega arith) l) q
 
           few : length (cs ++ ds) < 4294967296
           few = let a = length-append cs ds in let b = lengths cs (k + 1) (omega arith) l in omega arith
 
-          step : Checked d c r heeded pid (cs ++ ds) → Counts w″ u heeded pid (cs ++ cellsFrom (k + 1) time place₀ (drop at₀ piece))
-          step (fits e f) = rw (one-more, ← append-assoc cs ds (c ∷ [])) (ac heeded pid (cs ++ ds) few f (rw e v))
+          step : Checked d c r e pid (cs ++ ds) →
+              Counts w″ u e pid (cs ++ cellsFrom (k + 1) time place₀ (drop at₀ piece))
+          step (fits y f) = rw (one-more, ← append-assoc cs ds (c ∷ [])) (ac e pid (cs ++ ds) few f (rw y v))
           step (full s) = let y = s .some in absurd (omega arith)
-
--- a cell that is not of the identifier: it is bad, or nothing changes
-module _ (t : Tally) (c : Cell) (b : Bool) (e : b ≡ isCell (c .condition) && eqb (c .identifier) (t .pid)) {w : List ℕ} {g : Bool} (r : Tally) (f : b ≡ false) (ge : g ≡ isCell (c .condition)) where
-  pub account-bad : g ≡ false → r .status ≡ t .status → r .pid ≡ t .pid → r .edition ≡ t .edition → r .units ≡ t .units → r .bad ≡ (t .bad + 1) % 2 ^ 64 → (heeded : Bool) (pid : ℕ) (cs : List Cell) → length cs < 4294967296 →
-      nineIn heeded pid (cs ++ c ∷ []) ≡ none → Counts w t heeded pid cs → Counts w r heeded pid (cs ++ c ∷ [])
-  account-bad h rs rp re ru rb = account-other t c b e r f ge rs rp re ru (rw h rb)
-
-  pub account-same : g ≡ true → r .status ≡ t .status → r .pid ≡ t .pid → r .edition ≡ t .edition → r .units ≡ t .units → r .bad ≡ t .bad → (heeded : Bool) (pid : ℕ) (cs : List Cell) → length cs < 4294967296 →
-      nineIn heeded pid (cs ++ c ∷ []) ≡ none → Counts w t heeded pid cs → Counts w r heeded pid (cs ++ c ∷ [])
-  account-same h rs rp re ru rb heeded pid cs l n k =
-      account-other t c b e r f ge rs rp re ru (rw h (let y = k .bad in let v = bad-few cs in omega arith)) heeded pid cs l n k

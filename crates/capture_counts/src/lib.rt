@@ -1,19 +1,22 @@
-// Counts of one identifier, cell by cell: the table of units, bad cells, and refusal 9.
+// Counts of one identifier, cell by cell: the table of units, bad cells, and refusal 9. The edition decides how a cell
+// is seen.
 ghost use mathlib.Core.Path.{_≡_};
 ghost use mathlib.Core.List.{[], _∷_};
 ghost use mathlib.Core.Bool.{_&&_};
 ghost use Prim.Native.Nat.{_+_, _*_, _≤_};
 ghost use lib.ListN.{length};
 ghost use lib.Dec.{eqb};
-ghost use Rattle.rules.specs.Editions.{heedsSplices};
-ghost use Rattle.capture_units.specs.Units.{isCell, seen as seenBy};
+ghost use Rattle.rules.specs.Packets.{isDamaged};
+ghost use Rattle.capture_units.specs.Units.{asKnown, isOf, seen as seenBy};
 ghost use Rattle.capture_walk.specs.Contract.{cellsOf};
-ghost use Rattle.capture_counts.specs.Counts.{Checks, Accounts, Runs};
+ghost use Rattle.capture_counts.specs.Counts.{Checks, Accounts, Runs, withBad};
 use capture_cells::Cell;
-use capture_cells::Condition;
+use capture_cells::is_bad;
+use capture_cells::is_damaged;
 use capture_units::Table;
 use capture_units::Units;
 use capture_walk::Run;
+use rules::Condition;
 
 // status, place: refusal 9, or 0. pid: the identifier. bad: bad cells. units: the state of the table. edition: of the rules that the cells are counted by.
 pub struct Tally {
@@ -25,33 +28,66 @@ pub struct Tally {
     pub edition: u64,
 }
 
-fn is_cell(k: Condition) -> bool
-    ensures { λ r. ⌜ r ≡ isCell k ⌝ }
+// Whether a cell is of the identifier.
+fn wanted(c: Cell, pid: u64) -> bool
+    ensures { λ r. ⌜ r ≡ isOf pid c ⌝ }
 {
+    let k = c.condition;
+    if is_bad(k) {
+        return false;
+    }
+    c.identifier == pid
+}
+
+// A condition where damage is known, or is not: then a damaged cell is taken as a good one is.
+fn as_known(known: bool, k: Condition) -> Condition
+    ensures { λ r. ⌜ r ≡ asKnown known k ⌝ }
+{
+    if known {
+        return k;
+    }
     match k {
-        Condition::Good => true,
-        Condition::Damaged => true,
-        Condition::Bad => false,
+        Condition::Good => Condition::Good,
+        Condition::Damaged => Condition::Good,
+        Condition::Bad => Condition::Bad,
     }
 }
 
-// Whether a cell is of the identifier.
-fn wanted(c: Cell, pid: u64) -> bool
-    ensures { λ r. ⌜ r ≡ isCell (c .condition) && eqb (c .identifier) pid ⌝ }
+// A cell as the edition sees it: its damage counts only where it is known, its splice mark only where it is heeded.
+fn seen(c: Cell, edition: u64) -> Cell
+    ensures { λ r. ⌜ r ≡ seenBy edition c ⌝ }
 {
     let k = c.condition;
-    if is_cell(k) {
-        return c.identifier == pid;
+    let condition = as_known(figures::knows_damage(edition), k);
+    let splice = figures::heeds_splices(edition) & c.splice;
+    Cell {
+        time: c.time,
+        place: c.place,
+        condition: condition,
+        identifier: c.identifier,
+        start: c.start,
+        counter: c.counter,
+        splice: splice,
+    }
+}
+
+// Whether a cell of the identifier is damaged before the first unit.
+fn is_early(s: Units, c: Cell) -> bool
+    ensures { λ r. ⌜ r ≡ eqb (s .count) 0 && isDamaged (c .condition) ⌝ }
+{
+    if s.count == 0 {
+        let k = c.condition;
+        return is_damaged(k);
     }
     false
 }
 
-// A cell as the edition sees it: its splice mark counts only where it is heeded.
-fn seen(c: Cell, edition: u64) -> Cell
-    ensures { λ r. ⌜ r ≡ seenBy (heedsSplices edition) c ⌝ }
+// One bad cell more.
+fn with_bad(t: Tally) -> Tally
+    ensures { λ r. ⌜ r ≡ withBad t ⌝ }
 {
-    let mut r = c;
-    r.splice = figures::heeds_splices(edition) & c.splice;
+    let mut r = t;
+    r.bad = std::num::wrapping_add_u64(t.bad, 1);
     r
 }
 
@@ -61,7 +97,8 @@ pub fn check(t: Tally, c: Cell) -> Tally
 {
     if wanted(c, t.pid) {
         let u = t.units;
-        if capture_units::is_full(u, c.start) {
+        let d = seen(c, t.edition);
+        if capture_units::is_full(u, d) {
             let mut r = t;
             r.status = 9;
             r.place = std::num::wrapping_add_u64(c.place, 3);
@@ -76,20 +113,22 @@ pub fn check(t: Tally, c: Cell) -> Tally
 pub fn account(table: &mut Table, t: Tally, c: Cell) -> Tally
     ensures { λ r. ⌜ Accounts (now (table .entry)) t c (now (table .exit)) r ⌝ }
 {
-    let mut r = t;
     if wanted(c, t.pid) {
         let u = t.units;
         let d = seen(c, t.edition);
+        if is_early(u, d) {
+            return with_bad(t);
+        }
         let v = capture_units::add_cell(table, u, d);
+        let mut r = t;
         r.units = v;
         return r;
     }
     let k = c.condition;
-    if is_cell(k) {
-        return r;
+    if is_bad(k) {
+        return with_bad(t);
     }
-    r.bad = std::num::wrapping_add_u64(t.bad, 1);
-    r
+    t
 }
 
 // A run of cells, up to the first that shows refusal 9.

@@ -7,122 +7,226 @@ use mathlib.Core.List.{List, [], _∷_, _++_, append-nil, append-assoc, map}
 use mathlib.Core.Bool.{Bool, true, false, not, _&&_}
 use lib.ListN.{length, drop, length-map, drop-of-length-le}
 use lib.Seq.{drop-append-le}
-use lib.Dec.{eqb}
 use borrow.Author.Tests.{le-leb}
+use Rattle.rules.specs.declared.Condition.{Condition}
+use Rattle.rules.specs.declared.Condition.the-variants.{Good, Damaged, Bad}
 use Rattle.rules.specs.declared.Opening.{Opening}
-use Rattle.rules.specs.Bytes.{pick, byte, count, only}
+use Rattle.rules.specs.Bytes.{pick, count, only}
 use Rattle.rules.specs.Refusals.{Fault, none, fault}
-use Rattle.rules.specs.Editions.{heedsSplices}
-use Rattle.rules.specs.Packets.{Packet, Kind, bad, other, wanted, identifier, kind, isBad, isWanted, wantedOf, badOf, counter}
+use Rattle.rules.specs.Editions.{heedsSplices, knowsDamage}
+use Rattle.rules.specs.Packets.{Packet, condition, isBad, isDamaged, isWanted, startMark, counter, spliceMark}
+use Rattle.rules.specs.Packets.{wantedOf, badOf}
 use Rattle.rules.specs.Units as rule
-use Rattle.rules.specs.Capture.{wholeWanted, units, badCount, earlier, beginsAt, tooManyUnits, captureFault}
+use Rattle.rules.specs.Capture.{units, badCount, earlier, beginsAt, tooManyUnits, captureFault}
 use Rattle.rules.proofs.Laws.Lists.{only-append}
 use Rattle.rules.proofs.Laws.Flow.{reached, nine, nine-of, bad-of, wanted-of}
 use Rattle.rules.proofs.Laws.Clear.{none-both}
 use Rattle.rules.proofs.Laws.Faults.{no-fault, at-fault, Late, late-none, late-fault, Grows, same, new}
 use Rattle.rules.proofs.Laws.Begins.{units-grow}
 use Rattle.rules.proofs.Laws.Bounds.{only-few}
-use Rattle.capture_cells.specs.declared.Condition.{Condition}
-use Rattle.capture_cells.specs.declared.Condition.the-variants.{Good, Damaged, Bad}
 use Rattle.capture_cells.specs.declared.Cell.{Cell}
-use Rattle.capture_cells.specs.Cells.{startsCell, damaged, condition, cellIn, cellOf, head}
+use Rattle.capture_cells.specs.Cells.{cellIn, cellOf, head}
 use Rattle.capture_walk.specs.Format.{formatFault, headOf, shownCells, wholeCells}
 use Rattle.capture_walk.specs.declared.types.Walk.{Walk}
 use Rattle.capture_walk.specs.Contract.{Gains, Level, Halts, again, surplus, silent}
 use Rattle.capture_walk.proofs.Format.{capture-format}
 use Rattle.capture_walk.proofs.Lists.{shown-of, whole-of, map-append, heads}
-use Rattle.capture_units.specs.Units.{isCell, seen, ofPid, badIn, arrivalsAfter, arrivals, unitsOf, beginnings, unitsIn, nineIn, beginsAfter}
-use Rattle.capture_units.proofs.More.{arrivalAfter, beginnings-more}
+use Rattle.capture_units.specs.Units.{asKnown, seen, isOf, allOf, fromSound, beforeSound, ofPid, badIn, marks}
+use Rattle.capture_units.specs.Units.{measured, arrivalsAfter, arrivals}
+use Rattle.capture_units.specs.Units.{unitsOf, beginnings, unitsIn, nineIn, arrivalAfter}
+use Rattle.capture_units.proofs.More.{beginnings-more}
+
+no-cell : {c : Cell} {cs : List Cell} → _≡_ {A = List Cell} [] (c ∷ cs) → ⊥
+no-cell e = let z : _≡_ {A = ℕ} 0 1 = cc in omega arith
 
 no-cons : {n : ℕ} {ns : List ℕ} → _≡_ {A = List ℕ} [] (n ∷ ns) → ⊥
 no-cons e = let z : _≡_ {A = ℕ} 0 1 = cc in omega arith
 
 -- ---- one packet
 
-wanted-cell : (o : Opening) (p : Packet) → isWanted (kind o (p .bytes)) ≡ isCell (cellOf p .condition) && eqb (cellOf p .identifier) (o .pid)
-unfolding kind cellIn condition startsCell
-wanted-cell o p = go (eqb (byte (p .bytes) 0) 0x47) (damaged (p .bytes)) (eqb (identifier (p .bytes)) (o .pid))
-  where
-    go : (a b c : Bool) → isWanted (pick a (pick c wanted other) bad) ≡ isCell (pick a (pick b Damaged Good) Bad) && c
-    go true true true = refl
-    go true true false = refl
-    go true false true = refl
-    go true false false = refl
-    go false b c = refl
+-- a packet, as an edition sees it
+abbrev cellBy : ℕ → Packet → Cell
+cellBy e p = seen e (cellOf p)
 
-bad-cell : (o : Opening) (p : Packet) → isBad (kind o (p .bytes)) ≡ not (isCell (cellOf p .condition))
-unfolding kind cellIn condition startsCell
-bad-cell o p = go (eqb (byte (p .bytes) 0) 0x47) (damaged (p .bytes)) (eqb (identifier (p .bytes)) (o .pid))
+wanted-cell : (o : Opening) (p : Packet) → isWanted o (p .bytes) ≡ isOf (o .pid) (cellOf p)
+unfolding isWanted cellIn
+wanted-cell o p = refl
+
+apart-cell : (e : ℕ) (p : Packet) → rule.setApart (knowsDamage e) p ≡ isDamaged (cellBy e p .condition)
+unfolding rule.setApart cellIn
+apart-cell e p = go (knowsDamage e) (condition (p .bytes))
   where
-    go : (a b c : Bool) → isBad (pick a (pick c wanted other) bad) ≡ not (isCell (pick a (pick b Damaged Good) Bad))
-    go true true true = refl
-    go true true false = refl
-    go true false true = refl
-    go true false false = refl
-    go false b c = refl
+    go : (b : Bool) (k : Condition) → b && isDamaged k ≡ isDamaged (asKnown b k)
+    go true k = refl
+    go false Good = refl
+    go false Damaged = refl
+    go false Bad = refl
 
 -- ---- many
 
--- a packet, as it is seen
-abbrev cellBy : Bool → Packet → Cell
-cellBy heeded p = seen heeded (cellOf p)
-
-wanted-cells : (heeded : Bool) (o : Opening) (ps : List Packet) → map (cellBy heeded) (wantedOf o ps) ≡ ofPid heeded (o .pid) (map cellOf ps)
-unfolding wantedOf ofPid only
-wanted-cells heeded o [] = refl
-wanted-cells heeded o (p ∷ ps) =
-    rw (wanted-cell o p) (go _ _ (isCell (cellOf p .condition) && eqb (cellOf p .identifier) (o .pid)) (wanted-cells heeded o ps))
+wanted-cells : (e : ℕ) (o : Opening) (ps : List Packet) →
+    map (cellBy e) (wantedOf o ps) ≡ allOf e (o .pid) (map cellOf ps)
+unfolding wantedOf allOf only
+wanted-cells e o [] = refl
+wanted-cells e o (p ∷ ps) = rw (wanted-cell o p) (go _ _ (isOf (o .pid) (cellOf p)) (wanted-cells e o ps))
   where
-    go : (rest : List Packet) (more : List Cell) (b : Bool) → map (cellBy heeded) rest ≡ map (seen heeded) more →
-        map (cellBy heeded) (pick b (p ∷ rest) rest) ≡ map (seen heeded) (pick b (cellOf p ∷ more) more)
-    go rest more true e = ap (λ (r : List Cell). cellBy heeded p ∷ r) e
-    go rest more false e = e
+    go : (rest : List Packet) (more : List Cell) (b : Bool) → map (cellBy e) rest ≡ map (seen e) more →
+        map (cellBy e) (pick b (p ∷ rest) rest) ≡ map (seen e) (pick b (cellOf p ∷ more) more)
+    go rest more true z = ap (λ (r : List Cell). cellBy e p ∷ r) z
+    go rest more false z = z
 
-bad-cells : (o : Opening) (ps : List Packet) → badOf o ps ≡ badIn (map cellOf ps)
-unfolding badOf badIn count
-bad-cells o [] = refl
-bad-cells o (p ∷ ps) = let h = bad-cells o ps in rw (bad-cell o p) (omega arith)
+bad-cells : (ps : List Packet) → badOf ps ≡ count (λ c. isBad (c .condition)) (map cellOf ps)
+unfolding badOf count cellIn
+bad-cells [] = refl
+bad-cells (p ∷ ps) = let h = bad-cells ps in omega arith
+
+before-cells : (e : ℕ) (ps : List Packet) → rule.beforeUnits (knowsDamage e) ps ≡ beforeSound (map (cellBy e) ps)
+unfolding rule.beforeUnits beforeSound
+before-cells e [] = refl
+before-cells e (p ∷ ps) = rw (apart-cell e p, before-cells e ps)
 
 low : (b : List ℕ) → counter b % 16 ≡ counter b
 unfolding counter
 low b = omega arith
 
-after-cells : (heeded : Bool) (q : Packet) (ps : List Packet) →
-    rule.arrivalsAfter heeded q ps ≡ arrivalsAfter (cellBy heeded q) (map (cellBy heeded) ps)
+after-cells : (e : ℕ) (q : Packet) (ps : List Packet) →
+    rule.arrivalsAfter (heedsSplices e) (knowsDamage e) q ps ≡ arrivalsAfter (cellBy e q) (map (cellBy e) ps)
 unfolding rule.arrivalsAfter rule.lossBetween arrivalsAfter cellIn
-after-cells heeded q [] = refl
-after-cells heeded q (p ∷ ps) = rw (low (q .bytes), low (p .bytes), after-cells heeded p ps)
+after-cells e q [] = refl
+after-cells e q (p ∷ ps) =
+    rw (apart-cell e p, low (q .bytes), low (p .bytes))
+    (go (isDamaged (cellBy e p .condition)) (after-cells e q ps) (after-cells e p ps))
+  where
+    loss : ℕ
+    loss = pick (heedsSplices e && spliceMark (p .bytes)) 0 (rule.gapLoss (counter (q .bytes)) (counter (p .bytes)))
 
-arrivals-cells : (heeded : Bool) (ps : List Packet) → rule.arrivals heeded ps ≡ arrivals (map (cellBy heeded) ps)
-unfolding rule.arrivals arrivals cellIn
-arrivals-cells heeded [] = refl
-arrivals-cells heeded (p ∷ ps) = rw (after-cells heeded p ps)
+    go : (t : Bool) →
+        rule.arrivalsAfter (heedsSplices e) (knowsDamage e) q ps ≡ arrivalsAfter (cellBy e q) (map (cellBy e) ps) →
+        rule.arrivalsAfter (heedsSplices e) (knowsDamage e) p ps ≡ arrivalsAfter (cellBy e p) (map (cellBy e) ps) →
+        pick t (rule.damagedArrival p ∷ rule.arrivalsAfter (heedsSplices e) (knowsDamage e) q ps)
+        (record { time = p .time; place = p .place; begins = startMark (p .bytes); lost = loss; damaged = false }
+        ∷ rule.arrivalsAfter (heedsSplices e) (knowsDamage e) p ps)
+        ≡ record {
+          time = p .time;
+          place = p .place;
+          begins = not t && startMark (p .bytes);
+          lost = pick t 0 loss;
+          damaged = t;
+        }
+        ∷ arrivalsAfter (pick t (cellBy e q) (cellBy e p)) (map (cellBy e) ps)
+    go true a b = rw a
+    go false a b = rw b
+
+arrivals-cells : (e : ℕ) (ps : List Packet) →
+    rule.arrivals (heedsSplices e) (knowsDamage e) ps ≡ arrivals (fromSound (map (cellBy e) ps))
+unfolding rule.arrivals fromSound arrivals
+arrivals-cells e [] = refl
+arrivals-cells e (p ∷ ps) = rw (apart-cell e p) (go (isDamaged (cellBy e p .condition)) (arrivals-cells e ps))
+  where
+    first : rule.firstArrival p ∷ rule.arrivalsAfter (heedsSplices e) (knowsDamage e) p ps
+        ≡ arrivals (cellBy e p ∷ map (cellBy e) ps)
+    first = unfold cellIn in ap (λ (r : List rule.Arrival). rule.firstArrival p ∷ r) (after-cells e p ps)
+
+    go : (t : Bool) → rule.arrivals (heedsSplices e) (knowsDamage e) ps ≡ arrivals (fromSound (map (cellBy e) ps)) →
+        pick t (rule.arrivals (heedsSplices e) (knowsDamage e) ps)
+        (rule.firstArrival p ∷ rule.arrivalsAfter (heedsSplices e) (knowsDamage e) p ps)
+        ≡ arrivals (pick t (fromSound (map (cellBy e) ps)) (cellBy e p ∷ map (cellBy e) ps))
+    go true a = a
+    go false a = first
 
 -- ---- the figures
 
-pub units-cells : (o : Opening) (s : List ℕ) → units o s ≡ unitsIn (heedsSplices (o .edition)) (o .pid) (wholeCells s)
-unfolding units rule.unitsOf unitsIn unitsOf
+pub units-cells : (o : Opening) (s : List ℕ) → units o s ≡ unitsIn (o .edition) (o .pid) (wholeCells s)
+unfolding units rule.unitsOf unitsIn unitsOf ofPid
 units-cells o s =
-    let heeded = heedsSplices (o .edition) in
+    let e = o .edition in
     ap (λ (x : List rule.Arrival). map rule.unitOf (rule.groups x))
-    (ap (rule.arrivals heeded) (wanted-of o s)
-    ∙ arrivals-cells heeded (wantedOf o (reached 188 s))
-    ∙ ap arrivals (wanted-cells heeded o (reached 188 s) ∙ ap (ofPid heeded (o .pid)) (sym (whole-of s))))
+    (ap (rule.arrivals (heedsSplices e) (knowsDamage e)) (wanted-of o s)
+    ∙ arrivals-cells e (wantedOf o (reached 188 s))
+    ∙ ap (λ (x : List Cell). arrivals (fromSound x))
+    (wanted-cells e o (reached 188 s) ∙ ap (allOf e (o .pid)) (sym (whole-of s))))
 
-pub bad-all : (o : Opening) (s : List ℕ) → badCount o s ≡ badIn (wholeCells s)
-bad-all o s = bad-of o s ∙ bad-cells o (reached 188 s) ∙ ap badIn (sym (whole-of s))
+pub bad-all : (o : Opening) (s : List ℕ) → badCount o s ≡ badIn (o .edition) (o .pid) (wholeCells s)
+unfolding badIn
+bad-all o s =
+    let e = o .edition in
+    let ps = reached 188 s in
+    let a : badOf ps ≡ count (λ c. isBad (c .condition)) (wholeCells s) =
+    bad-cells ps ∙ ap (count (λ c. isBad (c .condition))) (sym (whole-of s)) in
+    let b : rule.beforeUnits (knowsDamage e) (wantedOf o ps) ≡ beforeSound (allOf e (o .pid) (wholeCells s)) =
+    before-cells e (wantedOf o ps) ∙ ap beforeSound (wanted-cells e o ps ∙ ap (allOf e (o .pid)) (sym (whole-of s))) in
+    bad-of o s ∙ rw (a, b)
 
-pub pid-few : (heeded : Bool) (pid : ℕ) (cs : List Cell) → length (ofPid heeded pid cs) ≤ length cs
+from-few : (xs : List Cell) → length (fromSound xs) ≤ length xs
+unfolding fromSound
+from-few [] = omega arith
+from-few (c ∷ cs) = go (isDamaged (c .condition)) (from-few cs)
+  where
+    go : (t : Bool) → length (fromSound cs) ≤ length cs → length (pick t (fromSound cs) (c ∷ cs)) ≤ suc (length cs)
+    go true h = omega arith
+    go false h = omega arith
+
+pub all-few : (e pid : ℕ) (cs : List Cell) → length (allOf e pid cs) ≤ length cs
+unfolding allOf
+all-few e pid cs = rw (length-map (only (isOf pid) cs) (seen e)) (only-few (isOf pid) cs)
+
+pub pid-few : (e pid : ℕ) (cs : List Cell) → length (ofPid e pid cs) ≤ length cs
 unfolding ofPid
-pid-few heeded pid cs =
-    rw (length-map (only (λ (c : Cell). isCell (c .condition) && eqb (c .identifier) pid) cs) (seen heeded))
-    (only-few (λ (c : Cell). isCell (c .condition) && eqb (c .identifier) pid) cs)
+pid-few e pid cs = let a = all-few e pid cs in let b = from-few (allOf e pid cs) in omega arith
 
-pub pid-append : (heeded : Bool) (pid : ℕ) (xs ys : List Cell) → ofPid heeded pid (xs ++ ys) ≡ ofPid heeded pid xs ++ ofPid heeded pid ys
-unfolding ofPid
-pid-append heeded pid xs ys =
-    let test : Cell → Bool = λ (c : Cell). isCell (c .condition) && eqb (c .identifier) pid in
-    ap (map (seen heeded)) (only-append test xs ys) ∙ map-append (seen heeded) (only test xs) (only test ys)
+pub all-append : (e pid : ℕ) (xs ys : List Cell) → allOf e pid (xs ++ ys) ≡ allOf e pid xs ++ allOf e pid ys
+unfolding allOf
+all-append e pid xs ys =
+    ap (map (seen e)) (only-append (isOf pid) xs ys) ∙ map-append (seen e) (only (isOf pid) xs) (only (isOf pid) ys)
+
+-- behind the first cell that is not damaged, all count
+pub from-append : (xs ys : List Cell) → (fromSound xs ≡ [] → ⊥) → fromSound (xs ++ ys) ≡ fromSound xs ++ ys
+unfolding fromSound
+from-append [] ys h = absurd (h refl)
+from-append (c ∷ cs) ys h = go (isDamaged (c .condition)) h (from-append cs ys)
+  where
+    go : (t : Bool) → (pick t (fromSound cs) (c ∷ cs) ≡ [] → ⊥) →
+        ((fromSound cs ≡ [] → ⊥) → fromSound (cs ++ ys) ≡ fromSound cs ++ ys) →
+        pick t (fromSound (cs ++ ys)) (c ∷ cs ++ ys) ≡ pick t (fromSound cs) (c ∷ cs) ++ ys
+    go true n f = f n
+    go false n f = refl
+
+-- before it, each counts as bad
+pub from-none : (xs : List Cell) (p : Cell) → fromSound xs ≡ [] →
+    fromSound (xs ++ p ∷ []) ≡ pick (isDamaged (p .condition)) [] (p ∷ [])
+unfolding fromSound
+from-none [] p h = refl
+from-none (c ∷ cs) p h = go (isDamaged (c .condition)) h (from-none cs p)
+  where
+    go : (t : Bool) → pick t (fromSound cs) (c ∷ cs) ≡ [] →
+        (fromSound cs ≡ [] → fromSound (cs ++ p ∷ []) ≡ pick (isDamaged (p .condition)) [] (p ∷ [])) →
+        pick t (fromSound (cs ++ p ∷ [])) (c ∷ cs ++ p ∷ []) ≡ pick (isDamaged (p .condition)) [] (p ∷ [])
+    go true n f = f n
+    go false n f = absurd (no-cell (sym n))
+
+pub before-some : (xs ys : List Cell) → (fromSound xs ≡ [] → ⊥) → beforeSound (xs ++ ys) ≡ beforeSound xs
+unfolding fromSound beforeSound
+before-some [] ys h = absurd (h refl)
+before-some (c ∷ cs) ys h = go (isDamaged (c .condition)) h (before-some cs ys)
+  where
+    go : (t : Bool) → (pick t (fromSound cs) (c ∷ cs) ≡ [] → ⊥) →
+        ((fromSound cs ≡ [] → ⊥) → beforeSound (cs ++ ys) ≡ beforeSound cs) →
+        pick t (suc (beforeSound (cs ++ ys))) 0 ≡ pick t (suc (beforeSound cs)) 0
+    go true n f = ap suc (f n)
+    go false n f = refl
+
+pub before-none : (xs : List Cell) (p : Cell) → fromSound xs ≡ [] →
+    beforeSound (xs ++ p ∷ []) ≡ beforeSound xs + pick (isDamaged (p .condition)) 1 0
+unfolding fromSound beforeSound
+before-none [] p h = omega arith
+before-none (c ∷ cs) p h = go (isDamaged (c .condition)) h (before-none cs p)
+  where
+    go : (t : Bool) → pick t (fromSound cs) (c ∷ cs) ≡ [] →
+        (fromSound cs ≡ [] → beforeSound (cs ++ p ∷ []) ≡ beforeSound cs + pick (isDamaged (p .condition)) 1 0) →
+        pick t (suc (beforeSound (cs ++ p ∷ []))) 0
+        ≡ pick t (suc (beforeSound cs)) 0 + pick (isDamaged (p .condition)) 1 0
+    go true n f = let h = f n in omega arith
+    go false n f = absurd (no-cell (sym n))
 
 -- ---- 9 stands at a place, and splice marks do not move it
 
@@ -134,16 +238,51 @@ places-only : (t : Bool) (a b : rule.Arrival) (xs ys : List rule.Arrival) → a 
 places-only true a b xs ys e f = rw (e, f)
 places-only false a b xs ys e f = f
 
-after-places : (g h : Bool) (q r : Cell) (cs : List Cell) →
-    places (only (λ a. a .begins) (arrivalsAfter q (map (seen g) cs))) ≡ places (only (λ a. a .begins) (arrivalsAfter r (map (seen h) cs)))
-unfolding arrivalsAfter only
-after-places g h q r [] = refl
-after-places g h q r (c ∷ cs) = places-only (c .start) _ _ _ _ refl (after-places g h (seen g c) (seen h c) cs)
+abbrev beginning : List rule.Arrival → List rule.Arrival
+beginning xs = only (λ a. a .begins) xs
 
-begins-places : (g h : Bool) (cs : List Cell) → places (beginnings (map (seen g) cs)) ≡ places (beginnings (map (seen h) cs))
+-- over packets: the marks that are heeded
+rule-after : (g h known : Bool) (q r : Packet) (ps : List Packet) →
+    places (beginning (rule.arrivalsAfter g known q ps)) ≡ places (beginning (rule.arrivalsAfter h known r ps))
+unfolding rule.arrivalsAfter only
+rule-after g h known q r [] = refl
+rule-after g h known q r (p ∷ ps) =
+    go (rule.setApart known p) (rule-after g h known q r ps) (rule-after g h known p p ps)
+  where
+    go : (t : Bool) → places (beginning (rule.arrivalsAfter g known q ps))
+        ≡ places (beginning (rule.arrivalsAfter h known r ps)) →
+        places (beginning (rule.arrivalsAfter g known p ps)) ≡ places (beginning (rule.arrivalsAfter h known p ps)) →
+        places (beginning (pick t (rule.damagedArrival p ∷ rule.arrivalsAfter g known q ps)
+        (rule.laterArrival g q p ∷ rule.arrivalsAfter g known p ps)))
+        ≡ places (beginning (pick t (rule.damagedArrival p ∷ rule.arrivalsAfter h known r ps)
+        (rule.laterArrival h r p ∷ rule.arrivalsAfter h known p ps)))
+    go true a b = a
+    go false a b = places-only (startMark (p .bytes)) _ _ _ _ refl b
+
+rule-places : (g h known : Bool) (ps : List Packet) →
+    places (beginning (rule.arrivals g known ps)) ≡ places (beginning (rule.arrivals h known ps))
+unfolding rule.arrivals only
+rule-places g h known [] = refl
+rule-places g h known (p ∷ ps) = go (rule.setApart known p) (rule-places g h known ps)
+  where
+    go : (t : Bool) → places (beginning (rule.arrivals g known ps)) ≡ places (beginning (rule.arrivals h known ps)) →
+        places (beginning (pick t (rule.arrivals g known ps) (rule.firstArrival p ∷ rule.arrivalsAfter g known p ps)))
+        ≡ places (beginning (pick t (rule.arrivals h known ps)
+        (rule.firstArrival p ∷ rule.arrivalsAfter h known p ps)))
+    go true a = a
+    go false a = ap (λ (ns : List ℕ). p .place ∷ ns) (rule-after g h known p p ps)
+
+-- over cells: their first four bytes
+after-places : (q r : Cell) (cs : List Cell) →
+    places (beginning (arrivalsAfter q (map head cs))) ≡ places (beginning (arrivalsAfter r cs))
+unfolding arrivalsAfter only
+after-places q r [] = refl
+after-places q r (c ∷ cs) = places-only (marks c) _ _ _ _ refl (after-places (measured q (head c)) (measured r c) cs)
+
+begins-places : (cs : List Cell) → places (beginnings (map head cs)) ≡ places (beginnings cs)
 unfolding beginnings arrivals only
-begins-places g h [] = refl
-begins-places g h (c ∷ cs) = ap (λ (ns : List ℕ). c .place ∷ ns) (after-places g h (seen g c) (seen h c) cs)
+begins-places [] = refl
+begins-places (c ∷ cs) = ap (λ (ns : List ℕ). c .place ∷ ns) (after-places (head c) c cs)
 
 at-places : (n : ℕ) (xs ys : List rule.Arrival) → places xs ≡ places ys → beginsAt (drop n xs) ≡ beginsAt (drop n ys)
 at-places zero [] [] e = refl
@@ -155,63 +294,90 @@ at-places (suc n) [] (y ∷ ys) e = absurd (no-cons e)
 at-places (suc n) (x ∷ xs) [] e = absurd (no-cons (sym e))
 at-places (suc n) (x ∷ xs) (y ∷ ys) e = at-places n xs ys (let f : places xs ≡ places ys = cc in f)
 
-pub nine-any : (g h : Bool) (pid : ℕ) (cs : List Cell) → nineIn g pid cs ≡ nineIn h pid cs
-unfolding nineIn ofPid
-nine-any g h pid cs =
-    let mine = only (λ c. isCell (c .condition) && eqb (c .identifier) pid) cs in
-    at-places 750 (beginnings (map (seen g) mine)) (beginnings (map (seen h) mine)) (begins-places g h mine)
-
--- it goes by the first four bytes
-head-pid : (pid : ℕ) (cs : List Cell) → ofPid false pid (map head cs) ≡ ofPid false pid cs
-unfolding ofPid only
-head-pid pid [] = refl
-head-pid pid (c ∷ cs) = go _ _ (isCell (c .condition) && eqb (c .identifier) pid) (head-pid pid cs)
+-- a cell's first four bytes, as they are seen
+head-seen : (e : ℕ) (c : Cell) → seen e (head c) ≡ head (seen e c)
+head-seen e c = rw (go (heedsSplices e))
   where
-    go : (a b : List Cell) (t : Bool) → map (seen false) a ≡ map (seen false) b → map (seen false) (pick t (head c ∷ a) a) ≡ map (seen false) (pick t (c ∷ b) b)
-    go a b true e = ap (λ (r : List Cell). seen false c ∷ r) e
-    go a b false e = e
+    go : (b : Bool) → b && false ≡ false
+    go true = refl
+    go false = refl
 
-head-nine : (heeded : Bool) (pid : ℕ) (cs : List Cell) → nineIn heeded pid (map head cs) ≡ nineIn heeded pid cs
-head-nine heeded pid cs =
-    let same : nineIn false pid (map head cs) ≡ nineIn false pid cs = unfold nineIn in
-    ap (λ (x : List Cell). beginsAt (drop 750 (beginnings x))) (head-pid pid cs) in
-    nine-any heeded false pid (map head cs) ∙ same ∙ nine-any false heeded pid cs
+head-all : (e pid : ℕ) (cs : List Cell) → allOf e pid (map head cs) ≡ map head (allOf e pid cs)
+unfolding allOf only
+head-all e pid [] = refl
+head-all e pid (c ∷ cs) = go _ _ (isOf pid c) (head-all e pid cs)
+  where
+    go : (a b : List Cell) (t : Bool) → map (seen e) a ≡ map head (map (seen e) b) →
+        map (seen e) (pick t (head c ∷ a) a) ≡ map head (map (seen e) (pick t (c ∷ b) b))
+    go a b true z = rw (head-seen e c, z)
+    go a b false z = z
 
-pub nine-cells : (heeded : Bool) (o : Opening) (s : List ℕ) → tooManyUnits o s ≡ nineIn heeded (o .pid) (shownCells s)
-nine-cells heeded o s =
+head-from : (xs : List Cell) → fromSound (map head xs) ≡ map head (fromSound xs)
+unfolding fromSound
+head-from [] = refl
+head-from (c ∷ cs) = go (isDamaged (c .condition)) (head-from cs)
+  where
+    go : (t : Bool) → fromSound (map head cs) ≡ map head (fromSound cs) →
+        pick t (fromSound (map head cs)) (head c ∷ map head cs) ≡ map head (pick t (fromSound cs) (c ∷ cs))
+    go true z = z
+    go false z = refl
+
+head-nine : (e pid : ℕ) (cs : List Cell) → nineIn e pid (map head cs) ≡ nineIn e pid cs
+unfolding nineIn ofPid
+head-nine e pid cs =
+    ap (λ (x : List Cell). beginsAt (drop 750 (beginnings x)))
+    (ap fromSound (head-all e pid cs) ∙ head-from (allOf e pid cs))
+    ∙ at-places 750 (beginnings (map head (fromSound (allOf e pid cs)))) (beginnings (fromSound (allOf e pid cs)))
+    (begins-places (fromSound (allOf e pid cs)))
+
+pub nine-cells : (o : Opening) (s : List ℕ) → tooManyUnits o s ≡ nineIn (o .edition) (o .pid) (shownCells s)
+nine-cells o s =
     nine-of o s
     ∙ at-packets (reached 4 s)
-    ∙ sym (ap (nineIn false (o .pid)) (shown-of s ∙ heads (reached 4 s)) ∙ head-nine false (o .pid) (map cellOf (reached 4 s)))
-    ∙ nine-any false heeded (o .pid) (shownCells s)
+    ∙ sym (ap (nineIn (o .edition) (o .pid)) (shown-of s ∙ heads (reached 4 s))
+    ∙ head-nine (o .edition) (o .pid) (map cellOf (reached 4 s)))
   where
-    at-packets : (ps : List Packet) → nine o ps ≡ nineIn false (o .pid) (map cellOf ps)
-    at-packets ps = unfold nine nineIn beginnings rule.beginnings in
-        ap (λ (x : List rule.Arrival). beginsAt (drop 750 (only (λ a. a .begins) x)))
-        (arrivals-cells false (wantedOf o ps) ∙ ap arrivals (wanted-cells false o ps))
+    e : ℕ
+    e = o .edition
+
+    at-packets : (ps : List Packet) → nine o ps ≡ nineIn (o .edition) (o .pid) (map cellOf ps)
+    at-packets ps = unfold nine nineIn ofPid beginnings rule.beginnings in
+        at-places 750 (beginning (rule.arrivals false (knowsDamage e) (wantedOf o ps)))
+        (beginning (rule.arrivals (heedsSplices e) (knowsDamage e) (wantedOf o ps)))
+        (rule-places false (heedsSplices e) (knowsDamage e) (wantedOf o ps))
+        ∙ ap (λ (x : List rule.Arrival). beginsAt (drop 750 (only (λ a. a .begins) x)))
+        (arrivals-cells e (wantedOf o ps) ∙ ap (λ (x : List Cell). arrivals (fromSound x)) (wanted-cells e o ps))
 
 -- cells are shown behind the whole ones: the table of the whole ones tells whether 9 stands
-level-nine : (heeded : Bool) (pid : ℕ) (before : List ℕ) → Level before → (xs : List Cell) → nineIn heeded pid (shownCells before ++ map head xs) ≡ nineIn heeded pid (wholeCells before ++ xs)
-level-nine heeded pid before l xs =
-    ap (λ (x : List Cell). nineIn heeded pid (x ++ map head xs)) l ∙ ap (nineIn heeded pid) (sym (map-append head (wholeCells before) xs)) ∙ head-nine heeded pid (wholeCells before ++ xs)
+level-nine : (e pid : ℕ) (before : List ℕ) → Level before → (xs : List Cell) →
+    nineIn e pid (shownCells before ++ map head xs) ≡ nineIn e pid (wholeCells before ++ xs)
+level-nine e pid before l xs =
+    ap (λ (x : List Cell). nineIn e pid (x ++ map head xs)) l
+    ∙ ap (nineIn e pid) (sym (map-append head (wholeCells before) xs)) ∙ head-nine e pid (wholeCells before ++ xs)
 
 -- every cell that is shown is whole, and nothing is refused: 9 is not among the whole ones
-pub nine-level : (heeded : Bool) (o : Opening) (s : List ℕ) → Level s → captureFault o s ≡ none → nineIn heeded (o .pid) (wholeCells s) ≡ none
-nine-level heeded o s l c =
-    sym (head-nine heeded (o .pid) (wholeCells s))
-    ∙ ap (nineIn heeded (o .pid)) (sym l)
-    ∙ sym (nine-cells heeded o s)
+pub nine-level : (o : Opening) (s : List ℕ) → Level s → captureFault o s ≡ none →
+    nineIn (o .edition) (o .pid) (wholeCells s) ≡ none
+nine-level o s l c =
+    sym (head-nine (o .edition) (o .pid) (wholeCells s))
+    ∙ ap (nineIn (o .edition) (o .pid)) (sym l)
+    ∙ sym (nine-cells o s)
     ∙ none-both (formatFault s) (tooManyUnits o s) (sym (capture-format o s) ∙ c) .1
 
 -- ---- what each event does to what the capture shows first
 
-module _ (heeded : Bool) (o : Opening) {before after : List ℕ} where
-  by-shown : {xs ys : List Cell} → Gains before after xs ys → captureFault o after ≡ nineIn heeded (o .pid) (shownCells before ++ xs)
-  by-shown g = capture-format o after ∙ rw (g .clear) (nine-cells heeded o after ∙ ap (nineIn heeded (o .pid)) (g .shown))
+module _ (o : Opening) {before after : List ℕ} where
+  by-shown : {xs ys : List Cell} → Gains before after xs ys →
+      captureFault o after ≡ nineIn (o .edition) (o .pid) (shownCells before ++ xs)
+  by-shown g = capture-format o after
+      ∙ rw (g .clear) (nine-cells o after ∙ ap (nineIn (o .edition) (o .pid)) (g .shown))
 
   quiet : {ys : List Cell} → Gains before after [] ys → captureFault o before ≡ none → captureFault o after ≡ none
   quiet g c =
       by-shown g
-      ∙ rw (append-nil (shownCells before)) (sym (nine-cells heeded o before) ∙ none-both (formatFault before) (tooManyUnits o before) (sym (capture-format o before) ∙ c) .1)
+      ∙ rw (append-nil (shownCells before))
+      (sym (nine-cells o before)
+      ∙ none-both (formatFault before) (tooManyUnits o before) (sym (capture-format o before) ∙ c) .1)
 
   -- no cell, or one that was shown is whole: nothing new
   pub on-nothing : Gains before after [] [] → captureFault o before ≡ none → captureFault o after ≡ none
@@ -220,15 +386,17 @@ module _ (heeded : Bool) (o : Opening) {before after : List ℕ} where
   pub on-whole : {c : Cell} → Gains before after [] (c ∷ []) → captureFault o before ≡ none → captureFault o after ≡ none
   on-whole g c = quiet g c
 
-  pub on-cells : {cs : List Cell} → Gains before after (map head cs) cs → Level before → captureFault o after ≡ nineIn heeded (o .pid) (wholeCells before ++ cs)
-  on-cells {cs} g l = by-shown g ∙ level-nine heeded (o .pid) before l cs
+  pub on-cells : {cs : List Cell} → Gains before after (map head cs) cs → Level before →
+      captureFault o after ≡ nineIn (o .edition) (o .pid) (wholeCells before ++ cs)
+  on-cells {cs} g l = by-shown g ∙ level-nine (o .edition) (o .pid) before l cs
 
-  pub on-shown : {c : Cell} → Gains before after (c ∷ []) [] → Level before → captureFault o after ≡ nineIn heeded (o .pid) (wholeCells before ++ c ∷ [])
+  pub on-shown : {c : Cell} → Gains before after (c ∷ []) [] → Level before →
+      captureFault o after ≡ nineIn (o .edition) (o .pid) (wholeCells before ++ c ∷ [])
   on-shown {c} g l =
       by-shown g
-      ∙ sym (head-nine heeded (o .pid) (shownCells before ++ c ∷ []))
-      ∙ ap (nineIn heeded (o .pid)) (map-append head (shownCells before) (c ∷ []) ∙ twice l)
-      ∙ head-nine heeded (o .pid) (wholeCells before ++ c ∷ [])
+      ∙ sym (head-nine (o .edition) (o .pid) (shownCells before ++ c ∷ []))
+      ∙ ap (nineIn (o .edition) (o .pid)) (map-append head (shownCells before) (c ∷ []) ∙ twice l)
+      ∙ head-nine (o .edition) (o .pid) (wholeCells before ++ c ∷ [])
     where
       heads-again : (xs : List Cell) → map head (map head xs) ≡ map head xs
       heads-again [] = refl
@@ -246,7 +414,8 @@ grows-late (same (at-fault h)) e = absurd (never e)
 grows-late (new l) e = l
 
 -- a refusal of the format stands before any 9 that its bytes show
-module _ (heeded : Bool) (o : Opening) (before chunk : List ℕ) (w : Walk) (clear : captureFault o before ≡ none) (e : formatFault (before ++ chunk) ≡ fault (w .status) (w .place)) where
+module _ (o : Opening) (before chunk : List ℕ) (w : Walk) (clear : captureFault o before ≡ none)
+    (e : formatFault (before ++ chunk) ≡ fault (w .status) (w .place)) where
   both : (formatFault before ≡ none) × (tooManyUnits o before ≡ none)
   both = none-both (formatFault before) (tooManyUnits o before) (sym (capture-format o before) ∙ clear)
 
@@ -257,7 +426,9 @@ module _ (heeded : Bool) (o : Opening) (before chunk : List ℕ) (w : Walk) (cle
   nine-late : Halts w before (before ++ chunk) → Late (w .place) (tooManyUnits o (before ++ chunk))
   nine-late (again x) = absurd (never (sym x ∙ both .0))
   nine-late (surplus x) = rw x (grows-late (units-grow o before chunk) (both .1))
-  nine-late (silent x) = rw (nine-cells heeded o (before ++ chunk) ∙ ap (nineIn heeded (o .pid)) x ∙ sym (nine-cells heeded o before) ∙ both .1) late-none
+  nine-late (silent x) =
+      rw (nine-cells o (before ++ chunk) ∙ ap (nineIn (o .edition) (o .pid)) x ∙ sym (nine-cells o before) ∙ both .1)
+      late-none
 
   pub on-refused : Halts w before (before ++ chunk) → captureFault o (before ++ chunk) ≡ fault (w .status) (w .place)
   on-refused h = capture-format o (before ++ chunk) ∙ rw e (first (tooManyUnits o (before ++ chunk)) (nine-late h))
@@ -268,7 +439,7 @@ behind-all : (xs bs : List Cell) → (zs : List rule.Arrival) × (beginnings (xs
 behind-all xs [] = ([], ap beginnings (append-nil xs) ∙ sym (append-nil (beginnings xs)))
 behind-all xs (b ∷ bs) =
     let r = behind-all (xs ++ b ∷ []) bs in
-    let one = pick (beginsAfter xs b) (arrivalAfter xs b ∷ []) [] in
+    let one = pick (arrivalAfter xs b .begins) (arrivalAfter xs b ∷ []) [] in
     (one ++ r .0, ap beginnings (sym (append-assoc xs (b ∷ []) bs)) ∙ r .1 ∙ ap (λ (x : List rule.Arrival). x ++ r .0) (beginnings-more xs b) ∙ append-assoc (beginnings xs) one (r .0))
 
 first-kept : (us zs : List rule.Arrival) (k p : ℕ) → beginsAt us ≡ fault k p → beginsAt (us ++ zs) ≡ fault k p
@@ -285,12 +456,19 @@ past us k p e = go (decLe 750 (length us))
         let z : _≡_ {A = ℕ} 0 1 = cc in
         absurd (omega arith)
 
-pub nine-kept : (heeded : Bool) (pid : ℕ) (xs ys : List Cell) (k p : ℕ) → nineIn heeded pid xs ≡ fault k p → nineIn heeded pid (xs ++ ys) ≡ fault k p
-unfolding nineIn
-nine-kept heeded pid xs ys k p e =
-    let mine = ofPid heeded pid in
-    let r = behind-all (mine xs) (mine ys) in
-    ap (λ (x : List Cell). beginsAt (drop 750 (beginnings x))) (pid-append heeded pid xs ys)
+pub nine-kept : (e pid : ℕ) (xs ys : List Cell) (k p : ℕ) → nineIn e pid xs ≡ fault k p →
+    nineIn e pid (xs ++ ys) ≡ fault k p
+unfolding nineIn ofPid
+nine-kept e pid xs ys k p z =
+    let all = allOf e pid in
+    let mine = fromSound (all xs) in
+    let r = behind-all mine (all ys) in
+    let some : (mine ≡ [] → ⊥) = λ n. nothing (sym z ∙ ap (λ (x : List Cell). beginsAt (drop 750 (beginnings x))) n) in
+    ap (λ (x : List Cell). beginsAt (drop 750 (beginnings x)))
+    (ap fromSound (all-append e pid xs ys) ∙ from-append (all xs) (all ys) some)
     ∙ ap (λ (x : List rule.Arrival). beginsAt (drop 750 x)) (r .1)
-    ∙ ap beginsAt (drop-append-le 750 (beginnings (mine xs)) (r .0) (past (beginnings (mine xs)) k p e))
-    ∙ first-kept (drop 750 (beginnings (mine xs))) (r .0) k p e
+    ∙ ap beginsAt (drop-append-le 750 (beginnings mine) (r .0) (past (beginnings mine) k p z))
+    ∙ first-kept (drop 750 (beginnings mine)) (r .0) k p z
+  where
+    nothing : fault k p ≡ beginsAt (drop 750 (beginnings [])) → ⊥
+    nothing n = never (n ∙ (unfold beginnings arrivals only in refl))

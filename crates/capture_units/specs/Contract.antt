@@ -7,8 +7,9 @@ use lib.ListN.{length, getD}
 use lib.Dec.{ltb, eqb}
 use Rattle.rules.specs.declared.UnitRow.{UnitRow}
 use Rattle.rules.specs.Bytes.{pick, smaller, larger}
+use Rattle.rules.specs.Packets.{isDamaged}
 use Rattle.capture_cells.specs.declared.Cell.{Cell}
-use Rattle.capture_units.specs.Units.{beginsAfter, lastCounter, lossBehind, lossAfter, unitsOf, beginnings}
+use Rattle.capture_units.specs.Units.{marks, lossBehind, unitsOf, beginnings}
 use Rattle.capture_units.specs.declared.Unit.{Unit}
 use Rattle.capture_units.specs.declared.Units.{Units}
 use Rattle.capture_units.specs.State.{Stands}
@@ -21,10 +22,9 @@ TakesIn w s r w′ cs c = Stands w s cs → length (beginnings (cs ++ c ∷ []))
 abbrev pub Added : List ℕ → Units → Cell → Units → List ℕ → Type 0
 Added w s c r w′ = (cs : List Cell) → TakesIn w s r w′ cs c
 
--- `is_full`: the state, the start mark, the answer
-abbrev pub Full : Units → Bool → Bool → Type 0
-Full s start r =
-    (w : List ℕ) (cs : List Cell) (c : Cell) → start ≡ c .start → Stands w s cs → r ≡ ltb 750 (length (beginnings (cs ++ c ∷ [])))
+-- `is_full`: the state, the cell, the answer
+abbrev pub Full : Units → Cell → Bool → Type 0
+Full s c r = (w : List ℕ) (cs : List Cell) → Stands w s cs → r ≡ ltb 750 (length (beginnings (cs ++ c ∷ [])))
 
 -- `row`: the table, the unit's number, the row. 2 ^ 24 cells would have more than 2 ^ 28 bytes
 abbrev pub Row : List ℕ → ℕ → UnitRow → Type 0
@@ -49,12 +49,27 @@ joinedBy u time lost =
       damaged = u .damaged;
     }
 
+abbrev pub markedBy : Unit → Unit
+markedBy u =
+    record {
+      least = u .least;
+      greatest = u .greatest;
+      packets = u .packets;
+      lost = u .lost;
+      damaged = (u .damaged + 1) % 2 ^ 64;
+    }
+
 abbrev pub takenInto : Units → ℕ → ℕ → ℕ → Units
 takenInto s count c lost = record { count = count; previous = c; packets = (s .packets + 1) % 2 ^ 64; lost = (s .lost + lost) % 2 ^ 64 }
 
--- of a cell that begins a unit, and of one that does not
+-- of a cell that begins a unit, of one that does not, and of a damaged one
 abbrev pub Begun : List ℕ → Units → Cell → Units → List ℕ → Type 0
-Begun w s c r w′ = (cs : List Cell) → ((s .count ≡ 0 → ⊥) → c .start ≡ true) → TakesIn w s r w′ cs c
+Begun w s c r w′ = (cs : List Cell) → ((s .count ≡ 0 → ⊥) → marks c ≡ true) → TakesIn w s r w′ cs c
 
 abbrev pub Joined : List ℕ → Units → Cell → Units → List ℕ → Type 0
-Joined w s c r w′ = (cs : List Cell) → (s .count ≡ 0 → ⊥) → c .start ≡ false → TakesIn w s r w′ cs c
+Joined w s c r w′ =
+    (cs : List Cell) → (s .count ≡ 0 → ⊥) → isDamaged (c .condition) ≡ false → c .start ≡ false → TakesIn w s r w′ cs c
+
+abbrev pub Marked : List ℕ → Units → List ℕ → Type 0
+Marked w s w′ = (c : Cell) (cs : List Cell) → (s .count ≡ 0 → ⊥) → isDamaged (c .condition) ≡ true →
+    TakesIn w s s w′ cs c

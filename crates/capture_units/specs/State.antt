@@ -27,12 +27,19 @@ unitSet w j u =
 
 -- a row as words hold it: numbers modulo 2 ^ 64. The size is 184 for each cell and has no word
 abbrev pub held : UnitRow → Unit
-held u = record { least = u .least; greatest = u .greatest; packets = u .packets % 2 ^ 64; lost = u .lost % 2 ^ 64; damaged = 0 }
+held u =
+    record {
+      least = u .least;
+      greatest = u .greatest;
+      packets = u .packets % 2 ^ 64;
+      lost = u .lost % 2 ^ 64;
+      damaged = u .damaged % 2 ^ 64;
+    }
 
 abbrev pub noUnit : UnitRow
-noUnit = record { least = 0; greatest = 0; size = 0; packets = 0; lost = 0 }
+noUnit = record { least = 0; greatest = 0; size = 0; packets = 0; lost = 0; damaged = 0 }
 
--- the table w and the state s stand for the cells cs of PID
+-- the table w and the state s stand for the cells cs of PID, from the first on that is not damaged
 pub record Stands (w : List ℕ) (s : Units) (cs : List Cell) : Type 0 where
   pub size : length w ≡ 3750
   pub few : length (unitsOf cs) ≤ 750

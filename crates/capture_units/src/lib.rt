@@ -1,12 +1,15 @@
 // The units of the cells of PID, kept in a lent table: unit j has the five words from 5 * j on.
 // Cells come one by one. Every function is safe on any table and any `Units`.
 use capture_cells::Cell;
+use capture_cells::is_damaged;
 use rules::UnitRow;
 ghost use mathlib.Core.Path.{_≡_};
 ghost use Prim.Native.Nat.{_<_};
 ghost use Rattle.rules.specs.Bytes.{smaller, larger};
 ghost use Rattle.capture_units.specs.State.{unitAt, unitSet};
-ghost use Rattle.capture_units.specs.Contract.{lossOf, begunBy, joinedBy, takenInto, Begun, Joined, Added, Full, Row};
+ghost use Rattle.capture_units.specs.Contract.{lossOf, begunBy, joinedBy, markedBy, takenInto, Begun, Joined};
+ghost use Rattle.capture_units.specs.Contract.{Marked};
+ghost use Rattle.capture_units.specs.Contract.{Added, Full, Row};
 
 // A sample has so many units at most, and each has so many words in the table.
 pub const MOST_UNITS: usize = 750;
@@ -17,7 +20,8 @@ pub const TABLE_WORDS: usize = MOST_UNITS * UNIT_WORDS;
 
 pub type Table = [u64; TABLE_WORDS];
 
-// What is kept beside the table: the number of units, the counter of the cell before, and the totals over all units.
+// What is kept beside the table: the number of units, the counter that the next gap is measured from, and the totals
+// over all units.
 pub struct Units {
     pub count: u64,
     pub previous: u64,
@@ -25,7 +29,7 @@ pub struct Units {
     pub lost: u64,
 }
 
-// The words of a unit. Nothing counts as damaged yet.
+// The words of a unit.
 pub struct Unit {
     pub least: u64,
     pub greatest: u64,
@@ -117,6 +121,15 @@ fn joined(u: Unit, time: u64, lost: u64) -> Unit
     }
 }
 
+// A unit with one damaged cell more.
+fn marked(u: Unit) -> Unit
+    ensures { λ r. ⌜ r ≡ markedBy u ⌝ }
+{
+    let mut r = u;
+    r.damaged = std::num::wrapping_add_u64(u.damaged, 1);
+    r
+}
+
 // What is kept once the cell is in one of `count` units.
 fn taken(s: Units, count: u64, counter: u64, lost: u64) -> Units
     ensures { λ r. ⌜ r ≡ takenInto s count counter lost ⌝ }
@@ -162,12 +175,33 @@ fn join(table: &mut Table, s: Units, c: Cell) -> Units
     taken(s, count, c.counter, lost)
 }
 
-// Takes a cell of PID in. One that would begin a 751st unit changes nothing.
+// A damaged cell, in the last of `count` units: the state beside the table stays.
+fn mark(table: &mut Table, s: Units)
+    ensures { λ _. ⌜ Marked (now (table .entry)) s (now (table .exit)) ⌝ }
+{
+    let count = s.count;
+    if count < 1 {
+        return;
+    }
+    if (MOST_UNITS as u64) < count {
+        return;
+    }
+    let j = (count - 1) as usize;
+    let u = unit_at(table, j);
+    put_unit(table, j, marked(u));
+}
+
+// Takes a cell of PID in, from the first on that is not damaged. One that would begin a 751st unit changes nothing.
 pub fn add_cell(table: &mut Table, s: Units, c: Cell) -> Units
     ensures { λ r. ⌜ Added (now (table .entry)) s c r (now (table .exit)) ⌝ }
 {
     if s.count == 0 {
         return begin(table, s, c);
+    }
+    let k = c.condition;
+    if is_damaged(k) {
+        mark(table, s);
+        return s;
     }
     if c.start {
         return begin(table, s, c);
@@ -175,14 +209,18 @@ pub fn add_cell(table: &mut Table, s: Units, c: Cell) -> Units
     join(table, s, c)
 }
 
-// Whether a cell with this start mark would begin a 751st unit.
-pub fn is_full(s: Units, start: bool) -> bool
-    ensures { λ r. ⌜ Full s start r ⌝ }
+// Whether a cell would begin a 751st unit.
+pub fn is_full(s: Units, c: Cell) -> bool
+    ensures { λ r. ⌜ Full s c r ⌝ }
 {
     if s.count < MOST_UNITS as u64 {
         return false;
     }
-    start
+    let k = c.condition;
+    if is_damaged(k) {
+        return false;
+    }
+    c.start
 }
 
 // The row of unit j, as a record has it.
@@ -196,17 +234,20 @@ pub fn row(table: &Table, j: usize) -> UnitRow
             size: 0,
             packets: 0,
             lost: 0,
+            damaged: 0,
         };
     }
     let u = unit_at(table, j);
     let packets = u.packets % 4294967296;
     let size = 184 * packets % 4294967296;
     let lost = u.lost % 4294967296;
+    let damaged = u.damaged % 4294967296;
     UnitRow {
         least: u.least,
         greatest: u.greatest,
         size: size as u32,
         packets: packets as u32,
         lost: lost as u32,
+        damaged: damaged as u32,
     }
 }

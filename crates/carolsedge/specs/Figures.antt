@@ -16,7 +16,7 @@ figuresOf h =
     h .edition ∷ h .units ∷ h .scenes ∷ h .width ∷ h .height ∷ h .time ∷ h .pid ∷ h .pictures ∷ h .frames ∷ h .skipped ∷ h .bad ∷ h .index ∷ []
 
 abbrev pub unitFigures : UnitRow → List ℕ
-unitFigures u = u .least ∷ u .greatest ∷ u .size ∷ u .packets ∷ u .lost ∷ []
+unitFigures u = u .least ∷ u .greatest ∷ u .size ∷ u .packets ∷ u .lost ∷ u .damaged ∷ []
 
 abbrev pub sceneFigures : SceneRow → List ℕ
 sceneFigures s = s .first ∷ s .pictures ∷ s .repeated ∷ s .longest ∷ s .score ∷ s .peak ∷ s .change ∷ []

@@ -175,7 +175,7 @@ fn put_header(figures: &mut [u64; 12], h: Header)
     ];
 }
 
-fn put_unit(row: &mut [u64; 5], u: UnitRow)
+fn put_unit(row: &mut [u64; 6], u: UnitRow)
     ensures { λ _. ⌜ now (row .exit) ≡ unitFigures u ⌝ }
 {
     *row = [
@@ -184,6 +184,7 @@ fn put_unit(row: &mut [u64; 5], u: UnitRow)
         u.size as u64,
         u.packets as u64,
         u.lost as u64,
+        u.damaged as u64,
     ];
 }
 
@@ -217,7 +218,7 @@ pub extern "C" fn carolsedge_read_header(bytes: &[u8], figures: &mut [u64; 12]) 
 
 // Tests the whole record, and gives unit row j.
 #[no_mangle]
-pub extern "C" fn carolsedge_read_unit(bytes: &[u8], j: usize, row: &mut [u64; 5]) -> u32
+pub extern "C" fn carolsedge_read_unit(bytes: &[u8], j: usize, row: &mut [u64; 6]) -> u32
     ensures { λ r. ⌜ UnitRead (now (bytes .entry)) j (now (row .entry)) r (now (row .exit)) ⌝ }
 {
     match record_view::read_unit(bytes, j) {

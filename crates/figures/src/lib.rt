@@ -7,6 +7,7 @@ mod refusals;
 
 pub use editions::heeds_splices;
 pub use editions::is_edition;
+pub use editions::knows_damage;
 pub use editions::rounds_to_nearest;
 pub use gaps::gap_loss;
 pub use numbers::apart;

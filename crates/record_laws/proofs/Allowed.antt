@@ -3,7 +3,7 @@ use Prim.Native.Nat.{ℕ, zero, suc, _+_, _*_, _^_, _≤_, _<_}
 use native.Mathlib.Omega.{arith}
 use native.Mathlib.Nat.{add-zero}
 use mathlib.Core.Path.{_≡_, refl, sym, ap, _∙_}
-use mathlib.Core.Bool.{Bool, true, false, _&&_}
+use mathlib.Core.Bool.{Bool, true, false, _&&_, _||_}
 use mathlib.Core.List.{List, [], _∷_, _++_, map, append-assoc, append-nil}
 use lib.ListN.{length, drop, length-append, length-drop}
 use lib.Seq.{drop-drop, drop-length, drop-at, getD-drop}
@@ -13,7 +13,7 @@ use Rattle.rules.specs.declared.Header.{Header}
 use Rattle.rules.specs.declared.UnitRow.{UnitRow}
 use Rattle.rules.specs.declared.SceneRow.{SceneRow}
 use Rattle.rules.specs.Bytes.{pick, within, word32, word64, bytesOf, endToEnd, table}
-use Rattle.rules.specs.Editions.{isEdition}
+use Rattle.rules.specs.Editions.{isEdition, knowsDamage}
 use Rattle.rules.specs.Opening.{goodSize, goodTime, goodPid}
 use Rattle.rules.specs.Record.{recordLength, sceneOffset, headerBytes, unitBytes, sceneBytes, recordBytes}
 use Rattle.rules.specs.Reading.{headerOf, unitPlace, scenePlace, unitAt, sceneAt, allowedHeader, allowedUnit}
@@ -23,7 +23,7 @@ use Rattle.record_laws.proofs.Words.{word64-fits}
 use Rattle.rules.proofs.Laws.Lists.{both, inside, length-table}
 use Rattle.record_laws.specs.RowIn.{unitIn, sceneIn}
 use Rattle.record_laws.proofs.Record.{HeaderFits, UnitFits, SceneFits, Each, Figures, unit-back, scene-back}
-use Rattle.record_laws.proofs.Record.{unit-zero, scene-zero, length-header, length-unit, length-scene}
+use Rattle.record_laws.proofs.Record.{scene-zero, length-header, length-unit, length-scene}
 use Rattle.record_laws.proofs.Record.{length-rows, length-record, header-back, parts-of}
 
 -- ---- tests
@@ -45,12 +45,15 @@ goodHeader h =
     && goodSize (h .width) (h .height) && goodTime (h .time) && goodPid (h .pid)
     && leb (h .skipped) (h .frames)
 
-unfoldable pub goodUnit : UnitRow → Bool
-goodUnit u = leb (u .least) (u .greatest) && leb 1 (u .packets) && eqb (u .size) (184 * u .packets)
+-- by whether damage is known
+unfoldable pub goodUnit : Bool → UnitRow → Bool
+goodUnit known u =
+    leb (u .least) (u .greatest) && leb 1 (u .packets) && eqb (u .size) (184 * u .packets) &&
+    (known || eqb (u .damaged) 0)
 
-unfoldable pub goodUnits : List UnitRow → Bool
-goodUnits [] = true
-goodUnits (u ∷ us) = goodUnit u && goodUnits us
+unfoldable pub goodUnits : Bool → List UnitRow → Bool
+goodUnits known [] = true
+goodUnits known (u ∷ us) = goodUnit known u && goodUnits known us
 
 -- from picture `from` on, without gap, to picture N
 unfoldable pub goodScenes : ℕ → ℕ → List SceneRow → Bool
@@ -58,7 +61,7 @@ goodScenes pictures from [] = eqb from pictures
 goodScenes pictures from (s ∷ ss) = (eqb (s .first) from && leb 1 (s .pictures)) && goodScenes pictures (from + s .pictures) ss
 
 unfoldable pub goodFigures : Header → List UnitRow → List SceneRow → Bool
-goodFigures h us ss = goodHeader h && (goodUnits us && goodScenes (h .pictures) 0 ss)
+goodFigures h us ss = goodHeader h && (goodUnits (knowsDamage (h .edition)) us && goodScenes (h .pictures) 0 ss)
 
 -- ---- a record that was made of figures is allowed exactly where they meet the conditions
 
@@ -92,18 +95,23 @@ allowed-header h r n w e =
     let c : eqb (word32 r 20) (sceneOffset (word32 r 8)) ≡ true = rw u (eq-eqb _ _ (w .sceneOffset)) in
     rw (a, w .unitOffset, ← w .figures, b, c) (simp and-true)
 
-allowed-unit : (u : UnitRow) (t : List ℕ) → UnitFits u → allowedUnit (unitBytes u ++ t) ≡ goodUnit u
+allowed-unit : (known : Bool) (u : UnitRow) (t : List ℕ) → UnitFits u →
+    allowedUnit known (unitBytes u ++ t) ≡ goodUnit known u
 unfolding allowedUnit goodUnit unitIn
-allowed-unit u t f =
-    let e : allowedUnit (unitBytes u ++ t) ≡ goodUnit (unitIn (unitBytes u ++ t)) = rw (unit-zero u t, and-true) in
-    e ∙ ap goodUnit (unit-back u t f)
+allowed-unit known u t f = ap (goodUnit known) (unit-back u t f)
 
-allowed-units : (us : List UnitRow) (t : List ℕ) → Each UnitFits us → allowedUnits (length us) (endToEnd (map unitBytes us) ++ t) ≡ goodUnits us
+allowed-units : (known : Bool) (us : List UnitRow) (t : List ℕ) → Each UnitFits us →
+    allowedUnits known (length us) (endToEnd (map unitBytes us) ++ t) ≡ goodUnits known us
 unfolding allowedUnits goodUnits endToEnd
-allowed-units [] t f = refl
-allowed-units (u ∷ us) t f =
+allowed-units known [] t f = refl
+allowed-units known (u ∷ us) t f =
     let more = endToEnd (map unitBytes us) ++ t in
-    rw (append-assoc (unitBytes u) (endToEnd (map unitBytes us)) t, drop-at (unitBytes u) more 32 (length-unit u), allowed-unit u more (f .0), allowed-units us t (f .1))
+    rw (
+      append-assoc (unitBytes u) (endToEnd (map unitBytes us)) t,
+      drop-at (unitBytes u) more 32 (length-unit u),
+      allowed-unit known u more (f .0),
+      allowed-units known us t (f .1),
+    )
 
 allowed-scene : (from : ℕ) (s : SceneRow) (t : List ℕ) → SceneFits s → allowedScene from (sceneBytes s ++ t) ≡ (eqb (s .first) from && leb 1 (s .pictures))
 unfolding allowedScene sceneIn
@@ -140,8 +148,11 @@ allowed-figures h us ss f =
     let u : word32 r 8 ≡ length us = ap (λ (x : Header). x .units) (w .figures) ∙ sym (f .units) in
     let s : word32 r 16 ≡ length ss = ap (λ (x : Header). x .scenes) (w .figures) ∙ sym (f .scenes) in
     let p : word32 r 40 ≡ h .pictures = ap (λ (x : Header). x .pictures) (w .figures) in
-    let units : allowedUnits (word32 r 8) (drop 64 r) ≡ goodUnits us =
-    rw (u, rows-place h us ss) (allowed-units us (endToEnd (map sceneBytes ss)) (f .unitRows)) in
+    let e : word32 r 0 ≡ h .edition = ap (λ (x : Header). x .edition) (w .figures) in
+    let units : allowedUnits (knowsDamage (word32 r 0)) (word32 r 8) (drop 64 r)
+    ≡ goodUnits (knowsDamage (h .edition)) us =
+    rw (e, u, rows-place h us ss)
+    (allowed-units (knowsDamage (h .edition)) us (endToEnd (map sceneBytes ss)) (f .unitRows)) in
     let scenes : allowedScenes (word32 r 40) (word32 r 16) 0 (drop (sceneOffset (word32 r 8)) r) ≡ goodScenes (h .pictures) 0 ss =
     rw (p, s, u, scenes-place h us ss) (rw append-nil at (allowed-scenes (h .pictures) 0 ss [] (f .sceneRows))) in
     rw (pick-and, allowed-header h r (length r) w n, units, scenes)
@@ -212,12 +223,18 @@ header-again r b k a =
     simp append-assoc
     (rw (bytes-word64 r 56 b k, at 52 (omega arith), at 48 (omega arith), at 44 (omega arith), at 40 (omega arith), at 36 (omega arith), at 32 (omega arith), at 28 (omega arith), at 24 (omega arith), a20, at 16 (omega arith), a12, at 8 (omega arith), a4, at 0 (omega arith)))
 
-unit-again : (b : List ℕ) → EachByte b → 32 ≤ length b → word32 b 28 ≡ 0 → unitBytes (unitIn b) ++ drop 32 b ≡ b
+unit-again : (b : List ℕ) → EachByte b → 32 ≤ length b → unitBytes (unitIn b) ++ drop 32 b ≡ b
 unfolding unitBytes unitIn
-unit-again b y k z =
+unit-again b y k =
     let at : (i : ℕ) → i + 4 ≤ 32 → bytesOf 4 (word32 b i) ++ drop (i + 4) b ≡ drop i b = λ i l. bytes-word32 b i y (omega arith) in
-    let a28 = rw z at (at 28 (omega arith)) in
-    simp append-assoc (rw (a28, at 24 (omega arith), at 20 (omega arith), at 16 (omega arith), bytes-word64 b 8 y (omega arith), bytes-word64 b 0 y (omega arith)))
+    simp append-assoc (rw (
+      at 28 (omega arith),
+      at 24 (omega arith),
+      at 20 (omega arith),
+      at 16 (omega arith),
+      bytes-word64 b 8 y (omega arith),
+      bytes-word64 b 0 y (omega arith),
+    ))
 
 scene-again : (b : List ℕ) → EachByte b → 32 ≤ length b → word32 b 28 ≡ 0 → sceneBytes (sceneIn b) ++ drop 32 b ≡ b
 unfolding sceneBytes sceneIn
@@ -245,20 +262,7 @@ module _ {A : Type 0} (row : A → List ℕ) (r : List ℕ) (p : ℕ) (read : �
       let g : p + 32 * 0 ≡ p = omega arith in
       rw (e, g) at (rows-again n 0 (λ i a b. h i (omega arith)))
 
--- every row of an allowed record is allowed, so its word 28 is zero
-units-allowed : (n : ℕ) (b : List ℕ) → allowedUnits n b ≡ true → (i : ℕ) → i < n → allowedUnit (drop (32 * i) b) ≡ true
-unfolding allowedUnits
-units-allowed zero b e i h = absurd (omega arith)
-units-allowed (suc n) b e zero h = both (allowedUnit b) (allowedUnits n (drop 32 b)) e .0
-units-allowed (suc n) b e (suc i) h =
-    let g : 32 * suc i ≡ 32 + 32 * i = omega arith in
-    rw (g, ← drop-drop (32 * i) 32 b) (units-allowed n (drop 32 b) (both (allowedUnit b) (allowedUnits n (drop 32 b)) e .1) i (omega arith))
-
-unit-zero-allowed : (b : List ℕ) → allowedUnit b ≡ true → word32 b 28 ≡ 0
-unfolding allowedUnit
-unit-zero-allowed b e =
-    eqb-true (word32 b 28) 0 (both (leb (word64 b 0) (word64 b 8) && leb 1 (word32 b 20) && eqb (word32 b 16) (184 * word32 b 20)) (eqb (word32 b 28) 0) e .1)
-
+-- every scene row of an allowed record is allowed, so its word 28 is zero
 scene-zero-allowed : (from : ℕ) (b : List ℕ) → allowedScene from b ≡ true → word32 b 28 ≡ 0
 unfolding allowedScene
 scene-zero-allowed from b e = eqb-true (word32 b 28) 0 (both (eqb (word32 b 0) from && leb 1 (word32 b 4)) (eqb (word32 b 28) 0) e .1)
@@ -276,7 +280,7 @@ scenes-allowed pictures (suc n) from b e (suc i) h =
 -- an allowed record's header and rows
 pub record RecordAllowed (r : List ℕ) : Type 0 where
   pub header : HeaderAllowed (length r) r
-  pub units : allowedUnits (word32 r 8) (drop 64 r) ≡ true
+  pub units : allowedUnits (knowsDamage (word32 r 0)) (word32 r 8) (drop 64 r) ≡ true
   pub scenes : allowedScenes (word32 r 40) (word32 r 16) 0 (drop (sceneOffset (word32 r 8)) r) ≡ true
 
 pub record-allowed : (r : List ℕ) → allowed r ≡ true → RecordAllowed r
@@ -302,12 +306,10 @@ module _ (r : List ℕ) (b : EachByte r) (a : RecordAllowed r) where
   unfolding unitsRead unitAt unitPlace unitIn
   units-again =
       let n = long-enough in
-      let zero-at : (i : ℕ) → i < word32 r 8 → word32 (drop (64 + 32 * i) r) 28 ≡ 0 =
-      λ i k. rw (drop-drop (32 * i) 64 r) at (unit-zero-allowed (drop (32 * i) (drop 64 r)) (units-allowed (word32 r 8) (drop 64 r) (a .units) i k)) in
       rows-all unitBytes r 64 (unitAt r) (word32 r 8)
       (λ i k.
       rw (drop-drop 32 (64 + 32 * i) r) at
-      (unit-again (drop (64 + 32 * i) r) (bytes-drop (64 + 32 * i) r b) (simp length-drop (omega arith)) (zero-at i k)))
+      (unit-again (drop (64 + 32 * i) r) (bytes-drop (64 + 32 * i) r b) (simp length-drop (omega arith))))
 
   scenes-again : endToEnd (map sceneBytes (scenesRead r)) ++ drop (64 + 32 * word32 r 8 + 32 * word32 r 16) r ≡ drop (64 + 32 * word32 r 8) r
   unfolding scenesRead sceneAt scenePlace sceneIn sceneOffset
@@ -368,7 +370,14 @@ unfolding unitAt
 unit-fits r b j =
     let t = drop (unitPlace j) r in
     let y = bytes-drop (unitPlace j) r b in
-    record { least = word64-fits t 0 y; greatest = word64-fits t 8 y; size = word32-fits t 16 y; packets = word32-fits t 20 y; lost = word32-fits t 24 y }
+    record {
+      least = word64-fits t 0 y;
+      greatest = word64-fits t 8 y;
+      size = word32-fits t 16 y;
+      packets = word32-fits t 20 y;
+      lost = word32-fits t 24 y;
+      damaged = word32-fits t 28 y;
+    }
 
 pub scene-fits : (r : List ℕ) → EachByte r → (j : ℕ) → SceneFits (sceneAt r j)
 unfolding sceneAt

@@ -5,7 +5,7 @@ use native.Mathlib.Nat.{mul-suc}
 use native.Mathlib.Decide.{decLe}
 use mathlib.Core.Path.{_≡_, refl, sym, _∙_}
 use mathlib.Core.List.{List, [], _∷_, _++_, map, append-nil}
-use mathlib.Core.Bool.{Bool, true, false, _||_, false≢true}
+use mathlib.Core.Bool.{Bool, true, false, not, _||_, false≢true}
 use lib.ListN.{length, take, drop, length-append, length-take}
 use lib.Dec.{ltb}
 use lib.Ieee.{binary64}
@@ -17,11 +17,13 @@ use Rattle.rules.specs.declared.UnitRow.{UnitRow}
 use Rattle.rules.specs.declared.SceneRow.{SceneRow}
 use Rattle.rules.specs.Bytes.{pick, byte, total, greatestOf, leastOf, endToEnd, All, and, Bytes, empty}
 use Rattle.rules.specs.Refusals.{Fault, none, fault, _orElse_}
-use Rattle.rules.specs.Editions.{isEdition, heedsSplices}
+use Rattle.rules.specs.Editions.{isEdition, heedsSplices, knowsDamage}
 use Rattle.rules.specs.Opening.{openingFault}
 use Rattle.rules.specs.Frames.{seconds, microseconds, storedLength, frameTime, frameSize, frames, behindHeader}
-use Rattle.rules.specs.Packets.{Packet, packetsFrom, packetsOf, packets, kind, isWanted, wantedOf}
-use Rattle.rules.specs.Units.{Arrival, arrivalsAfter, arrivals, intoFirst, groups, leastTime, unitOf, unitsOf}
+use Rattle.rules.specs.Packets.{Packet, packetsFrom, packetsOf, packets, isWanted, wantedOf}
+use Rattle.rules.specs.Units.{Arrival, setApart, firstArrival, damagedArrival, laterArrival, arrivalsAfter, arrivals}
+use Rattle.rules.specs.Units.{beforeUnits}
+use Rattle.rules.specs.Units.{intoFirst, groups, cellsOf, leastTime, unitOf, unitsOf}
 use Rattle.rules.specs.Capture.{wholeFrames, unfinished, allFrames, wholeWanted, units, showing, wrongFrameHeader, wrongFrame, captureFault, captureInside}
 use Rattle.rules.specs.Pictures.{pictureCount, lumaFault}
 use Rattle.rules.specs.Scenes.{span, isTrue, starts, sceneOf, scenesAt, scenesOf}
@@ -43,7 +45,8 @@ use Rattle.rules.proofs.Laws.Clear.{none-both, clear-of, long-of, shows}
 use Rattle.rules.proofs.Laws.Bounds.{frame-count-few, skipped-few, bad-few, wanted-few}
 use Rattle.luma_laws.proofs.Sizes.{good}
 use Rattle.luma_laws.proofs.Ranges.{AtMost, sample-scored, sample-changed}
-use Rattle.rules.proofs.Laws.UnitsMore.{units-beginnings, packets-total, lost-small, allPackets, allLost}
+use Rattle.rules.proofs.Laws.UnitsMore.{units-beginnings, packets-total, lost-small, allPackets, allLost, allDamaged}
+use Rattle.rules.proofs.Laws.Damage.{cells-groups, zero-units}
 use Rattle.record_laws.proofs.Record.{Each, UnitFits, SceneFits, Figures}
 use Rattle.luma_laws.proofs.Spans.{longest-most, peak-most}
 use Rattle.luma_laws.proofs.Scenes.{Apart, last, next, starts-apart, below-length, starts-first, sample-scores, sample-few, pictures-most}
@@ -197,7 +200,7 @@ wanted-timed o s h c i =
     let room : 24 + length (endToEnd fs) ≤ length s = unfold base in omega (arith, base-sum s (header-there s i)) in
     let fine : wrongFrame (length s) 24 (fs ++ unfinished s ∷ []) ≡ none = unfold allFrames in clear-of o s c .frames in
     rw (wanted-between o s (between s i))
-    (only-all (λ (p : Packet). isWanted (kind o (p .bytes)))
+    (only-all (λ (p : Packet). isWanted o (p .bytes))
     (packets-timed 24 fs (frames-timed (length s) 24 fs (unfinished s ∷ []) (frames-whole s) whole-bytes room fine)))
 
 -- ---- a unit has a packet, its least time is at most its greatest, and both are times of packets
@@ -205,17 +208,34 @@ wanted-timed o s h c i =
 abbrev Arrived : Arrival → Type 0
 Arrived a = a .time ≤ lastTime
 
-after-arrived : (heeded : Bool) (q : Packet) (ps : List Packet) → All Timed ps → All Arrived (arrivalsAfter heeded q ps)
+after-arrived : (heeded known : Bool) (q : Packet) (ps : List Packet) → All Timed ps →
+    All Arrived (arrivalsAfter heeded known q ps)
 unfolding arrivalsAfter
-after-arrived heeded q [] h = empty
-after-arrived heeded q (p ∷ ps) (and h hs) = and h (after-arrived heeded p ps hs)
+after-arrived heeded known q [] h = empty
+after-arrived heeded known q (p ∷ ps) (and h hs) =
+    go (setApart known p) (after-arrived heeded known q ps hs) (after-arrived heeded known p ps hs)
+  where
+    go : (t : Bool) → All Arrived (arrivalsAfter heeded known q ps) → All Arrived (arrivalsAfter heeded known p ps) →
+        All Arrived (pick t (damagedArrival p ∷ arrivalsAfter heeded known q ps)
+        (laterArrival heeded q p ∷ arrivalsAfter heeded known p ps))
+    go true d e = and h d
+    go false d e = and h e
 
-all-arrived : (heeded : Bool) (ps : List Packet) → All Timed ps → All Arrived (arrivals heeded ps)
+all-arrived : (heeded known : Bool) (ps : List Packet) → All Timed ps → All Arrived (arrivals heeded known ps)
 unfolding arrivals
-all-arrived heeded [] h = empty
-all-arrived heeded (p ∷ ps) (and h hs) = and h (after-arrived heeded p ps hs)
+all-arrived heeded known [] h = empty
+all-arrived heeded known (p ∷ ps) (and h hs) = go (setApart known p) (all-arrived heeded known ps hs)
+  where
+    go : (t : Bool) → All Arrived (arrivals heeded known ps) →
+        All Arrived (pick t (arrivals heeded known ps) (firstArrival p ∷ arrivalsAfter heeded known p ps))
+    go true d = d
+    go false d = and h (after-arrived heeded known p ps hs)
 
--- a unit's arrivals: some, each in time
+cells-arrived : (xs : List Arrival) → All Arrived xs → All Arrived (cellsOf xs)
+unfolding cellsOf
+cells-arrived xs h = only-all (λ (a : Arrival). not (a .damaged)) h
+
+-- a unit's cells: some, each in time
 pub data Group : List Arrival → Type 0 where
   group : {a : Arrival} {xs : List Arrival} → All Arrived (a ∷ xs) → Group (a ∷ xs)
 
@@ -261,18 +281,37 @@ pub record UnitRange (n : ℕ) (u : UnitRow) : Type 0 where
   pub size : u .size ≡ 184 * u .packets
   pub packets : 188 * u .packets ≤ n
   pub lost : 188 * u .lost ≤ 14 * n
+  pub damaged : 188 * u .damaged ≤ n
 
-unit-range : (n : ℕ) {g : List Arrival} → Group g → 188 * unitOf g .packets ≤ n → 188 * unitOf g .lost ≤ 14 * n → UnitRange n (unitOf g)
-unfolding unitOf leastTime
-unit-range n (group {a} {xs} h) p l =
+-- of a unit's cells
+record CellRange (cs : List Arrival) : Type 0 where
+  ordered : leastTime cs ≤ greatestOf (times cs)
+  time : greatestOf (times cs) ≤ 4294967295 * 1000000 + 999999
+  some : 1 ≤ length cs
+
+cell-range : {cs : List Arrival} → Group cs → CellRange cs
+unfolding leastTime
+cell-range (group {a} {xs} h) =
     let x = least-first (a .time) (times xs) in
     let y = greatest-first (a .time) (times xs) in
-    record { ordered = omega arith; time = greatest-most (a ∷ xs) h; some = omega arith; size = refl; packets = p; lost = l }
+    record { ordered = omega arith; time = greatest-most (a ∷ xs) h; some = omega arith }
 
-units-each : (n : ℕ) (gs : List (List Arrival)) → All Group gs → 188 * allPackets (map unitOf gs) ≤ n → 188 * allLost (map unitOf gs) ≤ 14 * n → Each (UnitRange n) (map unitOf gs)
+unit-range : (n : ℕ) (g : List Arrival) → Group (cellsOf g) → 188 * unitOf g .packets ≤ n →
+    188 * unitOf g .lost ≤ 14 * n → 188 * unitOf g .damaged ≤ n → UnitRange n (unitOf g)
+unfolding unitOf
+unit-range n g h p l d =
+    let r = cell-range h in
+    record { ordered = r .ordered; time = r .time; some = r .some; size = refl; packets = p; lost = l; damaged = d }
+
+units-each : (n : ℕ) (gs : List (List Arrival)) → All Group (map cellsOf gs) →
+    188 * allPackets (map unitOf gs) ≤ n → 188 * allLost (map unitOf gs) ≤ 14 * n →
+    188 * allDamaged (map unitOf gs) ≤ n → Each (UnitRange n) (map unitOf gs)
 unfolding total
-units-each n [] h p l = tt
-units-each n (g ∷ gs) (and h hs) p l = (unit-range n h (omega arith) (omega arith), units-each n gs hs (omega arith) (omega arith))
+units-each n [] h p l d = tt
+units-each n (g ∷ gs) (and h hs) p l d = (
+  unit-range n g h (omega arith) (omega arith) (omega arith),
+  units-each n gs hs (omega arith) (omega arith) (omega arith),
+)
 
 pub unit-ranges : (o : Opening) (capture luma : List ℕ) → Sealable o capture luma → Bytes capture → Each (UnitRange (length capture)) (units o capture)
 unfolding units unitsOf
@@ -280,14 +319,37 @@ unit-ranges o capture luma h b =
     let ps = wholeWanted o capture in
     let few = wanted-few o capture in
     let heeded = heedsSplices (o .edition) in
-    let all = arrivals heeded ps in
-    let p : allPackets (map unitOf (groups all)) ≡ length ps = packets-total (o .edition) ps in
+    let known = knowsDamage (o .edition) in
+    let all = arrivals heeded known ps in
+    let p : allPackets (map unitOf (groups all)) + allDamaged (map unitOf (groups all)) + beforeUnits known ps
+    ≡ length ps = packets-total (o .edition) ps in
     let l : allLost (map unitOf (groups all)) ≤ 14 * length ps = lost-small (o .edition) ps in
     let timed = wanted-timed o capture b (h .clear) (h .inside) in
-    units-each (length capture) (groups all) (all-groups all (all-arrived heeded ps timed)) (omega arith) (omega arith)
+    let cells : All Group (map cellsOf (groups all)) =
+    rw (cells-groups heeded known ps) at
+    (all-groups (cellsOf all) (cells-arrived all (all-arrived heeded known ps timed))) in
+    units-each (length capture) (groups all) cells (omega arith) (omega arith) (omega arith)
+
+-- word 28 is zero where no damage is known
+all-each : {A : Type 0} {P : A → Type 0} {xs : List A} → All P xs → Each P xs
+all-each empty = tt
+all-each (and h hs) = (h, all-each hs)
+
+pub unit-zeros : (o : Opening) (capture : List ℕ) → knowsDamage (o .edition) ≡ false →
+    Each (λ u. u .damaged ≡ 0) (units o capture)
+unfolding units
+unit-zeros o capture h = all-each (zero-units (o .edition) (wholeWanted o capture) h)
 
 pub unit-fits : {n : ℕ} {u : UnitRow} → n ≤ 268435456 → UnitRange n u → UnitFits u
-unit-fits {n} {u} h r = record { least = omega arith; greatest = omega arith; size = omega arith; packets = omega arith; lost = omega arith }
+unit-fits {n} {u} h r =
+    record {
+      least = omega arith;
+      greatest = omega arith;
+      size = omega arith;
+      packets = omega arith;
+      lost = omega arith;
+      damaged = omega arith;
+    }
 
 pub capture-most : (o : Opening) (capture luma : List ℕ) → Sealable o capture luma → length capture ≤ 268435456
 capture-most o capture luma h = long-of capture (clear-of o capture (h .clear) .long)

@@ -35,6 +35,7 @@ pub record UnitFits (u : UnitRow) : Type 0 where
   pub size : u .size < 2 ^ 32
   pub packets : u .packets < 2 ^ 32
   pub lost : u .lost < 2 ^ 32
+  pub damaged : u .damaged < 2 ^ 32
 
 pub record SceneFits (s : SceneRow) : Type 0 where
   pub first : s .first < 2 ^ 32
@@ -72,18 +73,21 @@ header-back h t f =
 pub unit-back : (u : UnitRow) (t : List ℕ) → UnitFits u → unitIn (unitBytes u ++ t) ≡ u
 unfolding unitIn unitBytes word32 word64 bytesOf
 unit-back u t f =
-    rw (long (u .least) (f .least), long (u .greatest) (f .greatest), word (u .size) (f .size), word (u .packets) (f .packets), word (u .lost) (f .lost))
+    rw (
+      long (u .least) (f .least),
+      long (u .greatest) (f .greatest),
+      word (u .size) (f .size),
+      word (u .packets) (f .packets),
+      word (u .lost) (f .lost),
+      word (u .damaged) (f .damaged),
+    )
 
 pub scene-back : (s : SceneRow) (t : List ℕ) → SceneFits s → sceneIn (sceneBytes s ++ t) ≡ s
 unfolding sceneIn sceneBytes word32 bytesOf
 scene-back s t f =
     rw (word (s .first) (f .first), word (s .pictures) (f .pictures), word (s .repeated) (f .repeated), word (s .longest) (f .longest), word (s .score) (f .score), word (s .peak) (f .peak), word (s .change) (f .change))
 
--- its word 28 is zero
-pub unit-zero : (u : UnitRow) (t : List ℕ) → word32 (unitBytes u ++ t) 28 ≡ 0
-unfolding unitBytes word32 bytesOf
-unit-zero u t = refl
-
+-- word 28 of a scene is zero
 pub scene-zero : (s : SceneRow) (t : List ℕ) → word32 (sceneBytes s ++ t) 28 ≡ 0
 unfolding sceneBytes word32 bytesOf
 scene-zero s t = refl
@@ -172,9 +176,6 @@ module _ (h : Header) (us : List UnitRow) (ss : List SceneRow) (f : Figures h us
       ap unitIn (unit-place h us ss j z k)
       ∙ unit-back (getD us j z) (endToEnd (map unitBytes (drop (suc j) us)) ++ endToEnd (map sceneBytes ss)) (each-at UnitFits us j z (f .unitRows) k)
 
-  pub unit-zero-read : (j : ℕ) → UnitRow → j < length us → word32 (drop (unitPlace j) (recordBytes h us ss)) 28 ≡ 0
-  unit-zero-read j z k = rw (unit-place h us ss j z k) (unit-zero (getD us j z) (endToEnd (map unitBytes (drop (suc j) us)) ++ endToEnd (map sceneBytes ss)))
-
   units-read : word32 (recordBytes h us ss) 8 ≡ length us
   unfolding headerOf
   units-read = ap (λ (x : Header). x .units) header-read ∙ sym (f .units)
@@ -195,7 +196,7 @@ module _ (h : Header) (us : List UnitRow) (ss : List SceneRow) (f : Figures h us
 
 -- two sets of figures that fit never have one record
 noUnit : UnitRow
-noUnit = record { least = 0; greatest = 0; size = 0; packets = 0; lost = 0 }
+noUnit = record { least = 0; greatest = 0; size = 0; packets = 0; lost = 0; damaged = 0 }
 
 noScene : SceneRow
 noScene = record { first = 0; pictures = 0; repeated = 0; longest = 0; score = 0; peak = 0; change = 0 }

@@ -3,8 +3,9 @@ use Prim.Native.Nat.{ℕ, _+_, _*_, _≤_, _<_}
 use native.Mathlib.Omega.{arith}
 use mathlib.Core.Path.{_≡_, refl, ap, _∙_}
 use mathlib.Core.List.{List, [], _∷_}
-use mathlib.Core.Bool.{Bool, true, false}
+use mathlib.Core.Bool.{Bool, true, false, _||_}
 use lib.ListN.{length, getD}
+use lib.Dec.{eqb}
 use borrow.Author.Tests.{le-leb, lt-ltb, eq-eqb}
 use Rattle.rules.specs.declared.Opening.{Opening}
 use Rattle.rules.specs.declared.Header.{Header}
@@ -15,7 +16,7 @@ use Rattle.rules.specs.declared.UnitAnswer.the-variants as of-unit
 use Rattle.rules.specs.declared.SceneAnswer.the-variants as of-scene
 use Rattle.rules.specs.Bytes.{within, word32, Bytes}
 use Rattle.rules.specs.Refusals.{none, fault, unless, _orElse_}
-use Rattle.rules.specs.Editions.{isEdition}
+use Rattle.rules.specs.Editions.{isEdition, knowsDamage}
 use Rattle.rules.specs.Opening.{goodSize, goodTime, goodPid, openingFault}
 use Rattle.rules.specs.Capture.{units, frameCount, skippedCount}
 use Rattle.rules.specs.Pictures.{pictureCount}
@@ -26,7 +27,8 @@ use Rattle.record_laws.proofs.Record.{Each, Figures, length-record, hea
 use Rattle.record_laws.proofs.Allowed.{goodHeader, goodUnit, goodUnits, goodScenes, goodFigures, allowed-figures, record-allowed}
 use Rattle.rules.proofs.Laws.Bounds.{skipped-few}
 use Rattle.luma_laws.proofs.Scenes.{Joins, pictures-most, sample-joins, sample-few}
-use Rattle.record_laws.proofs.Ranges.{Sealable, sealable, UnitRange, units-most, unit-ranges, figures-fit}
+use Rattle.record_laws.proofs.Ranges.{Sealable, sealable, UnitRange, units-most, unit-ranges, unit-zeros}
+use Rattle.record_laws.proofs.Ranges.{figures-fit}
 
 -- ---- the conditions on figures
 
@@ -49,12 +51,24 @@ opened o = go (goodSize (o .width) (o .height)) (goodTime (o .time)) (goodPid (o
 inside : (low high x : ℕ) → low ≤ x → x ≤ high → within low high x ≡ true
 inside low high x h k = rw (le-leb low x h, le-leb x high k)
 
-all-units : (n : ℕ) (us : List UnitRow) → Each (UnitRange n) us → goodUnits us ≡ true
+all-units : (n : ℕ) (known : Bool) (us : List UnitRow) → Each (UnitRange n) us →
+    (known ≡ false → Each (λ u. u .damaged ≡ 0) us) → goodUnits known us ≡ true
 unfolding goodUnits goodUnit
-all-units n [] h = refl
-all-units n (u ∷ us) h =
+all-units n known [] h z = refl
+all-units n known (u ∷ us) h z =
     let r = h .0 in
-    rw (le-leb (u .least) (u .greatest) (r .ordered), le-leb 1 (u .packets) (r .some), eq-eqb (u .size) (184 * u .packets) (r .size), all-units n us (h .1))
+    let d : known || eqb (u .damaged) 0 ≡ true = zero-or known (λ e. z e .0) in
+    rw (
+      le-leb (u .least) (u .greatest) (r .ordered),
+      le-leb 1 (u .packets) (r .some),
+      eq-eqb (u .size) (184 * u .packets) (r .size),
+      d,
+      all-units n known us (h .1) (λ e. z e .1),
+    )
+  where
+    zero-or : (t : Bool) → (t ≡ false → u .damaged ≡ 0) → t || eqb (u .damaged) 0 ≡ true
+    zero-or true e = refl
+    zero-or false e = eq-eqb (u .damaged) 0 (e refl)
 
 all-scenes : (n from : ℕ) (ss : List SceneRow) → Joins n from ss → goodScenes n from ss ≡ true
 unfolding goodScenes
@@ -78,10 +92,15 @@ module _ (o : Opening) (capture luma : List ℕ) (h : Sealable o capture luma) (
       rw (g .3, inside 1 750 (length (units o capture)) (h .unit) (units-most o capture luma h), inside 1 250 (length (scenes o luma)) (some-scene (pictureCount o luma) (scenes o luma) (h .picture) joins) (sample-few o luma (h .opened)), inside 1 750 (pictureCount o luma) (h .picture) (pictures-most o luma), g .0, g .1, g .2)
       (le-leb (skippedCount capture) (frameCount capture) (skipped-few capture))
 
+  known : goodUnits (knowsDamage (header o capture luma .edition)) (units o capture) ≡ true
+  unfolding header
+  known = all-units (length capture) (knowsDamage (o .edition)) (units o capture) (unit-ranges o capture luma h bc)
+      (unit-zeros o capture)
+
   good-figures : goodFigures (header o capture luma) (units o capture) (scenes o luma) ≡ true
   unfolding goodFigures
   good-figures =
-      rw (good-header, all-units (length capture) (units o capture) (unit-ranges o capture luma h bc))
+      rw (good-header, known)
       (unfold header in all-scenes (pictureCount o luma) 0 (scenes o luma) joins)
 
   allowed-sealed : allowed (sealed o capture luma) ≡ true

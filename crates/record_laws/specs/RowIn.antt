@@ -7,7 +7,14 @@ use Rattle.rules.specs.Bytes.{word32, word64}
 
 unfoldable pub unitIn : List ℕ → UnitRow
 unitIn b =
-    record { least = word64 b 0; greatest = word64 b 8; size = word32 b 16; packets = word32 b 20; lost = word32 b 24 }
+    record {
+      least = word64 b 0;
+      greatest = word64 b 8;
+      size = word32 b 16;
+      packets = word32 b 20;
+      lost = word32 b 24;
+      damaged = word32 b 28;
+    }
 
 unfoldable pub sceneIn : List ℕ → SceneRow
 sceneIn b =

@@ -19,37 +19,41 @@ next-row p j r =
     let e : p + 32 * (j + 1) ≡ p + 32 * j + 32 = omega arith in
     rw e (drop-drop 32 (p + 32 * j) r)
 
-module _ (r : List ℕ) (n j : ℕ) (h : j < n) where
-  more-rows : n - j ≡ suc (n - (j + 1))
-  more-rows = omega arith
+more-rows : (n j : ℕ) → j < n → n - j ≡ suc (n - (j + 1))
+more-rows n j h = omega arith
 
+module _ (known : Bool) (r : List ℕ) (n j : ℕ) (h : j < n) where
   -- units: row j, and the rows behind it
-  units-step : allowedUnits (n - j) (drop (64 + 32 * j) r) ≡ (allowedUnit (drop (64 + 32 * j) r) && allowedUnits (n - (j + 1)) (drop (64 + 32 * (j + 1)) r))
+  units-step : allowedUnits known (n - j) (drop (64 + 32 * j) r) ≡
+      (allowedUnit known (drop (64 + 32 * j) r) && allowedUnits known (n - (j + 1)) (drop (64 + 32 * (j + 1)) r))
   unfolding allowedUnits
-  units-step = rw (more-rows, next-row 64 j r)
+  units-step = rw (more-rows n j h, next-row 64 j r)
 
-  module _ (b : Bool) (all : Bool) (rest : all ≡ allowedUnits (n - j) (drop (64 + 32 * j) r))
-      (e : b ≡ allowedUnit (take (length r - (64 + 32 * j)) (drop (64 + 32 * j) r))) where
-    pub units-more : b ≡ true → all ≡ allowedUnits (n - (j + 1)) (drop (64 + 32 * (j + 1)) r)
+  module _ (b : Bool) (all : Bool) (rest : all ≡ allowedUnits known (n - j) (drop (64 + 32 * j) r))
+      (e : b ≡ allowedUnit known (take (length r - (64 + 32 * j)) (drop (64 + 32 * j) r))) where
+    pub units-more : b ≡ true → all ≡ allowedUnits known (n - (j + 1)) (drop (64 + 32 * (j + 1)) r)
     units-more t =
-        let y : allowedUnit (drop (64 + 32 * j) r) ≡ true = sym (ap allowedUnit (part (64 + 32 * j) r)) ∙ (sym e ∙ t) in
+        let y : allowedUnit known (drop (64 + 32 * j) r) ≡ true =
+        sym (ap (allowedUnit known) (part (64 + 32 * j) r)) ∙ (sym e ∙ t) in
         rest ∙ (units-step ∙ rw y)
 
     pub units-stop : b ≡ false → false ≡ all
     units-stop f =
-        let y : allowedUnit (drop (64 + 32 * j) r) ≡ false = sym (ap allowedUnit (part (64 + 32 * j) r)) ∙ (sym e ∙ f) in
+        let y : allowedUnit known (drop (64 + 32 * j) r) ≡ false =
+        sym (ap (allowedUnit known) (part (64 + 32 * j) r)) ∙ (sym e ∙ f) in
         sym (rest ∙ (units-step ∙ rw y))
 
 -- nothing is left
-pub units-end : (n j : ℕ) (all : Bool) (b : List ℕ) → n ≤ j → all ≡ allowedUnits (n - j) b → true ≡ all
+pub units-end : (known : Bool) (n j : ℕ) (all : Bool) (b : List ℕ) → n ≤ j → all ≡ allowedUnits known (n - j) b →
+    true ≡ all
 unfolding allowedUnits
-units-end n j all b h e = let z : n - j ≡ 0 = omega arith in sym (e ∙ rw z)
+units-end known n j all b h e = let z : n - j ≡ 0 = omega arith in sym (e ∙ rw z)
 
 module _ (r : List ℕ) (p pictures n j from : ℕ) (h : j < n) where
   scenes-step : allowedScenes pictures (n - j) from (drop (p + 32 * j) r) ≡
       (allowedScene from (drop (p + 32 * j) r) && allowedScenes pictures (n - (j + 1)) (from + word32 (drop (p + 32 * j) r) 4) (drop (p + 32 * (j + 1)) r))
   unfolding allowedScenes
-  scenes-step = rw (more-rows r n j h, next-row p j r)
+  scenes-step = rw (more-rows n j h, next-row p j r)
 
   module _ (b : Bool) (all : Bool) (rest : all ≡ allowedScenes pictures (n - j) from (drop (p + 32 * j) r))
       (e : b ≡ allowedScene from (take (length r - (p + 32 * j)) (drop (p + 32 * j) r))) where

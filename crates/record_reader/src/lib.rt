@@ -11,6 +11,7 @@ use figures::good_pid;
 use figures::good_size;
 use figures::good_time;
 use figures::is_edition;
+use figures::knows_damage;
 use rules::Header;
 use rules::HeaderAnswer;
 use rules::SceneAnswer;
@@ -57,27 +58,27 @@ fn allowed_header(bytes: &[u8]) -> bool
         & (word(bytes, 48) <= word(bytes, 44))
 }
 
-// A unit row's conditions.
-fn allowed_unit(row: &[u8]) -> bool
+// A unit row's conditions, by whether the record's edition knows damage.
+fn allowed_unit(row: &[u8], known: bool) -> bool
     requires { ⌜ 32 ≤ length (now row) ⌝ }
-    ensures { λ r. ⌜ r ≡ allowedUnit (now (row .entry)) ⌝ }
+    ensures { λ r. ⌜ r ≡ allowedUnit known (now (row .entry)) ⌝ }
 {
     let packets = word(row, 20);
     (words::word64(row, 0) <= words::word64(row, 8))
         & (1 <= packets)
         & (word(row, 16) == 184 * packets)
-        & (word(row, 28) == 0)
+        & (known | (word(row, 28) == 0))
 }
 
 // The conditions of n unit rows.
-fn allowed_units(bytes: &[u8], n: usize) -> bool
+fn allowed_units(bytes: &[u8], n: usize, known: bool) -> bool
     requires { ⌜ 64 + 32 * n ≤ length (now bytes) ⌝ }
-    ensures { λ r. ⌜ r ≡ allowedUnits n (drop 64 (now (bytes .entry))) ⌝ }
+    ensures { λ r. ⌜ r ≡ allowedUnits known n (drop 64 (now (bytes .entry))) ⌝ }
 {
     let mut j = 0;
     while j < n {
         let at = 64 + 32 * j;
-        if !allowed_unit(&bytes[at..]) {
+        if !allowed_unit(&bytes[at..], known) {
             return false;
         }
         j += 1;
@@ -122,7 +123,8 @@ fn allowed(bytes: &[u8]) -> bool
     }
     let units = words::word32(bytes, 8) as usize;
     let scenes = words::word32(bytes, 16) as usize;
-    if !allowed_units(bytes, units) {
+    let known = knows_damage(word(bytes, 0));
+    if !allowed_units(bytes, units, known) {
         return false;
     }
     allowed_scenes(bytes, 64 + 32 * units, scenes, word(bytes, 40))
@@ -190,6 +192,7 @@ fn unit_in(row: &[u8]) -> UnitRow
         size: words::word32(row, 16),
         packets: words::word32(row, 20),
         lost: words::word32(row, 24),
+        damaged: words::word32(row, 28),
     }
 }
 

@@ -10,6 +10,7 @@ use borrow.Author.Tests.{lt-ltb, le-ltb, ltb-false}
 use Rattle.rules.specs.declared.Answer.the-variants.{Done, Refused}
 use Rattle.rules.specs.Bytes.{pick, word32, table, endToEnd}
 use Rattle.rules.specs.Refusals.{Fault, none, fault, _orElse_, answer}
+use Rattle.rules.specs.Editions.{knowsDamage}
 use Rattle.rules.specs.Reading.{headerOf, unitAt, sceneAt, readingFault}
 use Rattle.rules.specs.Seal.{noRoom, over}
 use Rattle.record_reader.proofs.Answers.{AcceptedAs}
@@ -31,7 +32,7 @@ blank-lines (suc n) from = ap (λ (x : List (List ℕ)). blankLine ∷ x) (blank
 -- the sheet, part by part
 sheet-parts : (r : List ℕ) → sheetOf r ≡
     headerLine (headerOf r)
-    ++ linesTo (word32 r 8) (λ j. unitLine j (unitAt r j))
+    ++ linesTo (word32 r 8) (λ j. unitLine (knowsDamage (word32 r 0)) j (unitAt r j))
     ++ linesTo (word32 r 16) (λ j. sceneLine j (sceneAt r j))
     ++ linesTo (blanksFor (lineCount r)) (λ j. blankLine)
 unfolding sheetOf sheetLines recordLines linesTo endToEnd
@@ -48,17 +49,19 @@ module _ (r : List ℕ) (u v : ℕ) (is-u : u ≡ word32 r 8) (is-v : v ≡ word
   unfolding sheetLength pagesFor blanksFor
   sheet-size = rw (← is-count) (omega arith)
 
-  pub sheet-put : {a b d e : ℕ} {s s₁ s₂ s₃ s₄ : List ℕ} → sheetLength r ≤ length s →
+  pub sheet-put : {a b d e : ℕ} {s s₁ s₂ s₃ s₄ : List ℕ} (k : Bool) → k ≡ knowsDamage (word32 r 0) →
+      sheetLength r ≤ length s →
       Put 0 101 (headerLine (headerOf r)) s a s₁ →
-      Put a (101 * u) (linesTo u (λ j. unitLine j (unitAt r j))) s₁ b s₂ →
+      Put a (101 * u) (linesTo u (λ j. unitLine k j (unitAt r j))) s₁ b s₂ →
       Put b (101 * v) (linesTo v (λ j. sceneLine j (sceneAt r j))) s₂ d s₃ →
       Put d (101 * blanksFor (1 + u + v)) (linesTo (blanksFor (1 + u + v)) (λ j. blankLine)) s₃ e s₄ →
       s₄ ≡ over (sheetOf r) s
-  sheet-put {e = e} {s = s} room p q x y =
+  sheet-put {e = e} {s = s} k is-k room p q x y =
       let z = sheet-size in
       let whole = join (join (join p q (omega arith)) x (omega arith)) y (omega arith) in
       let w =
-      same-put (sheetLength r) e (sheetOf r) whole (omega arith) refl (rw (is-count, is-u, is-v) (sym (sheet-parts r)))
+      same-put (sheetLength r) e (sheetOf r) whole (omega arith) refl
+      (rw (is-count, is-u, is-v, is-k) (sym (sheet-parts r)))
       in
       w .puts ∙ over-written (sheetOf r) s
 

@@ -18,7 +18,8 @@ use Rattle.rules.specs.Sheet.{headerLine, unitLine, sceneLine}
 use Rattle.record_laws.proofs.Record.{UnitFits, SceneFits}
 use Rattle.record_sheet.specs.Put.{Fits}
 use Rattle.record_sheet.proofs.Theorems.{fits, header-columns, unit-columns, scene-columns}
-use Rattle.record_sheet.proofs.Theorems.{FirstFits, first-counts, unit-times, unit-counts, scene-counts}
+use Rattle.record_sheet.proofs.Theorems.{FirstFits, first-counts, unit-times, unit-counts, unit-damaged}
+use Rattle.record_sheet.proofs.Theorems.{scene-counts}
 
 -- ---- lists
 
@@ -137,37 +138,52 @@ same-fields mark x y l e =
     let z = apart (mark ∷ x) (mark ∷ y) (ending (suc (length x))) (ending (suc (length y))) (omega arith) e in
     cc (z .0)
 
-module _ (j : ℕ) (u v : UnitRow) (f : UnitFits u) (g : UnitFits v) where
-  unit-told : unitFields j u ≡ unitFields j v → u ≡ v
+-- two unit rows, of which word 28 is zero where no damage is known
+module _ (known : Bool) (j : ℕ) (u v : UnitRow) (f : UnitFits u) (g : UnitFits v)
+    (zeros : known ≡ false → (u .damaged ≡ 0) × (v .damaged ≡ 0)) where
+  last-told : (b : Bool) → known ≡ b →
+      pick b (columns 11 (u .damaged ∷ [])) [] ≡ pick b (columns 11 (v .damaged ∷ [])) [] → u .damaged ≡ v .damaged
+  last-told true k e =
+      let w : columns 11 (u .damaged ∷ []) ++ [] ≡ columns 11 (v .damaged ∷ []) ++ [] =
+      ap (λ (x : List ℕ). x ++ []) e in
+      ap (λ (ns : List ℕ). byte ns 0)
+      (same-columns 11 [] [] (omega arith) (unit-damaged u f) (unit-damaged v g) refl w .0)
+  last-told false k e = let z = zeros k in z .0 ∙ sym (z .1)
+
+  unit-told : unitFields known j u ≡ unitFields known j v → u ≡ v
   unfolding unitFields
   unit-told e =
       let number = columns 11 (j ∷ []) in
       let t : UnitRow → List ℕ = λ x. columns 21 (x .least ∷ x .greatest ∷ []) in
       let c : UnitRow → List ℕ = λ x. columns 11 (x .size ∷ x .packets ∷ x .lost ∷ []) in
-      let a : number ++ (t u ++ c u) ≡ number ++ (t v ++ c v) =
-      sym (append-assoc number (t u) (c u)) ∙ (e ∙ append-assoc number (t v) (c v))
+      let d : UnitRow → List ℕ = λ x. pick known (columns 11 (x .damaged ∷ [])) [] in
+      let all : (x : UnitRow) → number ++ t x ++ c x ++ d x ≡ number ++ (t x ++ (c x ++ d x)) =
+      λ x. append-assoc (number ++ t x) (c x) (d x) ∙ append-assoc number (t x) (c x ++ d x)
       in
-      let b = apart number number (t u ++ c u) (t v ++ c v) refl a in
-      let y = same-columns 21 (c u) (c v) (omega arith) (unit-times u f) (unit-times v g) refl (b .1) in
-      let w : c u ++ [] ≡ c v ++ [] = ap (λ (x : List ℕ). x ++ []) (y .1) in
-      let z = same-columns 11 [] [] (omega arith) (unit-counts u f) (unit-counts v g) refl w in
-      let row : List ℕ → List ℕ → UnitRow =
-      λ ts cs. record {
+      let a : number ++ (t u ++ (c u ++ d u)) ≡ number ++ (t v ++ (c v ++ d v)) = sym (all u) ∙ (e ∙ all v) in
+      let b = apart number number (t u ++ (c u ++ d u)) (t v ++ (c v ++ d v)) refl a in
+      let y = same-columns 21 (c u ++ d u) (c v ++ d v) (omega arith) (unit-times u f) (unit-times v g) refl (b .1) in
+      let z = same-columns 11 (d u) (d v) (omega arith) (unit-counts u f) (unit-counts v g) refl (y .1) in
+      let last = last-told known refl (z .1) in
+      let row : List ℕ → List ℕ → ℕ → UnitRow =
+      λ ts cs n. record {
         least = byte ts 0;
         greatest = byte ts 1;
         size = byte cs 0;
         packets = byte cs 1;
         lost = byte cs 2;
+        damaged = n;
       }
       in
-      ap (λ (ts : List ℕ). row ts (u .size ∷ u .packets ∷ u .lost ∷ [])) (y .0)
-      ∙ ap (row (v .least ∷ v .greatest ∷ [])) (z .0)
+      ap (λ (ts : List ℕ). row ts (u .size ∷ u .packets ∷ u .lost ∷ []) (u .damaged)) (y .0)
+      ∙ (ap (λ (cs : List ℕ). row (v .least ∷ v .greatest ∷ []) cs (u .damaged)) (z .0)
+      ∙ ap (row (v .least ∷ v .greatest ∷ []) (v .size ∷ v .packets ∷ v .lost ∷ [])) last)
 
-  pub same-unit : j < 2 ^ 32 → unitLine j u ≡ unitLine j v → u ≡ v
+  pub same-unit : j < 2 ^ 32 → unitLine known j u ≡ unitLine known j v → u ≡ v
   unfolding unitLine
   same-unit h e =
-      let l = unit-columns j u h f ∙ sym (unit-columns j v h g) in
-      unit-told (same-fields 85 (unitFields j u) (unitFields j v) l e)
+      let l = unit-columns known j u h f ∙ sym (unit-columns known j v h g) in
+      unit-told (same-fields 85 (unitFields known j u) (unitFields known j v) l e)
 
 module _ (j : ℕ) (s t : SceneRow) (h : j < 2 ^ 32) (f : SceneFits s) (g : SceneFits t) where
   scene-told : sceneFields j s ≡ sceneFields j t → s ≡ t

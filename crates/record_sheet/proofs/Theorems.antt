@@ -3,6 +3,7 @@ use Prim.Native.Nat.{ℕ, zero, suc, _+_, _-_, _*_, _^_, _≤_, _<_}
 use native.Mathlib.Omega.{arith}
 use native.Mathlib.Nat.{mul-suc}
 use mathlib.Core.Path.{_≡_, refl, ap, _∙_}
+use mathlib.Core.Bool.{Bool, true, false}
 use mathlib.Core.List.{List, [], _∷_, _++_}
 use lib.ListN.{length, drop, replicate, length-append, length-replicate}
 use lib.Seq.{drop-at}
@@ -11,7 +12,8 @@ use Rattle.rules.specs.declared.Answer.the-variants.{Done, Refused}
 use Rattle.rules.specs.declared.Header.{Header}
 use Rattle.rules.specs.declared.UnitRow.{UnitRow}
 use Rattle.rules.specs.declared.SceneRow.{SceneRow}
-use Rattle.rules.specs.Bytes.{word32, table, endToEnd, All, empty, and}
+use Rattle.rules.specs.Bytes.{pick, word32, table, endToEnd, All, empty, and}
+use Rattle.rules.specs.Editions.{knowsDamage}
 use Rattle.rules.specs.Refusals.{none}
 use Rattle.rules.specs.Reading.{headerOf, unitAt, sceneAt, readingFault}
 use Rattle.rules.specs.Seal.{over, ifDone}
@@ -92,16 +94,28 @@ header-columns h f =
     length-append (columns 11 (h .width ∷ h .height ∷ h .pictures ∷ [])) (aligned 21 (hexIn 16 (h .index)))
     ∙ omega (arith, bits-fit (h .index), length-columns 11 (omega arith) (first-counts h f))
 
-pub unit-columns : (j : ℕ) (u : UnitRow) → j < 2 ^ 32 → UnitFits u → length (unitFields j u) ≡ 86
+pub unit-damaged : (u : UnitRow) → UnitFits u → All (Fits 11) (u .damaged ∷ [])
+unit-damaged u f = figure (u .damaged) (f .damaged) empty
+
+-- 86, and 11 more where damage is known
+pub unit-columns : (known : Bool) (j : ℕ) (u : UnitRow) → j < 2 ^ 32 → UnitFits u →
+    length (unitFields known j u) ≡ 86 + pick known 11 0
 unfolding unitFields
-unit-columns j u h f =
+unit-columns known j u h f =
     let number = columns 11 (j ∷ []) in
     let times = columns 21 (u .least ∷ u .greatest ∷ []) in
     let counts = columns 11 (u .size ∷ u .packets ∷ u .lost ∷ []) in
+    let last = pick known (columns 11 (u .damaged ∷ [])) [] in
     let n = length-columns 11 (omega arith) (figure j h empty) in
     let t = length-columns 21 (omega arith) (unit-times u f) in
     let k = length-columns 11 (omega arith) (unit-counts u f) in
-    length-append (number ++ times) counts ∙ omega (arith, length-append number times, n, t, k)
+    let m : length last ≡ pick known 11 0 = go known in
+    length-append (number ++ times ++ counts) last
+    ∙ omega (arith, length-append (number ++ times) counts, length-append number times, n, t, k, m)
+  where
+    go : (b : Bool) → length (pick b (columns 11 (u .damaged ∷ [])) []) ≡ pick b 11 0
+    go true = length-columns 11 (omega arith) (unit-damaged u f)
+    go false = refl
 
 pub scene-columns : (j : ℕ) (s : SceneRow) → j < 2 ^ 32 → SceneFits s → length (sceneFields j s) ≡ 88
 unfolding sceneFields
@@ -166,9 +180,14 @@ module _ (r : List ℕ) (bytes : EachByte r) where
   unfolding headerOf
   first-fits = record { width = here 24; height = here 28; pictures = here 40; index = word64-fits r 56 bytes }
 
-  unit-long : (j : ℕ) → j < 2 ^ 32 → Long (unitLine j (unitAt r j))
+  unit-long : (known : Bool) (j : ℕ) → j < 2 ^ 32 → Long (unitLine known j (unitAt r j))
   unfolding unitLine
-  unit-long j h = length-line 85 _ (omega (arith, unit-columns j (unitAt r j) h (unit-fits r bytes j)))
+  unit-long known j h =
+      length-line 85 _ (omega (arith, unit-columns known j (unitAt r j) h (unit-fits r bytes j), small known))
+    where
+      small : (b : Bool) → pick b 11 0 ≤ 11
+      small true = omega arith
+      small false = omega arith
 
   scene-long : (j : ℕ) → j < 2 ^ 32 → Long (sceneLine j (sceneAt r j))
   unfolding sceneLine
@@ -182,9 +201,10 @@ module _ (r : List ℕ) (bytes : EachByte r) where
   pub every-line : All Long (sheetLines r)
   unfolding sheetLines recordLines
   every-line =
-      let unit : ℕ → List ℕ = λ j. unitLine j (unitAt r j) in
+      let known = knowsDamage (word32 r 0) in
+      let unit : ℕ → List ℕ = λ j. unitLine known j (unitAt r j) in
       let scene : ℕ → List ℕ = λ j. sceneLine j (sceneAt r j) in
-      let units = all-table {P = Long} (word32 r 8) 0 unit (λ j h. unit-long j (omega (arith, here 8))) in
+      let units = all-table {P = Long} (word32 r 8) 0 unit (λ j h. unit-long known j (omega (arith, here 8))) in
       let scenes = all-table {P = Long} (word32 r 16) 0 scene (λ j h. scene-long j (omega (arith, here 16))) in
       let blanks = all-same (blanksFor (lineCount r)) blankLine blank-length in
       all-append (all-append (all-append (and header-long empty) units) scenes) blanks

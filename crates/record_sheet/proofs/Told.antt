@@ -1,20 +1,24 @@
 -- What a sheet tells of a record: every figure but those that it leaves out.
-use Prim.Native.Nat.{ℕ, zero, suc, _+_, _<_}
+use Prim.Native.Nat.{ℕ, zero, suc, _+_, _*_, _<_}
 use native.Mathlib.Omega.{arith}
 use native.Mathlib.Nat.{add-zero, zero-add}
 use mathlib.Core.Path.{_≡_, refl, sym, ap, _∙_}
-use mathlib.Core.Bool.{Bool, true, false}
+use mathlib.Core.Bool.{Bool, true, false, _&&_}
 use mathlib.Core.List.{List, [], _∷_, append-nil}
-use lib.ListN.{length, length-append}
-use lib.Dec.{eqb}
-use Rattle.rules.specs.Bytes.{byte, word32, only, table, endToEnd, All, empty, and}
+use lib.ListN.{length, drop, length-append}
+use lib.Seq.{drop-drop}
+use lib.Dec.{leb, eqb}
+use borrow.Author.Tests.{eqb-true}
+use Rattle.rules.specs.Bytes.{byte, word32, word64, only, table, endToEnd, All, empty, and}
 use Rattle.rules.specs.Refusals.{none}
-use Rattle.rules.specs.Reading.{headerOf, unitAt, sceneAt, readingFault}
+use Rattle.rules.specs.Editions.{knowsDamage}
+use Rattle.rules.specs.Reading.{headerOf, unitPlace, unitAt, sceneAt, allowedUnit, allowedUnits, readingFault}
 use Rattle.rules.specs.Sheet.{ending, line, headerLine, unitLine, sceneLine, blankLine}
 use Rattle.rules.specs.Sheet.{recordLines, lineCount, blanksFor, sheetLines, sheetOf, leftOut}
-use Rattle.rules.proofs.Laws.Lists.{only-append, length-table}
+use Rattle.rules.proofs.Laws.Lists.{both, only-append, length-table}
 use Rattle.record_laws.proofs.Words.{EachByte}
-use Rattle.record_laws.proofs.Allowed.{unitsRead, scenesRead, unit-fits, scene-fits}
+use Rattle.record_laws.proofs.Allowed.{record-allowed, unitsRead, scenesRead, unit-fits, scene-fits}
+use Rattle.record_reader.proofs.Answers.{fault-allowed}
 use Rattle.record_reader.proofs.Theorems.{same-reading}
 use Rattle.record_sheet.proofs.Theorems.{Long, all-table, all-same, here, first-fits, every-line}
 use Rattle.record_sheet.proofs.Fields.{apart, SameFirst, same-first, same-unit, same-scene}
@@ -75,7 +79,7 @@ same-table (suc n) from f g h = rw (h from (omega arith), same-table n (suc from
 
 -- the line of unit j, and of scene j
 abbrev unitOf : List ℕ → ℕ → List ℕ
-unitOf r j = unitLine j (unitAt r j)
+unitOf r j = unitLine (knowsDamage (word32 r 0)) j (unitAt r j)
 
 abbrev sceneOf : List ℕ → ℕ → List ℕ
 sceneOf r j = sceneLine j (sceneAt r j)
@@ -113,11 +117,32 @@ pub record SamePrinted (r t : List ℕ) : Type 0 where
   pub unitRows : (j : ℕ) → j < word32 r 8 → unitAt r j ≡ unitAt t j
   pub sceneRows : (j : ℕ) → j < word32 r 16 → sceneAt r j ≡ sceneAt t j
 
-module _ (r t : List ℕ) (a : EachByte r) (b : EachByte t) where
-  -- two records with one sheet have the same printed figures
-  pub same-sheet : sheetOf r ≡ sheetOf t → SamePrinted r t
+-- word 28 of an accepted record's unit is zero where no damage is known
+zero-unit : (n : ℕ) (b : List ℕ) → allowedUnits false n b ≡ true → (j : ℕ) → j < n → word32 (drop (32 * j) b) 28 ≡ 0
+unfolding allowedUnits allowedUnit
+zero-unit zero b e j h = absurd (omega arith)
+zero-unit (suc n) b e zero h =
+    let x = both (allowedUnit false b) (allowedUnits false n (drop 32 b)) e in
+    let others = leb (word64 b 0) (word64 b 8) && leb 1 (word32 b 20) && eqb (word32 b 16) (184 * word32 b 20) in
+    eqb-true (word32 b 28) 0 (both others (eqb (word32 b 28) 0) (x .0) .1)
+zero-unit (suc n) b e (suc j) h =
+    let g : 32 * suc j ≡ 32 + 32 * j = omega arith in
+    let x = both (allowedUnit false b) (allowedUnits false n (drop 32 b)) e in
+    rw (g, ← drop-drop (32 * j) 32 b) (zero-unit n (drop 32 b) (x .1) j (omega arith))
+
+zero-row : (r : List ℕ) → readingFault r ≡ none → knowsDamage (word32 r 0) ≡ false → (j : ℕ) → j < word32 r 8 →
+    unitAt r j .damaged ≡ 0
+unfolding unitAt unitPlace
+zero-row r e k j h =
+    let u : allowedUnits false (word32 r 8) (drop 64 r) ≡ true =
+    rw k at (record-allowed r (fault-allowed r e) .units) in
+    rw (drop-drop (32 * j) 64 r) at (zero-unit (word32 r 8) (drop 64 r) u j h)
+
+module _ (r t : List ℕ) (a : EachByte r) (b : EachByte t) (x : readingFault r ≡ none) (y : readingFault t ≡ none) where
+  -- two accepted records with one sheet, of which both know damage or neither does, have the same printed figures
+  pub same-sheet : knowsDamage (word32 r 0) ≡ knowsDamage (word32 t 0) → sheetOf r ≡ sheetOf t → SamePrinted r t
   unfolding sheetOf
-  same-sheet e =
+  same-sheet k e =
       let lines = same-lines (every-line r a) (every-line t b) e in
       let u = sym (units-marked r) ∙ (ap (only (marked 85)) lines ∙ units-marked t) in
       let s = sym (scenes-marked r) ∙ (ap (only (marked 83)) lines ∙ scenes-marked t) in
@@ -129,8 +154,10 @@ module _ (r t : List ℕ) (a : EachByte r) (b : EachByte t) where
         first = same-first (headerOf r) (headerOf t) (first-fits r a) (first-fits t b) (first-line r t lines);
         unitRows =
             λ j h.
-            same-unit j (unitAt r j) (unitAt t j) (unit-fits r a j) (unit-fits t b j) (omega (arith, here r a 8))
-            (same-entry (word32 r 8) (word32 t 8) (unitOf r) (unitOf t) n u j h);
+            same-unit (knowsDamage (word32 r 0)) j (unitAt r j) (unitAt t j) (unit-fits r a j) (unit-fits t b j)
+            (λ z. (zero-row r x z j h, zero-row t y (sym k ∙ z) j (omega arith))) (omega (arith, here r a 8))
+            (same-entry (word32 r 8) (word32 t 8) (unitOf r) (unitOf t) n u j h
+            ∙ ap (λ (q : Bool). unitLine q j (unitAt t j)) (sym k));
         sceneRows =
             λ j h.
             same-scene j (sceneAt r j) (sceneAt t j) (omega (arith, here r a 16)) (scene-fits r a j) (scene-fits t b j)
@@ -138,11 +165,11 @@ module _ (r t : List ℕ) (a : EachByte r) (b : EachByte t) where
       }
 
   -- with what the sheet leaves out, it tells the whole record
-  pub sheet-tells : readingFault r ≡ none → readingFault t ≡ none →
-      sheetOf r ≡ sheetOf t → leftOut (headerOf r) ≡ leftOut (headerOf t) → r ≡ t
+  pub sheet-tells : sheetOf r ≡ sheetOf t → leftOut (headerOf r) ≡ leftOut (headerOf t) → r ≡ t
   unfolding leftOut headerOf unitsRead scenesRead
-  sheet-tells x y e l =
-      let p = same-sheet e in
+  sheet-tells e l =
+      let d : word32 r 0 ≡ word32 t 0 = cc in
+      let p = same-sheet (ap knowsDamage d) e in
       let f = p .first in
       let k = p .units in
       let m = p .scenes in

@@ -96,10 +96,10 @@ fn header_line(buffer: &mut [u8], at: usize, h: Header) -> usize
     end_line(buffer, end, 55)
 }
 
-// The line of unit row j.
-fn unit_line(buffer: &mut [u8], at: usize, j: u32, u: UnitRow) -> usize
+// The line of unit row j, with its damaged cells where the record's edition knows damage.
+fn unit_line(buffer: &mut [u8], at: usize, known: bool, j: u32, u: UnitRow) -> usize
     requires { ⌜ at + 101 ≤ length (now buffer) ⌝ }
-    ensures { λ r. ⌜ Put at 101 (unitLine j u) (now (buffer .entry)) r (now (buffer .exit)) ⌝ }
+    ensures { λ r. ⌜ Put at 101 (unitLine known j u) (now (buffer .entry)) r (now (buffer .exit)) ⌝ }
 {
     let number = [j as u64];
     let times = [u.least, u.greatest];
@@ -108,6 +108,11 @@ fn unit_line(buffer: &mut [u8], at: usize, j: u32, u: UnitRow) -> usize
     let second = put_numbers(buffer, first, 11, &number);
     let third = put_numbers(buffer, second, 21, &times);
     let end = put_numbers(buffer, third, 11, &counts);
+    if known {
+        let damaged = [u.damaged as u64];
+        let last = put_numbers(buffer, end, 11, &damaged);
+        return end_line(buffer, last, 98);
+    }
     end_line(buffer, end, 87)
 }
 
@@ -132,17 +137,17 @@ fn scene_line(buffer: &mut [u8], at: usize, j: u32, s: SceneRow) -> usize
 }
 
 // A line for each of the units.
-fn put_units(buffer: &mut [u8], at: usize, bytes: &[u8], units: usize) -> usize
+fn put_units(buffer: &mut [u8], at: usize, bytes: &[u8], units: usize, known: bool) -> usize
     requires { ⌜ (units ≤ 750) × (64 + 32 * units ≤ length (now bytes)) ⌝ }
     requires { ⌜ at + 101 * units ≤ length (now buffer) ⌝ }
-    ensures { λ r. ⌜ Put at (101 * units) (linesTo units (λ j. unitLine j (unitAt (now (bytes .entry)) j)))
+    ensures { λ r. ⌜ Put at (101 * units) (linesTo units (λ j. unitLine known j (unitAt (now (bytes .entry)) j)))
         (now (buffer .entry)) r (now (buffer .exit)) ⌝ }
 {
     let mut end = at;
     let mut j = 0;
     while j < units {
         let row = record_reader::unit_row(bytes, j);
-        end = unit_line(buffer, end, j as u32, row);
+        end = unit_line(buffer, end, known, j as u32, row);
         j += 1;
     }
     end
@@ -189,8 +194,10 @@ fn put_sheet(bytes: &[u8], units: usize, scenes: usize, buffer: &mut [u8])
 {
     let lines = 1 + units + scenes;
     let blanks = 60 * ((lines + 59) / 60) - lines;
-    let first = header_line(buffer, 0, record_reader::header_figures(bytes));
-    let second = put_units(buffer, first, bytes, units);
+    let h = record_reader::header_figures(bytes);
+    let known = figures::knows_damage(h.edition as u64);
+    let first = header_line(buffer, 0, h);
+    let second = put_units(buffer, first, bytes, units, known);
     let third = put_scenes(buffer, second, bytes, units, scenes);
     put_blanks(buffer, third, blanks);
 }

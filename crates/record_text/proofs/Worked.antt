@@ -12,7 +12,8 @@ unfolding sampleLine decimalIn decimal hexIn field fields endToEnd
 sample-worked = refl
 
 -- unit 0 10000005 10000005 184 1 0
-pub unit-worked : unitLine 0 (record { least = 10000005; greatest = 10000005; size = 184; packets = 1; lost = 0 }) ≡
+pub unit-worked : unitLine 0
+    (record { least = 10000005; greatest = 10000005; size = 184; packets = 1; lost = 0; damaged = 0 }) ≡
     117 ∷ 110 ∷ 105 ∷ 116 ∷ 32 ∷ 48 ∷ 32 ∷ 49 ∷ 48 ∷ 48 ∷ 48 ∷ 48 ∷ 48 ∷ 48 ∷ 53 ∷ 32 ∷ 49 ∷ 48 ∷ 48 ∷ 48 ∷ 48 ∷ 48 ∷ 48 ∷ 53 ∷ 32 ∷ 49 ∷ 56 ∷ 52 ∷ 32 ∷ 49 ∷ 32 ∷ 48 ∷ 10 ∷ []
 unfolding unitLine decimalIn decimal field fields endToEnd
 unit-worked = refl

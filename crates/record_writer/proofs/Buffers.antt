@@ -59,14 +59,15 @@ module _ (h : Header) (s : List ℕ) {s₁ s₂ s₃ s₄ s₅ s₆ : List ℕ} 
 -- a row
 module _ (at : ℕ) (u : UnitRow) (s : List ℕ) {s₁ s₂ s₃ : List ℕ} (fits : at + 32 ≤ length s) where
   pub unit-written : s₁ ≡ written at (bytesOf 8 (u .least)) s → s₂ ≡ written (at + 8) (bytesOf 8 (u .greatest)) s₁ →
-      s₃ ≡ written (at + 16) (four (u .size) (u .packets) (u .lost) 0) s₂ → s₃ ≡ written at (unitBytes u) s
+      s₃ ≡ written (at + 16) (four (u .size) (u .packets) (u .lost) (u .damaged)) s₂ → s₃ ≡ written at (unitBytes u) s
   unfolding unitBytes
   unit-written e₁ e₂ e₃ =
       let a = bytesOf 8 (u .least) in
       let b = bytesOf 8 (u .greatest) in
       let f₂ : s₂ ≡ written at (a ++ b) s = next at 8 a b s (length-bytes 8 (u .least)) (omega arith) e₁ e₂ in
       let n₂ : length (a ++ b) ≡ 16 = simp (length-append, length-bytes) in
-      next at 16 (a ++ b) (four (u .size) (u .packets) (u .lost) 0) s n₂ (omega arith) f₂ e₃ ∙ ap (λ (x : List ℕ). written at x s) (simp append-assoc)
+      next at 16 (a ++ b) (four (u .size) (u .packets) (u .lost) (u .damaged)) s n₂ (omega arith) f₂ e₃
+      ∙ ap (λ (x : List ℕ). written at x s) (simp append-assoc)
 
 module _ (at : ℕ) (x : SceneRow) (s : List ℕ) {s₁ s₂ : List ℕ} (fits : at + 32 ≤ length s) where
   pub scene-written : s₁ ≡ written at (four (x .first) (x .pictures) (x .repeated) (x .longest)) s →

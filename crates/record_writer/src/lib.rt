@@ -45,7 +45,14 @@ pub fn write_unit(buffer: &mut [u8], at: usize, row: UnitRow)
 {
     words::put64(buffer, at, row.least);
     words::put64(buffer, at + 8, row.greatest);
-    put_four(buffer, at + 16, row.size, row.packets, row.lost, 0);
+    put_four(
+        buffer,
+        at + 16,
+        row.size,
+        row.packets,
+        row.lost,
+        row.damaged,
+    );
 }
 
 // A scene row, from a place on.

@@ -12,11 +12,14 @@ use Rattle.rules.specs.declared.Answer.{Answer}
 use Rattle.rules.specs.declared.Answer.the-variants.{Done, Refused}
 use Rattle.rules.specs.Refusals.{Fault, none, fault}
 use Rattle.rules.specs.Bytes.{word32, word64, network16, bytesOf, total, greatestOf, leastOf, count, only, table, parts, endToEnd}
-use Rattle.rules.specs.Editions.{isEdition, heedsSplices, roundsToNearest}
+use Rattle.rules.specs.Editions.{isEdition, heedsSplices, roundsToNearest, knowsDamage}
 use Rattle.rules.specs.Opening.{goodSize, goodTime, goodPid, openingFault, openAnswer, levelUpTo, level, side, area, columns, lines}
 use Rattle.rules.specs.Frames.{seconds, microseconds, storedLength, frameTime, body, frameSize, framesUpTo, restUpTo, frames, rest, behindHeader}
-use Rattle.rules.specs.Packets.{Packet, ipLength, udpLength, carries, skipped, packetsFrom, packetsIn, packetsOf, packets, shown, whole, identifier, kind, startMark, counter, spliceMark, wantedOf, badOf}
-use Rattle.rules.specs.Units.{gapLoss, lossBetween, arrivalsAfter, arrivals, groups, leastTime, unitOf, unitsOf, beginnings}
+use Rattle.rules.specs.Packets.{Packet, ipLength, udpLength, carries, skipped, packetsFrom, packetsIn, packetsOf}
+use Rattle.rules.specs.Packets.{packets, shown, whole, startsCell, damageMark, condition, identifier, isWanted}
+use Rattle.rules.specs.Packets.{startMark, counter, spliceMark, wantedOf, badOf}
+use Rattle.rules.specs.Units.{gapLoss, setApart, lossBetween, arrivalsAfter, arrivals, beforeUnits, groups}
+use Rattle.rules.specs.Units.{cellsOf, leastTime, unitOf, unitsOf, beginnings}
 use Rattle.rules.specs.Capture.{wholeFrames, unfinished, allFrames, wholeWanted, shownWanted, units, frameCount, skippedCount, badCount, showing, tooLong, wrongMagic, wrongLink, wrongFrameHeader, wrongFrame, tooManyUnits, beginsAt, captureFault, captureInside}
 use Rattle.rules.specs.Pictures.{pictureSize, pictureCount, pictures, lumaFault, rows, band, blockSum, pixelIn, pixel, pixelLine, pixels}
 use Rattle.rules.specs.Histograms.{third, tileAt, bin, inTileFrom, inTile, inBin, histogram, histograms}
@@ -64,7 +67,7 @@ packetOf pid mark n = 0x47 ∷ (mark + pid / 256) ∷ (pid % 256) ∷ (0x10 + n)
 abbrev splicedOf : ℕ → ℕ → ℕ → List ℕ
 splicedOf pid n m = 0x47 ∷ (pid / 256) ∷ (pid % 256) ∷ (0x30 + n) ∷ m ∷ 0x80 ∷ replicate 182 0xFF
 
-abbrev openedBy : ℕ → ℕ → ℕ → ℕ → ℕ → Opening
+abbrev pub openedBy : ℕ → ℕ → ℕ → ℕ → ℕ → Opening
 openedBy e w h d p = record { width = w; height = h; time = d; pid = p; edition = e }
 
 abbrev opened : ℕ → ℕ → ℕ → ℕ → Opening
@@ -82,7 +85,7 @@ changedBy e =
     map (λ s. s .change)
     (scenes (openedBy e 16 32 40000 256) (replicate 512 7 ++ replicate 4 8 ++ replicate 4 6 ++ replicate 504 7))
 
-words : List ℕ → List ℕ
+unfoldable pub words : List ℕ → List ℕ
 words ns = endToEnd (map le32 ns)
 
 -- ---- what calls come to, as numbers: 0 and the length, or a refusal's number and place; behind a seal's the whole buffer
@@ -98,7 +101,7 @@ abbrev toldOf : Outcome → List ℕ
 toldOf (fed a) = told a
 toldOf (replied r) = toldIn r
 
-abbrev toldFault : Fault → List ℕ
+abbrev pub toldFault : Fault → List ℕ
 toldFault none = 0 ∷ 0 ∷ []
 toldFault (fault k p) = k ∷ p ∷ []
 
@@ -117,12 +120,12 @@ picture : ℕ → List ℕ
 picture v = replicate 450 v
 
 -- n packets of PID with start marks, one behind the other, as far as they show what they are
-marks : ℕ → List Packet
+unfoldable pub marks : ℕ → List Packet
 marks n = table n 0 (λ i. record { time = 0; place = 188 * i; bytes = 0x47 ∷ 0x41 ∷ 0x00 ∷ 0x10 ∷ [] })
 
 -- ---- the record of document 01's example of `show`
 
-pub showRecord : List ℕ
+unfoldable pub showRecord : List ℕ
 showRecord =
     words (1 ∷ 128 ∷ 1 ∷ 64 ∷ 1 ∷ 96 ∷ 30 ∷ 30 ∷ 40000 ∷ 256 ∷ 2 ∷ 1 ∷ 0 ∷ 0 ∷ 0 ∷ 0x40080000 ∷ [])
     ++ words (10000005 ∷ 0 ∷ 10000005 ∷ 0 ∷ 184 ∷ 1 ∷ 0 ∷ 0 ∷ [])
@@ -174,33 +177,24 @@ samples =
     }
     ∷ record { rule = run (opened 640 30 9999 8192) [] ++ run (opened 640 480 40000 8192) []; paper = 1 ∷ 0 ∷ 3 ∷ 0 ∷ [] }
     ∷ record { rule = run (opened 640 480 9999 8192) []; paper = 2 ∷ 0 ∷ [] }
-    -- 20: editions 0 and 4, behind 3; 1 to 3 pass
+    -- 20: editions 0 and 5, behind 3; 1 to 4 pass
     ∷ record {
       rule =
           run (openedBy 0 640 480 40000 256) []
-          ++ run (openedBy 4 640 480 40000 256) []
-          ++ run (openedBy 4 640 480 40000 8192) [];
+          ++ run (openedBy 5 640 480 40000 256) []
+          ++ run (openedBy 5 640 480 40000 8192) [];
       paper = 20 ∷ 0 ∷ 20 ∷ 0 ∷ 3 ∷ 0 ∷ [];
     }
-    ∷ record {
-      rule =
-          run (openedBy 1 640 480 40000 256) []
-          ++ run (openedBy 2 640 480 40000 256) []
-          ++ run (openedBy 3 640 480 40000 256) [];
-      paper = 0 ∷ 0 ∷ 0 ∷ 0 ∷ 0 ∷ 0 ∷ [];
-    }
-    -- a splice: its own gap of 6 loses 5 under edition 1 and nothing under 2 and 3, the gap of 2 behind it loses one;
+    ∷ record { rule = endToEnd (table 4 1 (λ e. run (openedBy e 640 480 40000 256) [])); paper = replicate 8 0 }
+    -- a splice: its own gap of 6 loses 5 under edition 1 and nothing under 2 to 4, the gap of 2 behind it loses one;
     -- no indicator in no bytes
-    ∷ record { rule = lostBy 1 7 ++ lostBy 2 7 ++ lostBy 3 7 ++ lostBy 2 0; paper = 6 ∷ 1 ∷ 1 ∷ 6 ∷ [] }
-    -- a scene's sum of q by the editions 1 to 3: one picture's is 12.5 (16 by 32, four pixels higher and four lower)
-    ∷ record { rule = changedBy 1 ++ changedBy 2 ++ changedBy 3; paper = 12 ∷ 12 ∷ 13 ∷ [] }
-    -- 17: the reader takes editions 2 and 3 and not 4
+    ∷ record { rule = endToEnd (table 4 1 (λ e. lostBy e 7)) ++ lostBy 2 0; paper = 6 ∷ 1 ∷ 1 ∷ 1 ∷ 6 ∷ [] }
+    -- a scene's sum of q by the editions 1 to 4: one picture's is 12.5 (16 by 32, four pixels higher and four lower)
+    ∷ record { rule = endToEnd (table 4 1 changedBy); paper = 12 ∷ 12 ∷ 13 ∷ 13 ∷ [] }
+    -- 17: the reader takes editions 1 to 4 and not 5
     ∷ record {
-      rule =
-          toldFault (readingFault (set showRecord 0 2))
-          ++ toldFault (readingFault (set showRecord 0 3))
-          ++ toldFault (readingFault (set showRecord 0 4));
-      paper = 0 ∷ 0 ∷ 0 ∷ 0 ∷ 17 ∷ 0 ∷ [];
+      rule = endToEnd (table 5 1 (λ e. toldFault (readingFault (set showRecord 0 e))));
+      paper = replicate 8 0 ++ 17 ∷ 0 ∷ [];
     }
     -- 5: A1 B2 C3 D4, shown by the fourth byte alone, and by the first of the four that is wrong
     ∷ record {
@@ -214,7 +208,11 @@ samples =
     ∷ record { rule = feeding (goodHeader ++ frameHeader 0 999999 65536); paper = 8 ∷ 35 ∷ [] }
     ∷ record { rule = feeding (goodHeader ++ frameHeader 0 999999 65535); paper = 0 ∷ 40 ∷ [] }
     -- 9: 751 start marks; 750 pass
-    ∷ record { rule = toldFault (beginsAt (drop 750 (beginnings (marks 751)))) ++ toldFault (beginsAt (drop 750 (beginnings (marks 750)))); paper = 9 ∷ 141003 ∷ 0 ∷ 0 ∷ [] }
+    ∷ record {
+      rule = toldFault (beginsAt (drop 750 (beginnings 1 (marks 751))))
+          ++ toldFault (beginsAt (drop 750 (beginnings 1 (marks 750))));
+      paper = 9 ∷ 141003 ∷ 0 ∷ 0 ∷ [];
+    }
     -- 11: an empty capture; a header that is cut off. 12: a header alone; a packet of another identifier
     ∷ record { rule = sealing small [] [] 0 ++ sealing small (0xD4 ∷ []) [] 0; paper = 11 ∷ 0 ∷ 11 ∷ 1 ∷ [] }
     ∷ record { rule = sealing small goodHeader [] 0 ++ sealing small (goodHeader ++ frameWith 0 0 1 (packetOf 255 0x40 0)) [] 0; paper = 12 ∷ 0 ∷ 12 ∷ 0 ∷ [] }
@@ -234,7 +232,23 @@ samples =
 
 -- the theorem: the rules give what the paper says
 pub sampled : map (λ (c : Case). c .rule) samples ≡ map (λ (c : Case). c .paper) samples
-unfolding words run marks oneFrame picture showRecord sealing feeding samples openAnswer unitPlace scenePlace allowedHeader allowedUnit allowedUnits allowedScene allowedScenes allowedRows allowed readingFault rowFault isEdition unitFault sceneFault word32 word64 network16 bytesOf total greatestOf leastOf count only table parts endToEnd goodSize goodTime goodPid openingFault levelUpTo level side area columns lines seconds microseconds storedLength frameTime body frameSize framesUpTo restUpTo frames rest behindHeader ipLength udpLength carries skipped packetsFrom packetsIn packetsOf packets shown whole identifier kind startMark counter wantedOf badOf gapLoss lossBetween heedsSplices spliceMark arrivalsAfter arrivals groups leastTime unitOf unitsOf beginnings wholeFrames unfinished allFrames wholeWanted shownWanted units frameCount skippedCount badCount showing tooLong wrongMagic wrongLink wrongFrameHeader wrongFrame tooManyUnits captureFault captureInside pictureSize pictureCount pictures lumaFault rows band blockSum pixelIn pixel pixelLine pixels third tileAt bin inTileFrom inTile inBin histogram histograms binsApart perMillion tileDifference tileDifferences insert sorted fifth difference leastOfSix cutScore cutScores startsScene isStart startsFrom starts longestFrom sceneOf scenesAt scenesOf same squares spread rootFrom root nearest changeFrom roundsToNearest change repeatsAfter changesAfter repeats changes icOf ipOf valueOf indexOf indexBits recordLength sceneOffset headerBytes unitBytes sceneBytes recordBytes reduced scenesIn scenes unrepeated indexFrom index header sealed sealedLength captureUnfinished noPacket lumaUnfinished noPicture noRoom sealFault captureAnswer lumaAnswer sealAnswer over sealedBuffer expected add mul div ofInt toBits
+unfolding words run marks oneFrame picture showRecord sealing feeding samples openAnswer unitPlace scenePlace
+    allowedHeader allowedUnit allowedUnits allowedScene allowedScenes allowedRows allowed readingFault rowFault
+    isEdition unitFault sceneFault word32 word64 network16 bytesOf total greatestOf leastOf count only table parts
+    endToEnd goodSize goodTime goodPid openingFault levelUpTo level side area columns lines seconds microseconds
+    storedLength frameTime body frameSize framesUpTo restUpTo frames rest behindHeader ipLength udpLength carries
+    skipped packetsFrom packetsIn packetsOf packets shown whole startsCell damageMark condition identifier isWanted
+    startMark counter wantedOf badOf gapLoss setApart lossBetween heedsSplices knowsDamage spliceMark arrivalsAfter
+    arrivals beforeUnits groups cellsOf leastTime unitOf unitsOf beginnings wholeFrames unfinished allFrames
+    wholeWanted shownWanted units frameCount skippedCount badCount showing tooLong wrongMagic wrongLink
+    wrongFrameHeader wrongFrame tooManyUnits captureFault captureInside pictureSize pictureCount pictures lumaFault
+    rows band blockSum pixelIn pixel pixelLine pixels third tileAt bin inTileFrom inTile inBin histogram histograms
+    binsApart perMillion tileDifference tileDifferences insert sorted fifth difference leastOfSix cutScore cutScores
+    startsScene isStart startsFrom starts longestFrom sceneOf scenesAt scenesOf same squares spread rootFrom root
+    nearest changeFrom roundsToNearest change repeatsAfter changesAfter repeats changes icOf ipOf valueOf indexOf
+    indexBits recordLength sceneOffset headerBytes unitBytes sceneBytes recordBytes reduced scenesIn scenes unrepeated
+    indexFrom index header sealed sealedLength captureUnfinished noPacket lumaUnfinished noPicture noRoom sealFault
+    captureAnswer lumaAnswer sealAnswer over sealedBuffer expected add mul div ofInt toBits
 sampled = refl
 
 -- 4 and 10, whose small inputs are too long to be written out: by their length. One byte past 268,435,456, and 751 pictures

@@ -8,7 +8,7 @@ use Rattle.rules.specs.declared.PartAnswer.{PartAnswer}
 use Rattle.rules.specs.declared.ShelfAnswer.the-variants as of-shelf
 use Rattle.rules.specs.declared.PartAnswer.the-variants as of-part
 use Rattle.rules.specs.Bytes.{word32, word64, bytesOf, total, table, endToEnd}
-use Rattle.rules.specs.Editions.{isEdition}
+use Rattle.rules.specs.Editions.{isEdition, knowsDamage}
 use Rattle.rules.specs.Opening.{goodSize, goodTime, goodPid}
 use Rattle.rules.specs.Record.{le32, recordLength, sceneOffset}
 use Rattle.rules.specs.Reading.{headerOf, unitPlace, unitAt, readingFault, rowFault, unitFault}
@@ -70,6 +70,11 @@ shelves =
     ∷ record { rule = taken (partAnswer (two 272 16 144) 0); paper = 0 ∷ 16 ∷ 144 ∷ [] }
     ∷ record { rule = taken (partAnswer (two 272 16 144) 1); paper = 0 ∷ 144 ∷ 272 ∷ [] }
     ∷ record { rule = taken (partAnswer (two 272 16 144) 2); paper = 19 ∷ 0 ∷ [] }
+    -- records of editions 1 to 4 together
+    ∷ record {
+      rule = opened (shelfAnswer (words (4 ∷ 536 ∷ 24 ∷ 152 ∷ 280 ∷ 408 ∷ []) ++ one 1 1 ++ one 2 2 ++ one 3 4 ++ one 4 8));
+      paper = 0 ∷ 4 ∷ 15 ∷ [];
+    }
     -- all units of a record count
     ∷ record { rule = opened (shelfAnswer (words (1 ∷ 172 ∷ 12 ∷ []) ++ pair 3 9)); paper = 0 ∷ 1 ∷ 12 ∷ [] }
     -- a total length that is not the slice's; a byte between the head and the first record
@@ -94,5 +99,5 @@ shelves =
 
 -- the theorem: every entry's rule gives what document 02 says
 pub shelved : map (λ (c : Case). c .rule) shelves ≡ map (λ (c : Case). c .paper) shelves
-unfolding shelves opened taken words unit scene one pair two isEdition word32 word64 bytesOf total table endToEnd goodSize goodTime goodPid recordLength sceneOffset headerOf unitPlace unitAt readingFault rowFault unitFault allowedHeader allowedUnit allowedUnits allowedScene allowedScenes allowedRows allowed headerAnswer unitAnswer edge rising laidOut part records recordLost shelfLost firstRefused shelfFault partFault shelfAnswer partAnswer offsetsFrom headBytes shelfOf
+unfolding shelves opened taken words unit scene one pair two isEdition knowsDamage word32 word64 bytesOf total table endToEnd goodSize goodTime goodPid recordLength sceneOffset headerOf unitPlace unitAt readingFault rowFault unitFault allowedHeader allowedUnit allowedUnits allowedScene allowedScenes allowedRows allowed headerAnswer unitAnswer edge rising laidOut part records recordLost shelfLost firstRefused shelfFault partFault shelfAnswer partAnswer offsetsFrom headBytes shelfOf
 shelved = refl

@@ -9,11 +9,11 @@ use Rattle.rules.specs.Bytes.{word32, network16, bytesOf, count, only, e
 use Rattle.rules.specs.Frames.{seconds, microseconds, storedLength, frameTime, body, frameSize, framesUpTo}
 use Rattle.rules.specs.Frames.{restUpTo, frames, rest, behindHeader}
 use Rattle.rules.specs.Packets.{ipLength, udpLength, carries, packetsFrom, packetsIn, packetsOf, packets, whole}
-use Rattle.rules.specs.Packets.{identifier}
+use Rattle.rules.specs.Packets.{startsCell, damageMark, condition, identifier}
 use Rattle.rules.specs.Capture.{wholeFrames, unfinished, allFrames, showing, tooLong, wrongMagic, wrongLink}
 use Rattle.rules.specs.Capture.{wrongFrameHeader, wrongFrame, formatFault, captureInside}
 use Rattle.rules.specs.Seal.{captureUnfinished}
-use Rattle.rules.specs.Survey.{isGood, goodOf, goodPackets, withMost, surveyFeedAnswer, noGood, surveyFault}
+use Rattle.rules.specs.Survey.{goodOf, goodPackets, withMost, surveyFeedAnswer, noGood, surveyFault}
 use Rattle.rules.specs.Survey.{surveyAnswer, SurveyCall, feedSurvey, askSurvey, SurveyOutcome, fedSurvey, found}
 use Rattle.rules.specs.Survey.{surveyExpected}
 use Rattle.rules.proofs.Worked.{Case}
@@ -64,9 +64,8 @@ surveys =
     ∷ record { rule = survey ends; paper = 0 ∷ 0 ∷ 1 ∷ [] }
     ∷ record { rule = survey (goodHeader ++ frameWith 0 0 1 (good 8191)); paper = 0 ∷ 8191 ∷ 1 ∷ [] }
     ∷ record { rule = survey (with3 (good 8191) (good 8191) (good 0)); paper = 0 ∷ 8191 ∷ 2 ∷ [] }
-    -- what does not start with 0x47 is not good; what is marked as damaged is
+    -- what does not start with 0x47 is not good
     ∷ record { rule = survey (with3 (bad 5) (bad 5) (good 6)); paper = 0 ∷ 6 ∷ 1 ∷ [] }
-    ∷ record { rule = survey (with3 (damaged 256) (damaged 256) (good 257)); paper = 0 ∷ 256 ∷ 2 ∷ [] }
     -- a frame that is passed over brings nothing
     ∷ record { rule = survey passed; paper = 0 ∷ 300 ∷ 1 ∷ [] }
     -- 21: a header alone, and bad packets alone; of a complete capture, so 11 comes first
@@ -97,7 +96,24 @@ surveys =
 pub surveyed : map (λ (c : Case). c .rule) surveys ≡ map (λ (c : Case). c .paper) surveys
 unfolding surveys survey onlyBad ends passed word32 network16 bytesOf count only endToEnd seconds microseconds
     storedLength frameTime body frameSize framesUpTo restUpTo frames rest behindHeader ipLength udpLength carries
-    packetsFrom packetsIn packetsOf packets whole identifier wholeFrames unfinished allFrames showing tooLong
-    wrongMagic wrongLink wrongFrameHeader wrongFrame formatFault captureInside captureUnfinished isGood goodOf
+    packetsFrom packetsIn packetsOf packets whole startsCell damageMark condition identifier wholeFrames unfinished
+    allFrames showing tooLong
+    wrongMagic wrongLink wrongFrameHeader wrongFrame formatFault captureInside captureUnfinished goodOf
     goodPackets withMost surveyFeedAnswer noGood surveyFault surveyAnswer surveyExpected
 surveyed = refl
+
+-- what is marked as damaged is not good (R-6)
+pub damagedSurveys : List Case
+damagedSurveys =
+    record { rule = survey (with3 (damaged 256) (damaged 256) (good 257)); paper = 0 ∷ 257 ∷ 1 ∷ [] }
+    ∷ record { rule = survey (with3 (damaged 5) (bad 5) (damaged 5)); paper = 21 ∷ 0 ∷ [] }
+    ∷ []
+
+pub surveyed-damaged : map (λ (c : Case). c .rule) damagedSurveys ≡ map (λ (c : Case). c .paper) damagedSurveys
+unfolding damagedSurveys survey onlyBad ends passed word32 network16 bytesOf count only endToEnd seconds microseconds
+    storedLength frameTime body frameSize framesUpTo restUpTo frames rest behindHeader ipLength udpLength carries
+    packetsFrom packetsIn packetsOf packets whole startsCell damageMark condition identifier wholeFrames unfinished
+    allFrames showing tooLong
+    wrongMagic wrongLink wrongFrameHeader wrongFrame formatFault captureInside captureUnfinished goodOf
+    goodPackets withMost surveyFeedAnswer noGood surveyFault surveyAnswer surveyExpected
+surveyed-damaged = refl

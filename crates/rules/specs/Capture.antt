@@ -8,9 +8,10 @@ use Rattle.rules.specs.declared.Opening.{Opening}
 use Rattle.rules.specs.declared.UnitRow.{UnitRow}
 use Rattle.rules.specs.Bytes.{pick, byte, word32}
 use Rattle.rules.specs.Refusals.{Fault, none, fault}
+use Rattle.rules.specs.Editions.{knowsDamage}
 use Rattle.rules.specs.Frames.{microseconds, storedLength, frames, rest, behindHeader}
 use Rattle.rules.specs.Packets.{Packet, packets, shown, whole, wantedOf, badOf, skipped}
-use Rattle.rules.specs.Units.{Arrival, unitsOf, beginnings}
+use Rattle.rules.specs.Units.{Arrival, beforeUnits, unitsOf, beginnings}
 
 -- the whole frames, and the bytes of the frame that is not whole yet
 unfoldable pub wholeFrames : List ℕ → List (List ℕ)
@@ -43,9 +44,10 @@ frameCount capture = length (wholeFrames capture)
 unfoldable pub skippedCount : List ℕ → ℕ
 skippedCount capture = skipped (wholeFrames capture)
 
--- word 52
+-- word 52: bad cells, and where damage is known (document 02, R-6) the damaged ones of PID before the first unit
 unfoldable pub badCount : Opening → List ℕ → ℕ
-badCount o capture = badOf o (whole (packets 24 (allFrames capture)))
+badCount o capture = badOf (whole (packets 24 (allFrames capture))) + beforeUnits (knowsDamage (o .edition))
+    (wholeWanted o capture)
 
 -- ---- refusals 4 to 9. Each stands at the last byte of the field that shows it, and is shown once that byte is there
 
@@ -87,7 +89,7 @@ beginsAt [] = none
 beginsAt (a ∷ more) = fault 9 (a .place + 3)
 
 unfoldable pub tooManyUnits : Opening → List ℕ → Fault
-tooManyUnits o capture = beginsAt (drop 750 (beginnings (shownWanted o capture)))
+tooManyUnits o capture = beginsAt (drop 750 (beginnings (o .edition) (shownWanted o capture)))
 
 -- what the joined bytes show first of 4 to 8, to one who knows no opening
 unfoldable pub formatFault : List ℕ → Fault

@@ -5,6 +5,8 @@ use mathlib.Core.Bool.{Bool, true, false, not, _&&_}
 use lib.ListN.{length, take, drop}
 use lib.Dec.{leb, ltb, eqb}
 use Rattle.rules.specs.declared.Opening.{Opening}
+use Rattle.rules.specs.declared.Condition.{Condition}
+use Rattle.rules.specs.declared.Condition.the-variants.{Good, Damaged, Bad}
 use Rattle.rules.specs.Bytes.{pick, byte, network16, count, only}
 use Rattle.rules.specs.Frames.{storedLength, frameTime, body}
 
@@ -97,29 +99,43 @@ shown ps = only (λ p. leb 4 (length (p .bytes))) ps
 unfoldable pub whole : List Packet → List Packet
 whole ps = only (λ p. leb 188 (length (p .bytes))) ps
 
--- what a packet is: bad, of another identifier, or of PID
-pub data Kind : Type 0 where
-  bad : Kind
-  other : Kind
-  wanted : Kind
+-- ---- what a packet's first bytes say
+
+-- it starts with 0x47
+unfoldable pub startsCell : List ℕ → Bool
+startsCell b = eqb (byte b 0) 0x47
+
+-- damage mark (document 02, R-6): 0x80 in byte 1, so that its low 8 bits are 128 or more
+unfoldable pub damageMark : List ℕ → Bool
+damageMark b = leb 128 (byte b 1 % 256)
+
+-- good, damaged or bad (document 02, R-6), for all who read packets: bad unless it starts with 0x47, whatever byte 1
+-- says (document 01: bad cell)
+unfoldable pub condition : List ℕ → Condition
+condition b = pick (startsCell b) (pick (damageMark b) Damaged Good) Bad
+
+abbrev pub isGood : Condition → Bool
+isGood Good = true
+isGood Damaged = false
+isGood Bad = false
+
+abbrev pub isBad : Condition → Bool
+isBad Good = false
+isBad Damaged = false
+isBad Bad = true
+
+abbrev pub isDamaged : Condition → Bool
+isDamaged Good = false
+isDamaged Damaged = true
+isDamaged Bad = false
 
 -- identifier: the low 5 bits of byte 1 times 256, plus byte 2
 unfoldable pub identifier : List ℕ → ℕ
 identifier b = byte b 1 % 32 * 256 + byte b 2
 
--- a packet of the opening: bad unless it starts with 0x47 (document 01: bad cell); wanted if its identifier is PID
-unfoldable pub kind : Opening → List ℕ → Kind
-kind o b = pick (eqb (byte b 0) 0x47) (pick (eqb (identifier b) (o .pid)) wanted other) bad
-
-abbrev pub isBad : Kind → Bool
-isBad bad = true
-isBad other = false
-isBad wanted = false
-
-abbrev pub isWanted : Kind → Bool
-isWanted bad = false
-isWanted other = false
-isWanted wanted = true
+-- a packet of PID: not a bad one, and its identifier is PID. Any other that is not bad is ignored
+unfoldable pub isWanted : Opening → List ℕ → Bool
+isWanted o b = not (isBad (condition b)) && eqb (identifier b) (o .pid)
 
 -- start mark: 0x40 in byte 1, so that its low 7 bits are 64 or more
 unfoldable pub startMark : List ℕ → Bool
@@ -135,8 +151,12 @@ spliceMark b = leb 32 (byte b 3 % 64) && (not (eqb (byte b 4) 0) && leb 128 (byt
 
 -- the packets of PID
 unfoldable pub wantedOf : Opening → List Packet → List Packet
-wantedOf o ps = only (λ p. isWanted (kind o (p .bytes))) ps
+wantedOf o ps = only (λ p. isWanted o (p .bytes)) ps
 
 -- how many packets are bad
-unfoldable pub badOf : Opening → List Packet → ℕ
-badOf o ps = count (λ p. isBad (kind o (p .bytes))) ps
+unfoldable pub badOf : List Packet → ℕ
+badOf ps = count (λ p. isBad (condition (p .bytes))) ps
+
+-- how many start with 0x47 and have another identifier
+unfoldable pub otherOf : Opening → List Packet → ℕ
+otherOf o ps = count (λ p. not (isBad (condition (p .bytes))) && not (eqb (identifier (p .bytes)) (o .pid))) ps

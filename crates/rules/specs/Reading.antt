@@ -1,7 +1,7 @@
 -- Record: what the reader allows and gives, and refusals 16 to 19.
 use Prim.Native.Nat.{ℕ, zero, suc, _+_, _*_}
 use mathlib.Core.List.{List}
-use mathlib.Core.Bool.{Bool, true, false, _&&_}
+use mathlib.Core.Bool.{Bool, true, false, _&&_, _||_}
 use lib.ListN.{length, drop}
 use lib.Dec.{leb, ltb, eqb}
 use Rattle.rules.specs.declared.Header.{Header}
@@ -15,7 +15,7 @@ use Rattle.rules.specs.declared.UnitAnswer.the-variants as of-unit
 use Rattle.rules.specs.declared.SceneAnswer.the-variants as of-scene
 use Rattle.rules.specs.Bytes.{pick, within, word32, word64}
 use Rattle.rules.specs.Refusals.{Fault, none, fault, unless, _orElse_}
-use Rattle.rules.specs.Editions.{isEdition}
+use Rattle.rules.specs.Editions.{isEdition, knowsDamage}
 use Rattle.rules.specs.Opening.{goodSize, goodTime, goodPid}
 use Rattle.rules.specs.Record.{recordLength, sceneOffset}
 
@@ -47,7 +47,14 @@ scenePlace r j = sceneOffset (word32 r 8) + 32 * j
 unfoldable pub unitAt : List ℕ → ℕ → UnitRow
 unitAt r j =
     let b = drop (unitPlace j) r in
-    record { least = word64 b 0; greatest = word64 b 8; size = word32 b 16; packets = word32 b 20; lost = word32 b 24 }
+    record {
+      least = word64 b 0;
+      greatest = word64 b 8;
+      size = word32 b 16;
+      packets = word32 b 20;
+      lost = word32 b 24;
+      damaged = word32 b 28;
+    }
 
 unfoldable pub sceneAt : List ℕ → ℕ → SceneRow
 sceneAt r j =
@@ -74,15 +81,17 @@ allowedHeader size r =
     && goodSize (word32 r 24) (word32 r 28) && goodTime (word32 r 32) && goodPid (word32 r 36)
     && leb (word32 r 48) (word32 r 44)
 
--- a unit row's: least time at most greatest, at least one packet, size 184 × packets, word 28 zero
-unfoldable pub allowedUnit : List ℕ → Bool
-allowedUnit b =
-    leb (word64 b 0) (word64 b 8) && leb 1 (word32 b 20) && eqb (word32 b 16) (184 * word32 b 20) && eqb (word32 b 28) 0
+-- a unit row's, by whether damage is known: least time at most greatest, at least one packet, size 184 × packets, and
+-- word 28 zero unless damage is known (document 02, R-6)
+unfoldable pub allowedUnit : Bool → List ℕ → Bool
+allowedUnit known b =
+    leb (word64 b 0) (word64 b 8) && leb 1 (word32 b 20) && eqb (word32 b 16) (184 * word32 b 20)
+    && (known || eqb (word32 b 28) 0)
 
 -- n unit rows, the first at the string's front
-unfoldable pub allowedUnits : ℕ → List ℕ → Bool
-allowedUnits zero b = true
-allowedUnits (suc n) b = allowedUnit b && allowedUnits n (drop 32 b)
+unfoldable pub allowedUnits : Bool → ℕ → List ℕ → Bool
+allowedUnits known zero b = true
+allowedUnits known (suc n) b = allowedUnit known b && allowedUnits known n (drop 32 b)
 
 -- a scene row's: starts at picture `from`, holds at least one picture, word 28 zero
 unfoldable pub allowedScene : ℕ → List ℕ → Bool
@@ -96,7 +105,8 @@ allowedScenes pictures (suc n) from b = allowedScene from b && allowedScenes pic
 -- with the rows, of a record whose header is allowed
 unfoldable pub allowedRows : List ℕ → Bool
 allowedRows r =
-    allowedUnits (word32 r 8) (drop 64 r) && allowedScenes (word32 r 40) (word32 r 16) 0 (drop (sceneOffset (word32 r 8)) r)
+    allowedUnits (knowsDamage (word32 r 0)) (word32 r 8) (drop 64 r)
+    && allowedScenes (word32 r 40) (word32 r 16) 0 (drop (sceneOffset (word32 r 8)) r)
 
 -- the rows are looked at only where the header is allowed: a wild count costs nothing
 unfoldable pub allowed : List ℕ → Bool

@@ -1,13 +1,15 @@
 -- R-1, a page for the reading room: a record as lines of 100 columns, on pages of 60 lines.
 use Prim.Native.Nat.{ℕ, _+_, _-_, _*_, _/_}
 use mathlib.Core.List.{List, [], _∷_, _++_, map}
+use mathlib.Core.Bool.{Bool}
 use lib.ListN.{length, replicate}
 use Rattle.rules.specs.declared.Answer.{Answer}
 use Rattle.rules.specs.declared.Header.{Header}
 use Rattle.rules.specs.declared.UnitRow.{UnitRow}
 use Rattle.rules.specs.declared.SceneRow.{SceneRow}
-use Rattle.rules.specs.Bytes.{word32, table, endToEnd}
+use Rattle.rules.specs.Bytes.{pick, word32, table, endToEnd}
 use Rattle.rules.specs.Digits.{decimal, hexIn}
+use Rattle.rules.specs.Editions.{knowsDamage}
 use Rattle.rules.specs.Refusals.{_orElse_, answer}
 use Rattle.rules.specs.Reading.{headerOf, unitAt, sceneAt, readingFault}
 use Rattle.rules.specs.Seal.{noRoom, over, ifDone}
@@ -26,10 +28,12 @@ columns w ns = endToEnd (map (λ n. aligned w (decimal n)) ns)
 unfoldable pub headerFields : Header → List ℕ
 headerFields h = columns 11 (h .width ∷ h .height ∷ h .pictures ∷ []) ++ aligned 21 (hexIn 16 (h .index))
 
--- number and fields as `show` has them: 11 columns each, times 21
-unfoldable pub unitFields : ℕ → UnitRow → List ℕ
-unitFields j u =
-    columns 11 (j ∷ []) ++ columns 21 (u .least ∷ u .greatest ∷ []) ++ columns 11 (u .size ∷ u .packets ∷ u .lost ∷ [])
+-- number and fields as `show` has them: 11 columns each, times 21; and where damage is known, the damaged cells as the
+-- last (R-6)
+unfoldable pub unitFields : Bool → ℕ → UnitRow → List ℕ
+unitFields known j u =
+    columns 11 (j ∷ []) ++ columns 21 (u .least ∷ u .greatest ∷ [])
+    ++ columns 11 (u .size ∷ u .packets ∷ u .lost ∷ []) ++ pick known (columns 11 (u .damaged ∷ [])) []
 
 unfoldable pub sceneFields : ℕ → SceneRow → List ℕ
 sceneFields j s =
@@ -50,8 +54,8 @@ line mark fields = let text = (mark ∷ []) ++ fields in text ++ ending (length 
 unfoldable pub headerLine : Header → List ℕ
 headerLine h = line 32 (headerFields h)
 
-unfoldable pub unitLine : ℕ → UnitRow → List ℕ
-unitLine j u = line 85 (unitFields j u)
+unfoldable pub unitLine : Bool → ℕ → UnitRow → List ℕ
+unitLine known j u = line 85 (unitFields known j u)
 
 unfoldable pub sceneLine : ℕ → SceneRow → List ℕ
 sceneLine j s = line 83 (sceneFields j s)
@@ -65,7 +69,7 @@ blankLine = ending 0
 unfoldable pub recordLines : List ℕ → List (List ℕ)
 recordLines r =
     (headerLine (headerOf r) ∷ [])
-    ++ table (word32 r 8) 0 (λ j. unitLine j (unitAt r j))
+    ++ table (word32 r 8) 0 (λ j. unitLine (knowsDamage (word32 r 0)) j (unitAt r j))
     ++ table (word32 r 16) 0 (λ j. sceneLine j (sceneAt r j))
 
 -- how many they are

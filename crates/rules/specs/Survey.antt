@@ -9,21 +9,18 @@ use lib.Dec.{ltb, eqb}
 use Rattle.rules.specs.declared.Answer.{Answer}
 use Rattle.rules.specs.declared.SurveyAnswer.{SurveyAnswer}
 use Rattle.rules.specs.declared.SurveyAnswer.the-variants.{Most, Refused}
-use Rattle.rules.specs.Bytes.{pick, byte, count}
+use Rattle.rules.specs.Bytes.{pick, count}
 use Rattle.rules.specs.Refusals.{Fault, none, fault, _orElse_, answer}
-use Rattle.rules.specs.Packets.{Packet, packets, whole, identifier}
+use Rattle.rules.specs.Packets.{Packet, packets, whole, condition, isGood, identifier}
 use Rattle.rules.specs.Capture.{allFrames, formatFault}
 use Rattle.rules.specs.Seal.{captureUnfinished}
 
 -- ---- good packets
 
--- a good packet: it starts with 0x47
-unfoldable pub isGood : List ℕ → Bool
-isGood b = eqb (byte b 0) 0x47
-
--- how many of some packets are good and have this identifier
+-- how many of some packets are good and have this identifier. A damaged one is not good (document 02, R-6), whatever
+-- the edition
 unfoldable pub goodOf : List Packet → ℕ → ℕ
-goodOf ps id = count (λ p. isGood (p .bytes) && eqb (identifier (p .bytes)) id) ps
+goodOf ps id = count (λ p. isGood (condition (p .bytes)) && eqb (identifier (p .bytes)) id) ps
 
 -- how many good packets a capture has under this identifier: of the frames that carry, the packets that are whole
 unfoldable pub goodPackets : List ℕ → ℕ → ℕ

@@ -19,13 +19,22 @@ pub enum Answer {
     Refused { number: u64, place: u64 },
 }
 
-// A row of the units, 32 bytes of the record; word 28 is 0.
+// What reading a cell says of it (document 02, R-6): it starts with 0x47 and is undamaged, it starts with 0x47 and is
+// marked as damaged, or it does not start with 0x47.
+pub enum Condition {
+    Good,
+    Damaged,
+    Bad,
+}
+
+// A row of the units, 32 bytes of the record.
 pub struct UnitRow {
     pub least: u64, // 0: least time
     pub greatest: u64, // 8: greatest time
     pub size: u32, // 16: 184 for each packet
     pub packets: u32, // 20: cells
     pub lost: u32, // 24
+    pub damaged: u32, // 28: damaged cells (document 02, R-6); 0 in editions 1 to 3
 }
 
 // A row of the scenes, 32 bytes of the record; word 28 is 0.

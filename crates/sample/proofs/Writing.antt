@@ -16,7 +16,7 @@ use Rattle.rules.specs.declared.UnitRow.{UnitRow}
 use Rattle.rules.specs.declared.SceneRow.{SceneRow}
 use Rattle.rules.specs.Bytes.{count}
 use Rattle.rules.specs.Refusals.{none, fault}
-use Rattle.rules.specs.Editions.{heedsSplices, roundsToNearest}
+use Rattle.rules.specs.Editions.{roundsToNearest}
 use Rattle.rules.specs.Capture.{units}
 use Rattle.rules.specs.Pictures.{pictureCount}
 use Rattle.rules.specs.Histograms.{histograms}
@@ -41,7 +41,8 @@ use Rattle.luma_laws.proofs.Past.{length-repeats}
 use Rattle.capture_cells.specs.declared.Cell.{Cell}
 use Rattle.capture_walk.specs.Format.{wholeCells}
 use Rattle.capture_units.specs.Units.{ofPid, unitsOf, unitsIn}
-use Rattle.capture_units.proofs.More.{allPackets, allLost, packets-total, lost-small, units-none}
+use Rattle.rules.proofs.Laws.UnitsMore.{allPackets, allLost}
+use Rattle.capture_units.proofs.More.{packets-some, cells-total, lost-small}
 use Rattle.capture_units.proofs.Laws.{units-cells}
 use Rattle.capture.specs.declared.Summary.{Summary}
 use Rattle.capture.specs.Contract.{Figures}
@@ -51,10 +52,6 @@ use Rattle.sample.specs.Contract.{IndexIn, headerBy, Ready}
 
 both : {a b : Answer} {x y : List ℕ} → a ≡ b → x ≡ y → sealedInto a x ≡ sealedInto b y
 both e f = cc
-
-some-packet : (ps : List Cell) → 1 ≤ length (unitsOf ps) → 1 ≤ length ps
-some-packet [] h = absurd (omega (arith, rw units-none at h))
-some-packet (p ∷ ps) h = omega arith
 
 -- every picture's cut score, repeat and change
 abbrev scoresOf : Opening → List ℕ → List ℕ
@@ -80,7 +77,7 @@ pub index-is-rule : (table luma : List ℕ) (o : Opening) (fedCapture fedLuma : 
     (i : Index) → IndexIn c l i → i ≡ index o fedCapture fedLuma
 unfolding index indexFrom unrepeated
 index-is-rule table luma o fedCapture fedLuma c l fig k some-units some-pictures i e =
-    let ps = ofPid (heedsSplices (o .edition)) (o .pid) (wholeCells fedCapture) in
+    let ps = ofPid (o .edition) (o .pid) (wholeCells fedCapture) in
     let us : units o fedCapture ≡ unitsOf ps = units-cells o fedCapture ∙ unfold unitsIn in refl in
     let few = fig .few in
     let fm : l .pictures ≤ 750 = omega (arith, k .pictures, pictures-most o fedLuma) in
@@ -94,7 +91,8 @@ index-is-rule table luma o fedCapture fedLuma c l fig k some-units some-pictures
           fedLuma,
       k .pictures,
     ) in
-    let packets : c .packets ≡ length ps = fig .packets ∙ ap allPackets us ∙ packets-total ps in
+    let packets : c .packets ≡ allPackets (unitsOf ps) = fig .packets ∙ ap allPackets us in
+    let all = cells-total ps in
     let lost : c .lost ≡ allLost (unitsOf ps) = fig .lost ∙ ap allLost us in
     let lo = lost-small ps in
     let g₁ : l .fresh % 2 ^ 32 ≡ l .fresh = mod-eq-of-lt (omega arith) in
@@ -102,7 +100,7 @@ index-is-rule table luma o fedCapture fedLuma c l fig k some-units some-pictures
     let g₃ : c .packets % 2 ^ 32 ≡ c .packets = mod-eq-of-lt (omega arith) in
     let g₄ : c .lost % 2 ^ 32 ≡ c .lost = mod-eq-of-lt (omega arith) in
     let e′ = rw (g₁, g₂, g₃, g₄) at e in
-    let some = some-packet ps (omega (arith, fig .units, ap length us)) in
+    let some = packets-some ps (omega (arith, fig .units, ap length us)) in
     let counts : Counts (l .fresh) (l .pictures) (c .packets) (c .lost) = record {
       some-pictures = some-pictures;
       of-them = few-fresh;
@@ -135,7 +133,7 @@ module _ (table luma : List ℕ) (o : Opening) (fedCapture fedLuma : List ℕ) (
   scenes-are = refl
 
   abbrev cells : List Cell
-  cells = ofPid (heedsSplices (o .edition)) (o .pid) (wholeCells fedCapture)
+  cells = ofPid (o .edition) (o .pid) (wholeCells fedCapture)
 
   units-are : units o fedCapture ≡ unitsOf cells
   units-are = units-cells o fedCapture ∙ unfold unitsIn in refl

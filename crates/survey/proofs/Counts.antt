@@ -9,17 +9,16 @@ use lib.ListN.{length, getD, set, drop, replicate, length-set, length-append}
 use lib.Seq.{getD-set-same, getD-set-other, drop-drop}
 use lib.Dec.{eqb}
 use borrow.Author.Tests.{eq-eqb, ne-eqb}
-use Rattle.rules.specs.Bytes.{pick, byte, count}
-use Rattle.rules.specs.Packets.{Packet, packets, whole, identifier}
+use Rattle.rules.specs.Bytes.{pick, count}
+use Rattle.rules.specs.Packets.{Packet, packets, whole, isGood, identifier}
 use Rattle.rules.specs.Capture.{allFrames}
-use Rattle.rules.specs.Survey.{isGood, goodOf, goodPackets}
+use Rattle.rules.specs.Survey.{goodOf, goodPackets}
 use Rattle.rules.proofs.Laws.Lists.{count-append, count-few}
-use Rattle.capture_cells.specs.declared.Condition.the-variants.{Good, Damaged, Bad}
 use Rattle.capture_cells.specs.declared.Cell.{Cell}
-use Rattle.capture_cells.specs.Cells.{cellIn, cellOf, startsCell, damaged, condition}
+use Rattle.capture_cells.specs.Cells.{cellIn, cellOf}
 use Rattle.capture_walk.specs.Format.{wholeCells, cellsFrom}
 use Rattle.capture_walk.proofs.Lists.{cells-more}
-use Rattle.survey.specs.State.{startsRight, tally, countIn, Table}
+use Rattle.survey.specs.State.{tally, countIn, Table}
 use Rattle.survey.specs.Contract.{Tallied}
 
 same : (a b : ℕ) → Dec (a ≡ b)
@@ -33,16 +32,16 @@ same a b = go (decLe a b) (decLe b a)
 -- ---- the table
 
 abbrev one : ℕ → Cell → ℕ
-one id c = pick (startsRight (c .condition) && eqb (c .identifier) id) 1 0
+one id c = pick (isGood (c .condition) && eqb (c .identifier) id) 1 0
 
 tally-more : (cs : List Cell) (c : Cell) (id : ℕ) → tally (cs ++ c ∷ []) id ≡ tally cs id + one id c
 unfolding tally count
 tally-more cs c id =
-    count-append (λ (x : Cell). startsRight (x .condition) && eqb (x .identifier) id) cs (c ∷ []) ∙ omega arith
+    count-append (λ (x : Cell). isGood (x .condition) && eqb (x .identifier) id) cs (c ∷ []) ∙ omega arith
 
 tally-few : (cs : List Cell) (id : ℕ) → tally cs id ≤ length cs
 unfolding tally
-tally-few cs id = count-few (λ (x : Cell). startsRight (x .condition) && eqb (x .identifier) id) cs
+tally-few cs id = count-few (λ (x : Cell). isGood (x .condition) && eqb (x .identifier) id) cs
 
 pub tallied-none : (t : List ℕ) → Tallied t [] t
 tallied-none t = record { size = refl; counts = λ xs l h b. rw append-nil b }
@@ -59,7 +58,7 @@ tallied-on {t} {t′} {t″} {cs} {ds} a b =
     }
 
 -- a cell that is not good
-pub tallied-other : (t : List ℕ) (c : Cell) {b : Bool} → b ≡ startsRight (c .condition) → b ≡ false →
+pub tallied-other : (t : List ℕ) (c : Cell) {b : Bool} → b ≡ isGood (c .condition) → b ≡ false →
     Tallied t (c ∷ []) t
 tallied-other t c e f =
     record {
@@ -73,7 +72,7 @@ tallied-other t c e f =
     }
 
 -- a good one
-pub tallied-good : (t t′ : List ℕ) (c : Cell) {b : Bool} {x : ℕ} → b ≡ startsRight (c .condition) → b ≡ true →
+pub tallied-good : (t t′ : List ℕ) (c : Cell) {b : Bool} {x : ℕ} → b ≡ isGood (c .condition) → b ≡ true →
     c .identifier < 8192 → x ≡ (getD t (c .identifier) 0 + 1) % 2 ^ 32 →
     t′ ≡ set t (c .identifier) x → Tallied t (c ∷ []) t′
 tallied-good t t′ c {b} {x} e f small xe put =
@@ -82,7 +81,7 @@ tallied-good t t′ c {b} {x} e f small xe put =
       counts = λ xs l h d. record { at = λ id k. go xs l h d id k (same (c .identifier) id) };
     }
   where
-    good : startsRight (c .condition) ≡ true
+    good : isGood (c .condition) ≡ true
     good = sym e ∙ f
 
     go : (xs : List Cell) → length t ≡ 8192 → length xs + 1 < 4294967296 → Table t xs → (id : ℕ) → id < 8192 →
@@ -102,19 +101,10 @@ tallied-good t t′ c {b} {x} e f small xe put =
 
 -- ---- the rules' counts
 
-pub starts-good : (b : List ℕ) → startsRight (condition b) ≡ isGood b
-unfolding condition startsCell isGood
-starts-good b = go (eqb (byte b 0) 0x47) (damaged b)
-  where
-    go : (x y : Bool) → startsRight (pick x (pick y Damaged Good) Bad) ≡ x
-    go true true = refl
-    go true false = refl
-    go false y = refl
-
 tally-of : (ps : List Packet) (id : ℕ) → tally (map cellOf ps) id ≡ goodOf ps id
 unfolding tally goodOf count cellIn
 tally-of [] id = refl
-tally-of (p ∷ ps) id = rw (starts-good (p .bytes), tally-of ps id)
+tally-of (p ∷ ps) id = rw (tally-of ps id)
 
 pub tally-good : (capture : List ℕ) (id : ℕ) → tally (wholeCells capture) id ≡ goodPackets capture id
 unfolding wholeCells goodPackets

@@ -2,13 +2,12 @@
 use Prim.Native.Nat.{ℕ, _<_}
 use mathlib.Core.Path.{_≡_}
 use mathlib.Core.List.{List}
-use mathlib.Core.Bool.{Bool, true, false, _&&_}
+use mathlib.Core.Bool.{_&&_}
 use lib.ListN.{length, getD}
 use lib.Dec.{eqb}
 use Rattle.rules.specs.Bytes.{count}
 use Rattle.rules.specs.Refusals.{none}
-use Rattle.capture_cells.specs.declared.Condition.{Condition}
-use Rattle.capture_cells.specs.declared.Condition.the-variants.{Good, Damaged, Bad}
+use Rattle.rules.specs.Packets.{isGood}
 use Rattle.capture_cells.specs.declared.Cell.{Cell}
 use Rattle.capture_walk.specs.declared.types.Walk.{Walk}
 use Rattle.capture_walk.specs.Format.{formatFault, wholeCells}
@@ -22,15 +21,9 @@ pub record State : Type 0 where
 abbrev pub stateOf : List ℕ → List ℕ → List ℕ → State
 stateOf walk kept counts = record { walk = walk; kept = kept; counts = counts }
 
--- a cell starts with 0x47, marked as damaged or not: the rules' isGood (proofs/Counts, starts-good)
-abbrev pub startsRight : Condition → Bool
-startsRight Good = true
-startsRight Damaged = true
-startsRight Bad = false
-
--- how many of some cells start with 0x47 and have this identifier: the rules' goodOf (proofs/Counts, tally-good)
+-- how many of some cells are good and have this identifier: the rules' goodOf (proofs/Counts, tally-good)
 unfoldable pub tally : List Cell → ℕ → ℕ
-tally cs id = count (λ c. startsRight (c .condition) && eqb (c .identifier) id) cs
+tally cs id = count (λ c. isGood (c .condition) && eqb (c .identifier) id) cs
 
 abbrev pub countIn : List ℕ → ℕ → ℕ
 countIn t id = getD t id 0

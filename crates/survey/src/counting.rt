@@ -3,27 +3,28 @@ ghost use mathlib.Core.Path.{_≡_};
 ghost use mathlib.Core.List.{[], _∷_};
 ghost use Prim.Native.Nat.{_+_, _*_, _≤_, _<_};
 ghost use lib.ListN.{length};
+ghost use Rattle.rules.specs.Packets.{isGood};
 ghost use Rattle.rules.specs.Survey.{HasMost, identifiers};
 ghost use Rattle.capture_walk.specs.Contract.{Fits, cellsOf, wholeOf};
-ghost use Rattle.survey.specs.State.{startsRight, countIn};
+ghost use Rattle.survey.specs.State.{countIn};
 ghost use Rattle.survey.specs.Contract.{Tallied};
 use capture_cells::Cell;
-use capture_cells::Condition;
 use capture_walk::Event;
 use capture_walk::Run;
+use rules::Condition;
 
 // How many identifiers there are, and the lent table: how many good packets each of them has.
 pub const IDENTIFIERS: usize = 8192;
 
 pub type Counts = [u32; IDENTIFIERS];
 
-// It starts with 0x47, marked as damaged or not.
-fn starts_right(k: Condition) -> bool
-    ensures { λ r. ⌜ r ≡ startsRight k ⌝ }
+// It starts with 0x47 and is not marked as damaged.
+fn is_good(k: Condition) -> bool
+    ensures { λ r. ⌜ r ≡ isGood k ⌝ }
 {
     match k {
         Condition::Good => true,
-        Condition::Damaged => true,
+        Condition::Damaged => false,
         Condition::Bad => false,
     }
 }
@@ -34,7 +35,7 @@ fn add(counts: &mut Counts, c: Cell)
     ensures { λ _. ⌜ Tallied (now (counts .entry)) (c ∷ []) (now (counts .exit)) ⌝ }
 {
     let k = c.condition;
-    if starts_right(k) {
+    if is_good(k) {
         let at = c.identifier as usize;
         counts[at] = std::num::wrapping_add_u32(counts[at], 1);
         return;

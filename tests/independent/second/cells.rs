@@ -1,7 +1,7 @@
 //! Cells (transport stream packets of 188 bytes), and who takes them in: the sample takes those of its PID.
 
 use crate::opening::Opening;
-use crate::units::{TooManyUnits, Units};
+use crate::units::{NoUnitYet, TooManyUnits, Units};
 
 /// Bytes of a cell.
 pub const CELL: usize = 188;
@@ -21,10 +21,23 @@ pub trait TakeCells {
     fn take_adaptation(&mut self, field: &[u8]);
 }
 
-/// Whether a cell is good: it starts with 0x47. The others are bad cells.
+/// What a cell is.
+#[derive(Clone, Copy, Debug, PartialEq, Eq)]
+pub enum Kind {
+    Good,
+    /// It starts as it should, but whoever received it marked it as broken.
+    Damaged,
+    /// It doesn't start with 0x47.
+    Bad,
+}
+
 #[inline]
-pub fn good(head: &[u8]) -> bool {
-    head[0] == 0x47
+pub fn kind(head: &[u8]) -> Kind {
+    match head[0] {
+        0x47 if head[1] & 0x80 == 0 => Kind::Good,
+        0x47 => Kind::Damaged,
+        _ => Kind::Bad,
+    }
 }
 
 #[inline]
@@ -37,28 +50,41 @@ pub struct SampleCells {
     pid: u32,
     /// Whether a splice forgives a gap: from edition 2 on.
     splices: bool,
+    /// Whether the heads of damaged cells are trusted: up to edition 3.
+    trusting: bool,
     pub bad: u32,
     pub units: Units,
 }
 
 impl SampleCells {
     pub fn new(opening: &Opening) -> Self {
-        SampleCells { pid: opening.pid, splices: opening.edition >= 2, bad: 0, units: Units::default() }
+        SampleCells {
+            pid: opening.pid,
+            splices: opening.edition >= 2,
+            trusting: opening.edition <= 3,
+            bad: 0,
+            units: Units::default(),
+        }
     }
 }
 
 impl TakeCells for SampleCells {
     #[inline]
     fn take_head(&mut self, time: u64, head: &[u8]) -> Result<bool, TooManyUnits> {
-        if !good(head) {
-            self.bad += 1;
-            return Ok(false);
+        match kind(head) {
+            Kind::Bad => self.bad += 1,
+            _ if identifier(head) != self.pid => {}
+            Kind::Damaged if !self.trusting => {
+                if self.units.take_damaged() == Err(NoUnitYet) {
+                    self.bad += 1;
+                }
+            }
+            _ => {
+                self.units.take_cell(time, head[1] & 0x40 != 0, head[3] & 0x0F)?;
+                return Ok(self.splices && head[3] & 0x20 != 0);
+            }
         }
-        if identifier(head) != self.pid {
-            return Ok(false);
-        }
-        self.units.take_cell(time, head[1] & 0x40 != 0, head[3] & 0x0F)?;
-        Ok(self.splices && head[3] & 0x20 != 0)
+        Ok(false)
     }
 
     /// A spliced cell has a field longer than 0, with the discontinuity indicator.

@@ -20,7 +20,7 @@ impl Refusal {
 }
 
 /// Rule editions that an opening and the reader of records take.
-pub const EDITIONS: RangeInclusive<u32> = 1..=3;
+pub const EDITIONS: RangeInclusive<u32> = 1..=4;
 
 /// Width W and height H of a picture, display time d in microseconds, packet identifier PID, and the
 /// edition of the rules.
@@ -85,7 +85,7 @@ mod tests {
     #[test]
     fn editions_come_after_the_identifier() {
         let opening = Opening { width: 640, height: 480, display_time: 40_000, pid: 256, edition: 1 };
-        for (edition, pid, number) in [(1, 256, 0), (3, 256, 0), (0, 256, 20), (0, 8_192, 3), (257, 256, 20)] {
+        for (edition, pid, number) in [(1, 256, 0), (4, 256, 0), (0, 256, 20), (5, 256, 20), (5, 8_192, 3)] {
             let answer = Opening { pid, edition, ..opening }.check();
             assert_eq!(answer.err(), (number > 0).then_some(Refusal::unplaced(number)));
         }

@@ -59,7 +59,7 @@ pub fn write(figures: &Figures, units: &[Unit], scenes: &[Scene]) -> Vec<u8> {
     for unit in units {
         words(&halves(unit.least_time));
         words(&halves(unit.greatest_time));
-        words(&[unit.cells * CELL_PAYLOAD, unit.cells, unit.lost, 0]);
+        words(&[unit.cells * CELL_PAYLOAD, unit.cells, unit.lost, unit.damaged]);
     }
     for scene in scenes {
         words(&[scene.first, scene.pictures, scene.repeated, scene.longest_run]);
@@ -107,6 +107,11 @@ impl<'r> View<'r> {
             && figures.passed_over <= figures.records
     }
 
+    /// Whether unit rows have damaged cells in their last word.
+    pub fn tells_damaged(&self) -> bool {
+        word(self.record, 0) == 4
+    }
+
     /// Only asked once the header is allowed, so every row lies in the record.
     fn units_allowed(&self) -> bool {
         self.record[HEADER..length(self.units, 0)].chunks_exact(ROW).all(|row| {
@@ -115,7 +120,7 @@ impl<'r> View<'r> {
             double_word(row, 0) <= double_word(row, 8)
                 && cells >= 1
                 && size == u64::from(CELL_PAYLOAD) * cells
-                && word(row, 28) == 0
+                && (word(row, 28) == 0 || self.tells_damaged())
         })
     }
 
@@ -157,6 +162,7 @@ impl<'r> View<'r> {
             greatest_time: double_word(row, 8),
             cells: word(row, 20),
             lost: word(row, 24),
+            damaged: word(row, 28),
         })
     }
 
@@ -205,7 +211,7 @@ fn shown(record: &[u8]) -> Result<String, Refusal> {
     let mut lines = format!("sample {width} {height} {display_time} {pid} {pictures} ");
     let _ = writeln!(lines, "{records} {passed_over} {bad_cells} {index_bits:016X}");
     for number in 0..view.units {
-        let Unit { least_time, greatest_time, cells, lost } = view.unit(number)?;
+        let Unit { least_time, greatest_time, cells, lost, .. } = view.unit(number)?;
         let size = u64::from(cells) * u64::from(CELL_PAYLOAD);
         let _ = writeln!(lines, "unit {number} {least_time} {greatest_time} {size} {cells} {lost}");
     }
@@ -233,7 +239,7 @@ mod tests {
         let opening = Opening { width: 30, height: 30, display_time: 40_000, pid: 256, edition: 1 };
         let index_bits = 0x4008_0000_0000_0000;
         let figures = Figures { opening, pictures: 2, records: 1, passed_over: 0, bad_cells: 0, index_bits };
-        let unit = Unit { least_time: 10_000_005, greatest_time: 10_000_005, cells: 1, lost: 0 };
+        let unit = Unit { least_time: 10_000_005, greatest_time: 10_000_005, cells: 1, lost: 0, damaged: 0 };
         let scene = Scene {
             first: 0,
             pictures: 2,
@@ -268,9 +274,14 @@ mod tests {
         }
         changed[1] = 1;
         assert_eq!(show(&changed), "refused 17\n");
-        changed = record.clone();
-        changed[64 + 28] = 1;
-        assert_eq!(show(&changed), "refused 18\n");
+        let words = [(1, 64, false), (3, 64, false), (4, 64, true), (4, 96, false), (5, 64, false)];
+        for (edition, row, allowed) in words {
+            changed = record.clone();
+            changed[0] = edition;
+            changed[row + 28..row + 32].fill(0xFF);
+            assert_eq!(View::open(&changed).is_ok(), allowed);
+            assert!(!allowed || show(&changed) == show(&record));
+        }
         let view = View::open(&record).unwrap();
         assert_eq!(view.unit(1), Err(Refusal::unplaced(19)));
         assert_eq!(view.scene(1), Err(Refusal::unplaced(19)));

@@ -44,7 +44,8 @@ pub fn allowed_record(random: &mut Prng) -> Vec<u8> {
 
 fn random_parts(random: &mut Prng) -> Parts {
     let (units, scenes) = (random.between(1, 6), random.between(1, 6));
-    let units = (0..units).map(|_| random_unit(random)).collect();
+    let edition = random.pick(&[1, 2, 3, 4, 4]);
+    let units = (0..units).map(|_| random_unit(random, edition)).collect();
     let mut pictures = 0;
     let scenes = (0..scenes)
         .map(|_| {
@@ -55,7 +56,7 @@ fn random_parts(random: &mut Prng) -> Parts {
         .collect();
     let (width, height) = random.pick(&[(15, 30), (120, 30), (1920, 1088), (544, 1088), (640, 480)]);
     let display_time = random.pick(&[10_000, 40_000, 200_000]);
-    let (pid, edition) = (random.pick(&[0, 256, 8_191]), random.pick(&[1, 2, 3]));
+    let pid = random.pick(&[0, 256, 8_191]);
     let opening = Opening { width, height, display_time, pid, edition };
     let records = random.word();
     let passed_over = random.pick(&[0, records / 2, records]);
@@ -65,11 +66,13 @@ fn random_parts(random: &mut Prng) -> Parts {
     Parts { figures, units, scenes }
 }
 
-fn random_unit(random: &mut Prng) -> Unit {
+fn random_unit(random: &mut Prng, edition: u32) -> Unit {
     let least_time = random.next() >> random.below(64);
     let greatest_time = least_time.saturating_add(random.pick(&[0, 1, 40_000, 1 << 40]));
     let cells = random.pick(&[1, 2, 1_000, u32::MAX / 184]);
-    Unit { least_time, greatest_time, cells, lost: random.word() }
+    let damaged = random.pick(&[0, 1, u32::MAX]);
+    let damaged = if edition == 4 { damaged } else { 0 };
+    Unit { least_time, greatest_time, cells, lost: random.word(), damaged }
 }
 
 fn random_scene(random: &mut Prng, first: u32) -> Scene {
@@ -214,7 +217,7 @@ fn damage_bytes(random: &mut Prng, bytes: &mut Vec<u8>, way: u64) {
             let edition = random.once_in(2);
             *bytes = random.bytes(length);
             if edition && length >= 4 {
-                bytes[..4].copy_from_slice(&[random.pick(&[1, 2, 3]), 0, 0, 0]);
+                bytes[..4].copy_from_slice(&[random.pick(&[1, 2, 3, 4]), 0, 0, 0]);
             }
         }
     }

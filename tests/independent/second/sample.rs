@@ -180,7 +180,7 @@ mod tests {
         let cells = [([0x30, 1, 0x80], true), ([0x20, 255, 0xFF], true), ([0x30, 0, 0x80], false)];
         let others = [([0x10, 1, 0x80], false), ([0xD0, 1, 0x80], false), ([0x30, 1, 0x7F], false)];
         for (bytes, spliced) in cells.into_iter().chain(others) {
-            for edition in [1, 2, 3] {
+            for edition in [1, 2, 3, 4] {
                 let lost = if spliced && edition > 1 { 0 } else { 4 };
                 let capture = spliced_capture(bytes);
                 for piece in 1..=capture.len() {
@@ -194,6 +194,45 @@ mod tests {
                 }
             }
         }
+    }
+
+    /// A sample of edition 4 that is fed one record a cell, each at a second of its own, by these bytes 0, 1 and 3.
+    fn sample_of_cells(cells: &[[u8; 3]]) -> Sample {
+        let mut sample = Sample::open(Opening { edition: 4, ..OPENING });
+        sample.feed_capture(&example_capture()[..24]).unwrap();
+        for (second, cell) in cells.iter().enumerate() {
+            let mut record = example_capture().split_off(24);
+            record[0] = second as u8;
+            record[16 + 42..16 + 44].copy_from_slice(&cell[..2]);
+            record[16 + 45..16 + 48].copy_from_slice(&[cell[2], 1, 0x80]);
+            sample.feed_capture(&record).unwrap();
+        }
+        sample.feed_luma(&[0; 900]).unwrap();
+        sample
+    }
+
+    #[test]
+    fn a_damaged_cell_adds_one_to_its_unit_and_nothing_else() {
+        // Good with counter 3, damaged with a start mark, damaged and spliced, good with counter 6.
+        let mut cells = vec![[0x47, 0x41, 3], [0x47, 0xC1, 9], [0x47, 0x81, 0x3A], [0x47, 0x01, 6]];
+        let record = sample_of_cells(&cells).record().unwrap();
+        assert_eq!(show(&record).lines().nth(1), Some("unit 0 5 3000005 368 2 2"));
+        assert_eq!((record.len(), record[0], record[52], record[64 + 28]), (128, 4, 0, 2));
+        // Damaged ones last: times stay as they were.
+        cells.extend([[0x47, 0x81, 0], [0x47, 0xE1, 0], [0x46, 0x81, 0]]);
+        let record = sample_of_cells(&cells).record().unwrap();
+        assert_eq!(show(&record).lines().nth(1), Some("unit 0 5 3000005 368 2 2"));
+        assert_eq!((record[52], record[64 + 28]), (1, 4));
+    }
+
+    #[test]
+    fn before_the_first_unit_a_damaged_cell_is_bad() {
+        let sample = sample_of_cells(&[[0x47, 0xC1, 3], [0x47, 0x81, 9]]);
+        assert_eq!(seal(&sample, 500).0, Err((12, 0)));
+        let sample = sample_of_cells(&[[0x47, 0xC1, 3], [0x47, 0x81, 9], [0x47, 0x01, 1], [0x47, 0x81, 7]]);
+        let record = sample.record().unwrap();
+        assert_eq!(show(&record).lines().nth(1), Some("unit 0 2000005 2000005 184 1 0"));
+        assert_eq!((record[52], record[64 + 28]), (2, 1));
     }
 
     #[test]

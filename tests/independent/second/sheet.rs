@@ -4,7 +4,7 @@ use crate::film::Scene;
 use crate::lent;
 use crate::opening::Refusal;
 use crate::record::View;
-use crate::units::{Unit, CELL_PAYLOAD};
+use crate::units::CELL_PAYLOAD;
 use std::fmt::Display;
 
 const COLUMNS: usize = 100;
@@ -29,7 +29,7 @@ pub fn pages(record: &[u8]) -> Result<Vec<u8>, Refusal> {
     let view = View::open(record)?;
     let mut lines = vec![sample_line(&view)];
     for number in 0..view.units {
-        lines.push(unit_line(number, &view.unit(number)?));
+        lines.push(unit_line(&view, number)?);
     }
     for number in 0..view.scenes {
         lines.push(scene_line(number, &view.scene(number)?));
@@ -49,13 +49,17 @@ fn sample_line(view: &View) -> String {
     line
 }
 
-fn unit_line(number: usize, unit: &Unit) -> String {
+fn unit_line(view: &View, number: usize) -> Result<String, Refusal> {
+    let unit = view.unit(number)?;
     let mut line = String::from("U");
     field(&mut line, NARROW, number);
     field(&mut line, WIDE, unit.least_time);
     field(&mut line, WIDE, unit.greatest_time);
     fields(&mut line, &[unit.cells * CELL_PAYLOAD, unit.cells, unit.lost]);
-    line
+    if view.tells_damaged() {
+        field(&mut line, NARROW, unit.damaged);
+    }
+    Ok(line)
 }
 
 fn scene_line(number: usize, scene: &Scene) -> String {
@@ -80,10 +84,17 @@ mod tests {
     use super::*;
     use crate::opening::Opening;
     use crate::record::{self, Figures};
+    use crate::units::Unit;
 
     const OPENING: Opening = Opening { width: 1920, height: 1080, display_time: 40_000, pid: 256, edition: 1 };
 
-    const UNIT: Unit = Unit { least_time: u64::MAX - 1, greatest_time: u64::MAX, cells: 23_342_213, lost: u32::MAX };
+    const UNIT: Unit = Unit {
+        least_time: u64::MAX - 1,
+        greatest_time: u64::MAX,
+        cells: 23_342_213,
+        lost: u32::MAX,
+        damaged: 0,
+    };
 
     /// A record of so many like units and scenes of one picture.
     fn record(units: usize, scenes: u32) -> Vec<u8> {
@@ -120,6 +131,20 @@ mod tests {
         assert_eq!((scene.len(), lines[3].trim_end()), (89, scene));
         assert!(lines.len() == 60 && lines.iter().all(|line| line.len() == 100));
         assert!(lines[4..].iter().all(|line| line.trim_end().is_empty()));
+    }
+
+    #[test]
+    fn a_unit_of_edition_4_has_its_damaged_cells_as_the_last_field() {
+        let mut record = record(1, 1);
+        record[0] = 4;
+        record[64 + 28..96].fill(0xFF);
+        let pages = String::from_utf8(pages(&record).unwrap()).unwrap();
+        let lines: Vec<&str> = pages.lines().collect();
+        assert_eq!(&lines[1][76..], " 4294967295 4294967295  ");
+        assert_eq!(lines[2].trim_end().len(), 89);
+        record[0] = 3;
+        record[64 + 28..96].fill(0);
+        assert_eq!(unit_line(&View::open(&record).unwrap(), 0).unwrap().len(), 87);
     }
 
     #[test]

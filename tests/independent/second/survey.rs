@@ -1,7 +1,7 @@
 //! A survey (request R-4): which identifier has most good cells of a capture.
 
 use crate::capture::Capture;
-use crate::cells::{self, TakeCells};
+use crate::cells::{self, Kind, TakeCells};
 use crate::opening::Refusal;
 use crate::units::TooManyUnits;
 
@@ -10,7 +10,7 @@ struct Counts([u32; 8192]);
 
 impl TakeCells for Counts {
     fn take_head(&mut self, _time: u64, head: &[u8]) -> Result<bool, TooManyUnits> {
-        if cells::good(head) {
+        if cells::kind(head) == Kind::Good {
             self.0[cells::identifier(head) as usize] += 1;
         }
         Ok(false)
@@ -104,6 +104,9 @@ mod tests {
         assert_eq!(survey(&capture(&[bad])), Err((21, 0)));
         let twice = [capture(&[high, low]), record(&[low, [0x47, 0, 0]])].concat();
         assert_eq!(survey(&twice), Ok((256, 2)));
+        let damaged = [0x47, 0xC1, 0];
+        assert_eq!(survey(&capture(&[damaged, damaged, high])), Ok((8_191, 1)));
+        assert_eq!(survey(&capture(&[damaged, bad])), Err((21, 0)));
         let mut passed_over = capture(&[low]);
         passed_over[40 + 23] = 6;
         assert_eq!(survey(&passed_over), Err((21, 0)));

@@ -12,11 +12,17 @@ pub struct Unit {
     pub greatest_time: u64,
     pub cells: u32,
     pub lost: u32,
+    /// Damaged cells, which only edition 4 sets apart.
+    pub damaged: u32,
 }
 
 /// Refusal 9 without its place, which only the capture side knows.
 #[derive(Debug, PartialEq, Eq)]
 pub struct TooManyUnits;
+
+/// A damaged cell came before any unit had begun.
+#[derive(Debug, PartialEq, Eq)]
+pub struct NoUnitYet;
 
 #[derive(Default)]
 pub struct Units {
@@ -39,7 +45,7 @@ impl Units {
             if self.rows.len() == MOST_UNITS {
                 return Err(TooManyUnits);
             }
-            self.rows.push(Unit { least_time: time, greatest_time: time, cells: 0, lost: 0 });
+            self.rows.push(Unit { least_time: time, greatest_time: time, cells: 0, lost: 0, damaged: 0 });
         }
         self.last_counter = counter;
         self.last_lost = lost;
@@ -49,6 +55,12 @@ impl Units {
             unit.cells += 1;
             unit.lost += lost;
         }
+        Ok(())
+    }
+
+    /// Takes in one damaged cell of PID: it adds one to the current unit, and nothing else.
+    pub fn take_damaged(&mut self) -> Result<(), NoUnitYet> {
+        self.rows.last_mut().ok_or(NoUnitYet)?.damaged += 1;
         Ok(())
     }
 
@@ -85,8 +97,8 @@ mod tests {
         units.take_cell(7, false, 9).unwrap();
         units.take_cell(5, true, 12).unwrap();
         units.take_cell(6, false, 13).unwrap();
-        let first = Unit { least_time: 7, greatest_time: 7, cells: 1, lost: 0 };
-        let second = Unit { least_time: 5, greatest_time: 6, cells: 2, lost: 2 };
+        let first = Unit { least_time: 7, greatest_time: 7, cells: 1, lost: 0, damaged: 0 };
+        let second = Unit { least_time: 5, greatest_time: 6, cells: 2, lost: 2, damaged: 0 };
         assert_eq!(units.rows(), [first, second]);
     }
 

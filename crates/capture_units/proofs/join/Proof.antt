@@ -6,10 +6,10 @@ use Rattle.capture_units.proofs.join.Statement.{statement}
 use Rattle.capture_units.proofs.join.Tie as tie
 
 returns : tie.Need-returns
-returns c cs h e st few = absurd (h (omega arith))
+returns c cs h d e st few = absurd (h (omega arith))
 
 returns-2 : tie.Need-returns-2
-returns-2 c cs h e st few = absurd (omega (arith, st .count, st .few))
+returns-2 c cs h d e st few = absurd (omega (arith, st .count, st .few))
 
 loss-requires : tie.Need-loss-requires
 loss-requires c κs = search needs

@@ -10,10 +10,11 @@ use Rattle.record_reader.proofs.allowed_units.Statement.{statement}
 use Rattle.record_reader.proofs.allowed_units.Tie as tie
 
 abbrev Inv-loop : tie.InvT-loop
-Inv-loop bytes n j₀ j = (j ≤ n) × (allowedUnits n (drop 64 bytes) ≡ allowedUnits (n - j) (drop (64 + 32 * j) bytes))
+Inv-loop bytes n known j₀ j =
+    (j ≤ n) × (allowedUnits known n (drop 64 bytes) ≡ allowedUnits known (n - j) (drop (64 + 32 * j) bytes))
 
 abbrev μ-loop : tie.MeasureT-loop
-μ-loop bytes n j₀ j = n - j
+μ-loop bytes n known j₀ j = n - j
 
 loop-holds : tie.Need-loop-holds Inv-loop μ-loop
 loop-holds c = (omega arith, rw sub-zero)
@@ -41,7 +42,8 @@ returns c =
     let c₃ = c .before .before .before in
     let c₄ = c₃ .before in
     let c₆ = c₄ .before .before in
-    units-stop (c₆ .args .bytes .now) (c₆ .args .n) (c₄ .loop .j) (c₃ .loop-test .taken) (c .before .allowed-unit .result) _ (c₄ .loop .inv .1)
+    units-stop (c₆ .args .known) (c₆ .args .bytes .now) (c₆ .args .n) (c₄ .loop .j) (c₃ .loop-test .taken)
+    (c .before .allowed-unit .result) _ (c₄ .loop .inv .1)
     (c .before .allowed-unit .ensures) (not-true _ (c .if1 .taken))
 
 add-j : tie.Need-add-j Inv-loop μ-loop
@@ -56,14 +58,15 @@ loop-again c =
     let c₄ = c₃ .before in
     let c₆ = c₄ .before .before in (
       omega arith,
-      units-more (c₆ .args .bytes .now) (c₆ .args .n) (c₄ .loop .j) (c₃ .loop-test .taken) (c .before .allowed-unit .result) _
+      units-more (c₆ .args .known) (c₆ .args .bytes .now) (c₆ .args .n) (c₄ .loop .j) (c₃ .loop-test .taken)
+          (c .before .allowed-unit .result) _
           (c₄ .loop .inv .1) (c .before .allowed-unit .ensures) (not-false _ (c .if1 .left)),
     )
 
 returns-2 : tie.Need-returns-2 Inv-loop μ-loop
 returns-2 c =
     let c₃ = c .before .before .before in
-    units-end (c₃ .args .n) (c .before .loop .j) _ _ (c .loop-test .left) (c .before .loop .inv .1)
+    units-end (c₃ .args .known) (c₃ .args .n) (c .before .loop .j) _ _ (c .loop-test .left) (c .before .loop .inv .1)
 
 pub allowed-units-spec : {M : Type 1} → statement M
 allowed-units-spec =

@@ -18,13 +18,24 @@ word32-requires-2 c κs = search needs
 word32-requires-3 : tie.Need-word32-requires-3
 word32-requires-3 c κs = search needs
 
+word32-requires-4 : tie.Need-word32-requires-4
+word32-requires-4 c κs = search needs
+
 returns : tie.Need-returns
 unfolding unitIn
 returns c =
     let c₂ = c .before .before in
     let c₃ = c₂ .before in
     let c₄ = c₃ .before in
-    rw (c₄ .word64 .ensures, c₃ .word642 .ensures, c₂ .word32 .ensures, c .before .word322 .ensures, c .word323 .ensures)
+    let c₅ = c₄ .before in
+    rw (
+      c₅ .word64 .ensures,
+      c₄ .word642 .ensures,
+      c₃ .word32 .ensures,
+      c₂ .word322 .ensures,
+      c .before .word323 .ensures,
+      c .word324 .ensures,
+    )
 
 pub unit-in-spec : {M : Type 1} → statement M
 unit-in-spec =
@@ -35,4 +46,5 @@ unit-in-spec =
     word32-requires
     word32-requires-2
     word32-requires-3
+    word32-requires-4
     returns)

@@ -1,8 +1,12 @@
 -- `put_sheet` meets its contract. Assumes nothing.
 use native.Mathlib.Omega.{arith}
-use borrow.Author.Needs.{needs}
+use mathlib.Core.Path.{ap, _∙_}
+use Rattle.rules.specs.declared.Header.{Header}
+use Rattle.rules.specs.Editions.{knowsDamage}
+use Rattle.rules.specs.Reading.{headerOf}
 use Rattle.rules.specs.Sheet.{pagesFor, blanksFor}
 use Rattle.record_sheet.proofs.Answers.{sheet-size, sheet-put}
+use borrow.Author.Needs.{needs}
 use Rattle.record_sheet.proofs.put_sheet.Statement.{statement}
 use Rattle.record_sheet.proofs.put_sheet.Tie as tie
 
@@ -24,30 +28,34 @@ sub-blanks c = search needs
 header-figures-requires : tie.Need-header-figures-requires
 header-figures-requires c κs = search needs
 
+cast-knows-damage : tie.Need-cast-knows-damage
+cast-knows-damage c = search needs
+
+knows-damage-requires : tie.Need-knows-damage-requires
+knows-damage-requires c κs = search needs
+
 header-line-requires : tie.Need-header-line-requires
 header-line-requires c κs =
-    let s = c .before .before .before .before in
+    let s = c .before .before .before .before .before .before in
     let z = sheet-size (s .args .bytes .now) (s .args .units) (s .args .scenes) (s .pre .0 .0) (s .pre .0 .1) in
     omega (arith, z, s .pre .1 .1)
 
 put-units-requires : tie.Need-put-units-requires
 put-units-requires c κs =
-    let c₃ = c .before .before .before in
-    let s = c₃ .before .before .before .before .before in
+    let s = c .before .before .before .before .before .before .before .before .before .before in
     let z = sheet-size (s .args .bytes .now) (s .args .units) (s .args .scenes) (s .pre .0 .0) (s .pre .0 .1) in
-    let k = c₃ .header-line in (
+    let k = c .before .before .before .header-line in (
       (s .pre .1 .0 .0, omega (arith, s .pre .1 .0 .2)),
       omega (arith, z, s .pre .1 .1, k .ensures .ends, k .kept .0),
     )
 
 put-scenes-requires : tie.Need-put-scenes-requires
 put-scenes-requires c κs =
-    let c₃ = c .before .before .before in
-    let c₇ = c₃ .before .before .before .before in
-    let s = c₇ .before .before .before .before .before in
+    let s = c .before .before .before .before .before .before .before .before .before .before .before .before .before
+    .before in
     let z = sheet-size (s .args .bytes .now) (s .args .units) (s .args .scenes) (s .pre .0 .0) (s .pre .0 .1) in
-    let k = c₇ .header-line in
-    let u = c₃ .put-units in (
+    let k = c .before .before .before .before .before .before .before .header-line in
+    let u = c .before .before .before .put-units in (
       (s .pre .0 .0, s .pre .1 .0 .1),
       (s .pre .1 .0 .2, omega (arith, z, s .pre .1 .1, k .ensures .ends, k .kept .0, u .ensures .ends, u .kept .0)),
     )
@@ -55,14 +63,12 @@ put-scenes-requires c κs =
 put-blanks-requires : tie.Need-put-blanks-requires
 unfolding blanksFor pagesFor
 put-blanks-requires c κs =
-    let c₃ = c .before .before .before in
-    let c₇ = c₃ .before .before .before .before in
-    let c₁₁ = c₇ .before .before .before .before in
-    let s = c₁₁ .before .before .before .before .before in
+    let s = c .before .before .before .before .before .before .before .before .before .before .before .before .before
+    .before .before .before .before .before in
     let z = sheet-size (s .args .bytes .now) (s .args .units) (s .args .scenes) (s .pre .0 .0) (s .pre .0 .1) in
-    let k = c₁₁ .header-line in
-    let u = c₇ .put-units in
-    let v = c₃ .put-scenes in
+    let k = c .before .before .before .before .before .before .before .before .before .before .before .header-line in
+    let u = c .before .before .before .before .before .before .before .put-units in
+    let v = c .before .before .before .put-scenes in
     omega
     (arith, z, s .pre .1 .1, k .ensures .ends, k .kept .0, u .ensures .ends, u .kept .0, v .ensures .ends, v .kept .0)
 
@@ -70,17 +76,23 @@ same-length : tie.Need-same-length
 same-length c = search needs
 
 returns : tie.Need-returns
-unfolding blanksFor pagesFor
+unfolding blanksFor pagesFor headerOf
 returns c =
-    let c₂ = c .before .before in
-    let c₆ = c₂ .before .before .before .before in
-    let c₁₀ = c₆ .before .before .before .before in
-    let c₁₄ = c₁₀ .before .before .before .before in
-    let c₁₅ = c₁₄ .before in
-    let s = c₁₅ .before .before .before .before in
-    let first = rw (c₁₅ .header-figures .ensures) at (c₁₄ .header-line .ensures) in
-    sheet-put (s .args .bytes .now) (s .args .units) (s .args .scenes) (s .pre .0 .0) (s .pre .0 .1) (s .pre .1 .1)
-    first (c₁₀ .put-units .ensures) (c₆ .put-scenes .ensures) (c₂ .put-blanks .ensures)
+    let s = c .before .before .before .before .before .before .before .before .before .before .before .before .before
+    .before .before .before .before .before .before .before .before in
+    let figures = c .before .before .before .before .before .before .before .before .before .before .before .before
+    .before .before .before .before .before .before .header-figures .ensures in
+    let known = c .before .before .before .before .before .before .before .before .before .before .before .before
+    .before .before .before .before .knows-damage .ensures
+    ∙ ap (λ (h : Header). knowsDamage (h .edition)) figures in
+    let first = rw figures at
+    (c .before .before .before .before .before .before .before .before .before .before .before .before .before
+    .before .header-line .ensures) in
+    sheet-put (s .args .bytes .now) (s .args .units) (s .args .scenes) (s .pre .0 .0) (s .pre .0 .1) _ known
+    (s .pre .1 .1)
+    first (c .before .before .before .before .before .before .before .before .before .before .put-units .ensures)
+    (c .before .before .before .before .before .before .put-scenes .ensures)
+    (c .before .before .put-blanks .ensures)
 
 pub put-sheet-spec : {M : Type 1} → statement M
 put-sheet-spec =
@@ -92,6 +104,8 @@ put-sheet-spec =
     mul-blanks
     sub-blanks
     header-figures-requires
+    cast-knows-damage
+    knows-damage-requires
     header-line-requires
     put-units-requires
     put-scenes-requires

@@ -12,18 +12,22 @@ use Rattle.record_sheet.proofs.put_units.Statement.{statement}
 use Rattle.record_sheet.proofs.put_units.Tie as tie
 
 abbrev Inv-loop : tie.InvT-loop
-Inv-loop buffer₀ at bytes units end₀ j₀ buffer end j =
+Inv-loop buffer₀ at bytes units known end₀ j₀ buffer end j =
     (j ≤ units) × (length buffer ≡ length buffer₀)
-    × Put at (101 * j) (linesTo j (λ (i : ℕ). unitLine i (unitAt (bytes) i))) buffer₀ end buffer
+    × Put at (101 * j) (linesTo j (λ (i : ℕ). unitLine known i (unitAt bytes i))) buffer₀ end buffer
 
 abbrev μ-loop : tie.MeasureT-loop
-μ-loop buffer₀ at bytes units end₀ j₀ buffer end j = units - j
+μ-loop buffer₀ at bytes units known end₀ j₀ buffer end j = units - j
 
 loop-holds : tie.Need-loop-holds Inv-loop μ-loop
 loop-holds c =
     let c₂ = c .before .before in
-    let a = c₂ .args in
-    (omega arith, refl, no-lines (λ (i : ℕ). unitLine i (unitAt (a .bytes .now) i)) (a .at) (a .buffer .now))
+    let a = c₂ .args in (
+      omega arith,
+      refl,
+      no-lines (λ (i : ℕ). unitLine (a .known) i (unitAt (a .bytes .now) i)) (a .at)
+          (a .buffer .now),
+    )
 
 unit-row-requires : tie.Need-unit-row-requires Inv-loop μ-loop
 unfolding unitPlace
@@ -51,7 +55,7 @@ loop-again c =
     let l = c₆ .loop in (
       omega arith,
       omega (arith, c₂ .unit-line .kept .0, l .inv .1),
-      line-more (λ (i : ℕ). unitLine i (unitAt (a .bytes .now) i)) (l .j) (omega arith) (l .inv .2)
+      line-more (λ (i : ℕ). unitLine (a .known) i (unitAt (a .bytes .now) i)) (l .j) (omega arith) (l .inv .2)
           (rw (c₄ .unit-row .ensures) at (c₂ .unit-line .ensures)),
     )
 

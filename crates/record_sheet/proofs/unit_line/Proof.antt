@@ -1,21 +1,23 @@
--- `unit_line` meets its contract. Assumes nothing.
+-- `unit_line` meets its contract, with the field for damaged cells and without. Assumes nothing.
 use native.Mathlib.Omega.{arith}
-use borrow.Author.Needs.{needs}
-use mathlib.Core.Path.{refl}
+use mathlib.Core.Path.{refl, sym}
+use mathlib.Core.Bool.{true, false}
+use mathlib.Core.List.{append-nil}
 use Rattle.rules.specs.Sheet.{unitFields, unitLine}
 use Rattle.rules.specs.Bytes.{empty}
-use Rattle.record_sheet.proofs.Puts.{figure, time, join, line-put}
+use Rattle.record_sheet.proofs.Puts.{figure, time, join, same-put, line-put}
+use borrow.Author.Needs.{needs}
 use Rattle.record_sheet.proofs.unit_line.Statement.{statement}
 use Rattle.record_sheet.proofs.unit_line.Tie as tie
 
-cast-t12 : tie.Need-cast-t12
-cast-t12 c = search needs
+cast-t15 : tie.Need-cast-t15
+cast-t15 c = search needs
 
-cast-t13 : tie.Need-cast-t13
-cast-t13 c = search needs
+cast-t16 : tie.Need-cast-t16
+cast-t16 c = search needs
 
-cast-t14 : tie.Need-cast-t14
-cast-t14 c = search needs
+cast-t17 : tie.Need-cast-t17
+cast-t17 c = search needs
 
 put-byte-requires : tie.Need-put-byte-requires
 put-byte-requires c κs = search needs
@@ -25,8 +27,7 @@ slice-aggregate-put-numbers c = search needs
 
 put-numbers-requires : tie.Need-put-numbers-requires
 put-numbers-requires c κs =
-    let c₁₀ = c .before .before .before .before .before .before .before .before .before .before in
-    let a = c₁₀ .args in
+    let a = c .before .before .before .before .before .before .before .before .before .before .args in
     ((search needs, figure (a .j) (search needs) empty), search needs)
 
 slice-aggregate-put-numbers-2 : tie.Need-slice-aggregate-put-numbers-2
@@ -34,29 +35,89 @@ slice-aggregate-put-numbers-2 c = search needs
 
 put-numbers-requires-2 : tie.Need-put-numbers-requires-2
 put-numbers-requires-2 c κs =
-    let c₄ = c .before .before .before .before in
-    let c₉ = c₄ .before .before .before .before .before in
-    let c₁₅ = c₉ .before .before .before .before .before .before in
-    let a = c₁₅ .args in
-    let mark = c₉ .put-byte in
-    let one = c₄ .put-numbers in
-    let times = time (a .u .least) (search needs) (time (a .u .greatest) (search needs) empty) in
-    let k = mark .kept .0 in
-    ((search needs, times), omega (arith, c₁₅ .pre, mark .ensures .ends, k, one .ensures .ends, one .kept .0))
+    let s = c .before .before .before .before .before .before .before .before .before .before .before .before .before
+    .before .before in
+    let a = s .args in
+    let mark = c .before .before .before .before .before .before .before .before .before .put-byte in
+    let one = c .before .before .before .before .put-numbers in
+    let times = time (a .u .least) (search needs) (time (a .u .greatest) (search needs) empty) in (
+      (search needs, times),
+      omega (arith, s .pre, mark .ensures .ends, mark .kept .0, one .ensures .ends, one .kept .0),
+    )
 
 slice-aggregate-put-numbers-3 : tie.Need-slice-aggregate-put-numbers-3
 slice-aggregate-put-numbers-3 c = search needs
 
 put-numbers-requires-3 : tie.Need-put-numbers-requires-3
 put-numbers-requires-3 c κs =
-    let c₁₀ = c .before .before .before .before .before .before .before .before .before .before in
-    let c₂₀ = c₁₀ .before .before .before .before .before .before .before .before .before .before in
-    let a = c₂₀ .args in
+    let a = c .before .before .before .before .before .before .before .before .before .before .before .before .before
+    .before .before .before .before .before .before .before .args in
     let last = figure (a .u .packets) (search needs) (figure (a .u .lost) (search needs) empty) in
     ((search needs, figure (a .u .size) (search needs) last), search needs)
 
+cast-t33 : tie.Need-cast-t33
+cast-t33 c = search needs
+
+slice-aggregate-put-numbers-4 : tie.Need-slice-aggregate-put-numbers-4
+slice-aggregate-put-numbers-4 c = search needs
+
+put-numbers-requires-4 : tie.Need-put-numbers-requires-4
+put-numbers-requires-4 c κs =
+    let s = c .before .before .before .before .before .before .before .before .before .before .before .before .before
+    .before .before .before .before .before .before .before .before .before .before .before .before .before .before
+    in
+    let mark = c .before .before .before .before .before .before .before .before .before .before .before .before
+    .before .before .before .before .before .before .before .before .before .put-byte in
+    let one = c .before .before .before .before .before .before .before .before .before .before .before .before .before
+    .before .before .before .put-numbers in
+    let two = c .before .before .before .before .before .before .before .before .before .before .before .put-numbers2
+    in
+    let three = c .before .before .before .before .before .before .put-numbers3 in (
+      (omega arith, figure (s .args .u .damaged) (search needs) empty),
+      omega (
+        arith,
+        s .pre,
+        mark .ensures .ends,
+        mark .kept .0,
+        one .ensures .ends,
+        one .kept .0,
+        two .ensures .ends,
+        two .kept .0,
+        three .ensures .ends,
+        three .kept .0,
+      ),
+    )
+
 end-line-requires : tie.Need-end-line-requires
-end-line-requires c κs = search needs
+end-line-requires c κs =
+    let s = c .before .before .before .before .before .before .before .before .before .before .before .before .before
+    .before .before .before .before .before .before .before .before .before .before .before .before .before .before
+    .before .before .before .before in
+    let mark = c .before .before .before .before .before .before .before .before .before .before .before .before
+    .before .before .before .before .before .before .before .before .before .before .before .before .before
+    .put-byte in
+    let one = c .before .before .before .before .before .before .before .before .before .before .before .before .before
+    .before .before .before .before .before .before .before .put-numbers in
+    let two = c .before .before .before .before .before .before .before .before .before .before .before .before .before
+    .before .before .put-numbers2 in
+    let three = c .before .before .before .before .before .before .before .before .before .before .put-numbers3 in
+    let four = c .before .before .before .put-numbers4 in (
+      omega arith,
+      omega (
+        arith,
+        s .pre,
+        mark .ensures .ends,
+        mark .kept .0,
+        one .ensures .ends,
+        one .kept .0,
+        two .ensures .ends,
+        two .kept .0,
+        three .ensures .ends,
+        three .kept .0,
+        four .ensures .ends,
+        four .kept .0,
+      ),
+    )
 
 same-length : tie.Need-same-length
 same-length c = search needs
@@ -64,27 +125,60 @@ same-length c = search needs
 returns : tie.Need-returns
 unfolding unitLine unitFields
 returns c =
-    let c₂ = c .before .before in
-    let c₆ = c₂ .before .before .before .before in
-    let c₁₁ = c₆ .before .before .before .before .before in
-    let c₁₆ = c₁₁ .before .before .before .before .before in
-    let c₂₁ = c₁₆ .before .before .before .before .before in
-    let s = c₂₁ .before .before .before .before .before .before in
-    let mark = c₂₁ .put-byte in
+    let s = c .before .before .before .before .before .before .before .before .before .before .before .before .before
+    .before .before .before .before .before .before .before .before .before .before .before .before .before .before
+    .before .before .before .before .before .before .before in
+    let mark = c .before .before .before .before .before .before .before .before .before .before .before .before
+    .before .before .before .before .before .before .before .before .before .before .before .before .before .before
+    .before .before .put-byte in
     let k = mark .kept .0 in
-    let x = c₁₆ .put-numbers .ensures in
-    let times = join x (c₁₁ .put-numbers2 .ensures) (omega (arith, mark .ensures .ends, k, s .pre)) in
-    let fields = join times (c₆ .put-numbers3 .ensures) (omega (arith, mark .ensures .ends, k, s .pre)) in
-    line-put 85 (unitFields (s .args .j) (s .args .u)) 87 refl (omega arith) (s .pre) (mark .ensures) fields
-    (c₂ .end-line .ensures)
+    let times = join (c .before .before .before .before .before .before .before .before .before .before .before .before
+    .before .before .before .before .before .before .before .before .before .before .before .put-numbers .ensures)
+    (c .before .before .before .before .before .before .before .before .before .before .before .before .before
+    .before .before .before .before .before .put-numbers2 .ensures)
+    (omega (arith, mark .ensures .ends, k, s .pre)) in
+    let counts = join times
+    (c .before .before .before .before .before .before .before .before .before .before .before .before .before
+    .put-numbers3 .ensures) (omega (arith, mark .ensures .ends, k, s .pre)) in
+    let fields = join counts (c .before .before .before .before .before .before .put-numbers4 .ensures)
+    (omega (arith, mark .ensures .ends, k, s .pre)) in
+    rw (c .before .before .before .before .before .before .before .before .before .before .if1 .taken)
+    (line-put 85 (unitFields true (s .args .j) (s .args .u)) 98 refl (omega arith) (s .pre) (mark .ensures) fields
+    (c .before .before .end-line .ensures))
+
+end-line-requires-2 : tie.Need-end-line-requires-2
+end-line-requires-2 c κs = search needs
+
+same-length-2 : tie.Need-same-length-2
+same-length-2 c = search needs
+
+returns-2 : tie.Need-returns-2
+unfolding unitLine unitFields
+returns-2 c =
+    let s = c .before .before .before .before .before .before .before .before .before .before .before .before .before
+    .before .before .before .before .before .before .before .before .before .before .before .before .before .before
+    .before in
+    let mark = c .before .before .before .before .before .before .before .before .before .before .before .before
+    .before .before .before .before .before .before .before .before .before .before .put-byte in
+    let k = mark .kept .0 in
+    let times = join (c .before .before .before .before .before .before .before .before .before .before .before .before
+    .before .before .before .before .before .put-numbers .ensures)
+    (c .before .before .before .before .before .before .before .before .before .before .before .before
+    .put-numbers2 .ensures) (omega (arith, mark .ensures .ends, k, s .pre)) in
+    let counts = join times (c .before .before .before .before .before .before .before .put-numbers3 .ensures)
+    (omega (arith, mark .ensures .ends, k, s .pre)) in
+    let fields = same-put 86 _ (unitFields false (s .args .j) (s .args .u)) counts refl refl (sym (append-nil _)) in
+    rw (c .before .before .before .before .if1 .left)
+    (line-put 85 (unitFields false (s .args .j) (s .args .u)) 87 refl (omega arith) (s .pre) (mark .ensures) fields
+    (c .before .before .end-line2 .ensures))
 
 pub unit-line-spec : {M : Type 1} → statement M
 unit-line-spec =
     tie.close
     (tie.spec
-    cast-t12
-    cast-t13
-    cast-t14
+    cast-t15
+    cast-t16
+    cast-t17
     put-byte-requires
     slice-aggregate-put-numbers
     put-numbers-requires
@@ -92,6 +186,12 @@ unit-line-spec =
     put-numbers-requires-2
     slice-aggregate-put-numbers-3
     put-numbers-requires-3
+    cast-t33
+    slice-aggregate-put-numbers-4
+    put-numbers-requires-4
     end-line-requires
     same-length
-    returns)
+    returns
+    end-line-requires-2
+    same-length-2
+    returns-2)

@@ -14,8 +14,12 @@ use Rattle.rules.specs.declared.Opening.{Opening}
 use Rattle.rules.specs.Bytes.{pick, byte, word32, network16, only, All, and, empty}
 use Rattle.rules.specs.Refusals.{none, fault}
 use Rattle.rules.specs.Frames.{seconds, microseconds, storedLength, frameTime, body, frameSize, frames, rest, behindHeader}
-use Rattle.rules.specs.Packets.{Packet, ipLength, udpLength, carries, packetsFrom, packetsIn, packetsOf, packets, shown, identifier, kind, isWanted, startMark, wantedOf}
-use Rattle.rules.specs.Units.{Arrival, arrivalsAfter, arrivals, beginnings}
+use Rattle.rules.specs.Editions.{knowsDamage}
+use Rattle.rules.specs.Packets.{Packet, ipLength, udpLength, carries, packetsFrom, packetsIn, packetsOf, packets}
+use Rattle.rules.specs.Packets.{shown, startsCell, damageMark, condition, identifier, isWanted, startMark}
+use Rattle.rules.specs.Packets.{wantedOf}
+use Rattle.rules.specs.Units.{Arrival, setApart, firstArrival, damagedArrival, laterArrival, arrivalsAfter}
+use Rattle.rules.specs.Units.{arrivals, beginnings}
 use Rattle.rules.specs.Capture.{wholeFrames, unfinished, allFrames, shownWanted, beginsAt, tooManyUnits, captureFault}
 use Rattle.rules.proofs.Laws.Lists.{all-drop, only-append}
 use Rattle.rules.proofs.Laws.Faults.{no-fault, at-fault, late-fault, Grows, same, new, grows-kept, earlier-grows, long-grows, magic-grows, link-grows, frames-grow}
@@ -271,14 +275,19 @@ module _ (n : ℕ) (t : List ℕ) where
 
 -- ---- the packets of PID
 
-kind-alike : (o : Opening) {n : ℕ} {p q : Packet} → Alike n p q → kind o (q .bytes) ≡ kind o (p .bytes)
-unfolding kind identifier
-kind-alike o a = rw (a .bytes 0 (omega arith), a .bytes 1 (omega arith), a .bytes 2 (omega arith))
+condition-alike : {n : ℕ} {p q : Packet} → Alike n p q → condition (q .bytes) ≡ condition (p .bytes)
+unfolding condition startsCell damageMark
+condition-alike a = rw (a .bytes 0 (omega arith), a .bytes 1 (omega arith))
+
+wanted-alike : (o : Opening) {n : ℕ} {p q : Packet} → Alike n p q → isWanted o (q .bytes) ≡ isWanted o (p .bytes)
+unfolding isWanted identifier
+wanted-alike o a = rw (condition-alike a, a .bytes 1 (omega arith), a .bytes 2 (omega arith))
 
 wanted-extends : (o : Opening) {n : ℕ} {ps qs : List Packet} → Extends n ps qs → Extends n (wantedOf o ps) (wantedOf o qs)
 unfolding wantedOf only
-wanted-extends o (ends h) = ends (only-all (λ (p : Packet). isWanted (kind o (p .bytes))) h)
-wanted-extends o {n} (pair {p} {q} {ps} {qs} a e) = rw (kind-alike o a) (go (isWanted (kind o (p .bytes))) (wanted-extends o e))
+wanted-extends o (ends h) = ends (only-all (λ (p : Packet). isWanted o (p .bytes)) h)
+wanted-extends o {n} (pair {p} {q} {ps} {qs} a e) =
+    rw (wanted-alike o a) (go (isWanted o (p .bytes)) (wanted-extends o e))
   where
     go : (b : Bool) → Extends n (wantedOf o ps) (wantedOf o qs) →
         Extends n (pick b (p ∷ wantedOf o ps) (wantedOf o ps)) (pick b (q ∷ wantedOf o qs) (wantedOf o qs))
@@ -294,25 +303,65 @@ data Follows (n : ℕ) : List Arrival → List Arrival → Type 0 where
   stops : {bs : List Arrival} → All (Behind n) bs → Follows n [] bs
   next : {a b : Arrival} {xs bs : List Arrival} → b .place ≡ a .place → b .begins ≡ a .begins → a .place + 3 < n → Follows n xs bs → Follows n (a ∷ xs) (b ∷ bs)
 
-after-late : (n : ℕ) (q : Packet) {qs : List Packet} → All (After n) qs → All (Behind n) (arrivalsAfter false q qs)
-unfolding arrivalsAfter
-after-late n q empty = empty
-after-late n q (and {x} h hs) = and h (after-late n x hs)
+module _ (known : Bool) where
+  after-late : (n : ℕ) (q : Packet) {qs : List Packet} → All (After n) qs →
+      All (Behind n) (arrivalsAfter false known q qs)
+  unfolding arrivalsAfter
+  after-late n q empty = empty
+  after-late n q (and {x} {xs} h hs) = go (setApart known x) (after-late n q hs) (after-late n x hs)
+    where
+      go : (t : Bool) → All (Behind n) (arrivalsAfter false known q xs) →
+          All (Behind n) (arrivalsAfter false known x xs) →
+          All (Behind n) (pick t (damagedArrival x ∷ arrivalsAfter false known q xs)
+          (laterArrival false q x ∷ arrivalsAfter false known x xs))
+      go true d e = and h d
+      go false d e = and h e
 
-start-alike : {n : ℕ} {p q : Packet} → Alike n p q → startMark (q .bytes) ≡ startMark (p .bytes)
-unfolding startMark
-start-alike a = rw (a .bytes 1 (omega arith))
+  arrivals-late : (n : ℕ) {qs : List Packet} → All (After n) qs → All (Behind n) (arrivals false known qs)
+  unfolding arrivals
+  arrivals-late n empty = empty
+  arrivals-late n (and {x} {xs} h hs) = go (setApart known x) (arrivals-late n hs)
+    where
+      go : (t : Bool) → All (Behind n) (arrivals false known xs) →
+          All (Behind n) (pick t (arrivals false known xs) (firstArrival x ∷ arrivalsAfter false known x xs))
+      go true d = d
+      go false d = and h (after-late n x hs)
 
-after-follows : {n : ℕ} (p q : Packet) {ps qs : List Packet} → Extends n ps qs → Follows n (arrivalsAfter false p ps) (arrivalsAfter false q qs)
-unfolding arrivalsAfter
-after-follows {n} p q (ends h) = stops (after-late n q h)
-after-follows p q (pair {p = p′} {q = q′} a e) = next (a .place) (start-alike a) (a .early) (after-follows p′ q′ e)
+  start-alike : {n : ℕ} {p q : Packet} → Alike n p q → startMark (q .bytes) ≡ startMark (p .bytes)
+  unfolding startMark
+  start-alike a = rw (a .bytes 1 (omega arith))
 
-arrivals-follow : {n : ℕ} {ps qs : List Packet} → Extends n ps qs → Follows n (arrivals false ps) (arrivals false qs)
-unfolding arrivals
-arrivals-follow (ends empty) = stops empty
-arrivals-follow {n} (ends (and {x} h hs)) = stops (and h (after-late n x hs))
-arrivals-follow (pair {p} {q} a e) = next (a .place) refl (a .early) (after-follows p q e)
+  apart-alike : {n : ℕ} {p q : Packet} → Alike n p q → setApart known q ≡ setApart known p
+  unfolding setApart
+  apart-alike a = rw (condition-alike a)
+
+  after-follows : {n : ℕ} (p q : Packet) {ps qs : List Packet} → Extends n ps qs →
+      Follows n (arrivalsAfter false known p ps) (arrivalsAfter false known q qs)
+  unfolding arrivalsAfter
+  after-follows {n} p q (ends h) = stops (after-late n q h)
+  after-follows {n} p q (pair {p = p′} {q = q′} {ps = ps} {qs = qs} a e) =
+      rw (apart-alike a) (go (setApart known p′) (after-follows p q e) (after-follows p′ q′ e))
+    where
+      go : (t : Bool) → Follows n (arrivalsAfter false known p ps) (arrivalsAfter false known q qs) →
+          Follows n (arrivalsAfter false known p′ ps) (arrivalsAfter false known q′ qs) →
+          Follows n (pick t (damagedArrival p′ ∷ arrivalsAfter false known p ps)
+          (laterArrival false p p′ ∷ arrivalsAfter false known p′ ps))
+          (pick t (damagedArrival q′ ∷ arrivalsAfter false known q qs)
+          (laterArrival false q q′ ∷ arrivalsAfter false known q′ qs))
+      go true d f = next (a .place) refl (a .early) d
+      go false d f = next (a .place) (start-alike a) (a .early) f
+
+  arrivals-follow : {n : ℕ} {ps qs : List Packet} → Extends n ps qs →
+      Follows n (arrivals false known ps) (arrivals false known qs)
+  unfolding arrivals
+  arrivals-follow {n} (ends h) = stops (arrivals-late n h)
+  arrivals-follow {n} (pair {p} {q} {ps} {qs} a e) = rw (apart-alike a) (go (setApart known p) (arrivals-follow e))
+    where
+      go : (t : Bool) → Follows n (arrivals false known ps) (arrivals false known qs) →
+          Follows n (pick t (arrivals false known ps) (firstArrival p ∷ arrivalsAfter false known p ps))
+          (pick t (arrivals false known qs) (firstArrival q ∷ arrivalsAfter false known q qs))
+      go true d = d
+      go false d = next (a .place) refl (a .early) (after-follows p q e)
 
 abbrev beginsUnit : Arrival → Bool
 beginsUnit a = a .begins
@@ -352,7 +401,9 @@ shown-extend s t = go (decLe 24 (length s))
 
 pub units-grow : (o : Opening) (s t : List ℕ) → Grows (length s) (tooManyUnits o s) (tooManyUnits o (s ++ t))
 unfolding tooManyUnits beginnings shownWanted
-units-grow o s t = at-follow (drop-follow 750 (begins-follow (arrivals-follow (wanted-extends o (shown-extend s t)))))
+units-grow o s t = at-follow
+    (drop-follow 750 (begins-follow
+    (arrivals-follow (knowsDamage (o .edition)) (wanted-extends o (shown-extend s t)))))
 
 -- ---- THE LAW: what the capture shows first, it shows first for good
 

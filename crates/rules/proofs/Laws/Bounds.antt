@@ -4,14 +4,17 @@ use native.Mathlib.Omega.{arith}
 use native.Mathlib.Decide.{decLe}
 use mathlib.Core.Path.{_≡_, refl, sym, ap, _∙_}
 use mathlib.Core.List.{List, [], _∷_, _++_}
-use mathlib.Core.Bool.{Bool, true, false, not}
+use mathlib.Core.Bool.{Bool, true, false, not, _&&_}
 use lib.ListN.{length, take, drop, length-append, length-take, length-drop}
-use lib.Dec.{leb}
+use lib.Dec.{leb, eqb}
 use borrow.Author.Tests.{le-leb, lt-leb}
 use Rattle.rules.specs.declared.Opening.{Opening}
 use Rattle.rules.specs.Bytes.{pick, count, only, endToEnd, All, and, empty}
 use Rattle.rules.specs.Frames.{frameTime, behindHeader, frames, rest}
-use Rattle.rules.specs.Packets.{Packet, carries, packetsFrom, packetsOf, packets, skipped, kind, isBad, isWanted, wantedOf, badOf}
+use Rattle.rules.specs.Editions.{knowsDamage}
+use Rattle.rules.specs.Packets.{Packet, carries, packetsFrom, packetsOf, packets, skipped, condition, isBad}
+use Rattle.rules.specs.Packets.{identifier, isWanted, wantedOf, badOf}
+use Rattle.rules.specs.Units.{setApart, beforeUnits}
 use Rattle.rules.specs.Capture.{wholeFrames, unfinished, allFrames, wholeWanted, frameCount, skippedCount, badCount}
 use Rattle.rules.proofs.Laws.Lists.{count-few, only-append, endToEnd-append}
 use Rattle.rules.proofs.Laws.Frames.{size-least, frames-all}
@@ -99,16 +102,40 @@ reached-few s =
     let e : length (endToEnd (unfinished s ∷ [])) ≡ length (unfinished s) = unfold endToEnd in length-append (unfinished s) [] ∙ omega arith in
     omega arith
 
+-- no packet is bad and of PID
+bad-or-wanted : (o : Opening) (ps : List Packet) → badOf ps + length (wantedOf o ps) ≤ length ps
+unfolding badOf count wantedOf only isWanted
+bad-or-wanted o [] = omega arith
+bad-or-wanted o (p ∷ ps) =
+    go (isBad (condition (p .bytes))) (eqb (identifier (p .bytes)) (o .pid)) (bad-or-wanted o ps)
+  where
+    go : (b i : Bool) → badOf ps + length (wantedOf o ps) ≤ length ps →
+        pick b 1 0 + badOf ps + length (pick (not b && i) (p ∷ wantedOf o ps) (wantedOf o ps)) ≤ suc (length ps)
+    go true i h = omega arith
+    go false true h = omega arith
+    go false false h = omega arith
+
+before-few : (known : Bool) (ps : List Packet) → beforeUnits known ps ≤ length ps
+unfolding beforeUnits
+before-few known [] = omega arith
+before-few known (p ∷ ps) = go (setApart known p) (before-few known ps)
+  where
+    go : (t : Bool) → beforeUnits known ps ≤ length ps → pick t (suc (beforeUnits known ps)) 0 ≤ suc (length ps)
+    go true h = omega arith
+    go false h = omega arith
+
 pub bad-few : (o : Opening) (s : List ℕ) → 188 * badCount o s ≤ length s
 bad-few o s =
     rw (bad-of o s)
-    (let h : badOf o (reached 188 s) ≤ length (reached 188 s) = unfold badOf in count-few (λ (p : Packet). isBad (kind o (p .bytes))) (reached 188 s) in
+    (let h = bad-or-wanted o (reached 188 s) in
+    let b = before-few (knowsDamage (o .edition)) (wantedOf o (reached 188 s)) in
     let r = reached-few s in
     omega arith)
 
 pub wanted-few : (o : Opening) (s : List ℕ) → 188 * length (wholeWanted o s) ≤ length s
 wanted-few o s =
     rw (wanted-of o s)
-    (let h : length (wantedOf o (reached 188 s)) ≤ length (reached 188 s) = unfold wantedOf in only-few (λ (p : Packet). isWanted (kind o (p .bytes))) (reached 188 s) in
+    (let h : length (wantedOf o (reached 188 s)) ≤ length (reached 188 s) = unfold wantedOf in
+    only-few (λ (p : Packet). isWanted o (p .bytes)) (reached 188 s) in
     let r = reached-few s in
     omega arith)

@@ -1,44 +1,52 @@
 -- The laws of editions: edition 1 is document 01's, what a splice mark does from edition 2 on, and that edition 3
--- differs from 2 in the changes alone.
+-- differs from 2 in the changes alone, and 4 from 3 in the units alone.
 use Prim.Native.Nat.{ℕ}
-use mathlib.Core.Path.{_≡_, refl, ap}
+use mathlib.Core.Path.{_≡_, refl, ap, _∙_}
 use mathlib.Core.List.{List, [], _∷_, map}
 use mathlib.Core.Bool.{true, false}
 use lib.ListN.{length}
 use Rattle.rules.specs.declared.UnitRow.{UnitRow}
-use Rattle.rules.specs.Editions.{heedsSplices, roundsToNearest}
+use Rattle.rules.specs.Editions.{heedsSplices, roundsToNearest, knowsDamage}
 use Rattle.rules.specs.Packets.{Packet, startMark, counter, spliceMark}
 use Rattle.rules.specs.Changes.{spread, root, nearest, changeFrom, change, changesAfter, changes}
-use Rattle.rules.specs.Units.{Arrival, gapLoss, lossBetween, arrivalsAfter, arrivals, groups, unitOf, unitsOf}
+use Rattle.rules.specs.Units.{Arrival, gapLoss, lossBetween, setApart, arrivalsAfter, arrivals, groups, unitsOf}
+use Rattle.rules.proofs.Laws.Damage.{plainUnit, plain-units}
 
--- document 01's arrivals and units, as they stood before there were editions: every gap counts
+-- document 01's arrivals and units, as they stood before there were editions: every gap counts, and so does every cell
 firstAfter : Packet → List Packet → List Arrival
 firstAfter q [] = []
 firstAfter q (p ∷ ps) =
-    record { time = p .time; place = p .place; begins = startMark (p .bytes); lost = gapLoss (counter (q .bytes)) (counter (p .bytes)) }
+    record {
+      time = p .time;
+      place = p .place;
+      begins = startMark (p .bytes);
+      lost = gapLoss (counter (q .bytes)) (counter (p .bytes));
+      damaged = false;
+    }
     ∷ firstAfter p ps
 
 firstArrivals : List Packet → List Arrival
 firstArrivals [] = []
-firstArrivals (p ∷ ps) = record { time = p .time; place = p .place; begins = true; lost = 0 } ∷ firstAfter p ps
+firstArrivals (p ∷ ps) =
+    record { time = p .time; place = p .place; begins = true; lost = 0; damaged = false } ∷ firstAfter p ps
 
 pub firstUnits : List Packet → List UnitRow
-firstUnits ps = map unitOf (groups (firstArrivals ps))
+firstUnits ps = map plainUnit (groups (firstArrivals ps))
 
-after-first : (q : Packet) (ps : List Packet) → arrivalsAfter false q ps ≡ firstAfter q ps
-unfolding arrivalsAfter lossBetween firstAfter
+after-first : (q : Packet) (ps : List Packet) → arrivalsAfter false false q ps ≡ firstAfter q ps
+unfolding arrivalsAfter setApart lossBetween firstAfter
 after-first q [] = refl
 after-first q (p ∷ ps) = rw (after-first p ps)
 
-arrivals-first : (ps : List Packet) → arrivals false ps ≡ firstArrivals ps
-unfolding arrivals firstArrivals
+arrivals-first : (ps : List Packet) → arrivals false false ps ≡ firstArrivals ps
+unfolding arrivals setApart firstArrivals
 arrivals-first [] = refl
 arrivals-first (p ∷ ps) = rw (after-first p ps)
 
 -- edition 1 has document 01's units
 pub edition-one : (ps : List Packet) → unitsOf 1 ps ≡ firstUnits ps
-unfolding unitsOf heedsSplices firstUnits
-edition-one ps = ap (λ (xs : List Arrival). map unitOf (groups xs)) (arrivals-first ps)
+unfolding heedsSplices knowsDamage firstUnits
+edition-one ps = plain-units 1 ps refl ∙ ap (λ (xs : List Arrival). map plainUnit (groups xs)) (arrivals-first ps)
 
 -- where splice marks are heeded, a packet that has one loses nothing by its own gap, and any other what its gap says. Whichever it is, the packet behind it is
 -- measured from its counter: `arrivalsAfter` goes on from it
@@ -87,5 +95,10 @@ change-three before px = refl
 
 -- edition 3 has edition 2's units
 pub units-three : (ps : List Packet) → unitsOf 3 ps ≡ unitsOf 2 ps
-unfolding unitsOf heedsSplices
+unfolding unitsOf heedsSplices knowsDamage
 units-three ps = refl
+
+-- edition 4 has edition 3's changes; what it does to units, Laws/Damage says
+pub changes-four : (pxs : List (List ℕ)) → changes (roundsToNearest 4) pxs ≡ changes (roundsToNearest 3) pxs
+unfolding roundsToNearest
+changes-four pxs = refl

@@ -11,11 +11,12 @@ use Rattle.rules.specs.declared.Opening.{Opening}
 use Rattle.rules.specs.Bytes.{pick, byte, count, only}
 use Rattle.rules.specs.Refusals.{Fault, none, fault}
 use Rattle.rules.specs.Frames.{frameTime, frameSize}
-use Rattle.rules.specs.Packets.{Packet, carries, packetsFrom, packetsOf, packets, shown, whole, skipped, identifier, kind, isBad, isWanted, startMark, counter, wantedOf, badOf}
-use Rattle.rules.specs.Units.{Arrival, lossBetween, beginnings}
+use Rattle.rules.specs.Editions.{knowsDamage}
+use Rattle.rules.specs.Packets.{Packet, carries, packetsFrom, packetsOf, packets, shown, whole, skipped}
+use Rattle.rules.specs.Packets.{wantedOf, badOf}
+use Rattle.rules.specs.Units.{Arrival, beforeUnits, beginnings}
 use Rattle.rules.specs.Capture.{wholeFrames, unfinished, allFrames, wholeWanted, shownWanted, badCount, beginsAt, tooManyUnits}
 use Rattle.rules.proofs.Laws.Lists.{only-append, count-append}
-use Rattle.rules.proofs.Laws.UnitsMore.{beginnings-more, arrivalAfter, beginsAfter, begins-nine}
 use Rattle.rules.proofs.Laws.Onward.{base, unfinished-short, whole-part, whole-full, countOf, of-from, time-more, count-more, reaching, from-split, from-done, from-whole, from-short, from-first, of-none, layout, layout-more}
 
 -- of the bytes r of a frame: k of its packets are behind, m are not, of which the first may be there in part
@@ -102,91 +103,29 @@ module _ (d : ℕ) (some : 0 < d) (small : d ≤ 188) where
 -- ---- refusal 9, of packets that show what they are
 
 unfoldable pub nine : Opening → List Packet → Fault
-nine o ps = beginsAt (drop 750 (beginnings (wantedOf o ps)))
+nine o ps = beginsAt (drop 750 (beginnings (o .edition) (wantedOf o ps)))
 
 pub nine-of : (o : Opening) (s : List ℕ) → tooManyUnits o s ≡ nine o (reached 4 s)
 unfolding nine tooManyUnits shownWanted shown
 nine-of o s = refl
 
-pub few-begin : (o : Opening) (ps : List Packet) → nine o ps ≡ none → length (beginnings (wantedOf o ps)) ≤ 750
+pub few-begin : (o : Opening) (ps : List Packet) → nine o ps ≡ none →
+    length (beginnings (o .edition) (wantedOf o ps)) ≤ 750
 unfolding nine
-few-begin o ps h = go (drop 750 (beginnings (wantedOf o ps))) (length-drop 750 (beginnings (wantedOf o ps))) h
+few-begin o ps h = go (drop 750 bs) (length-drop 750 bs) h
   where
-    go : (xs : List Arrival) → length xs ≡ length (beginnings (wantedOf o ps)) - 750 → beginsAt xs ≡ none → length (beginnings (wantedOf o ps)) ≤ 750
+    bs : List Arrival
+    bs = beginnings (o .edition) (wantedOf o ps)
+
+    go : (xs : List Arrival) → length xs ≡ length bs - 750 → beginsAt xs ≡ none → length bs ≤ 750
     go [] e n = omega arith
     go (x ∷ xs) e n = let z : _≡_ {A = ℕ} 0 1 = cc in absurd (omega arith)
 
-wanted-append : (o : Opening) (ps : List Packet) (p : Packet) → wantedOf o (ps ++ p ∷ []) ≡ wantedOf o ps ++ pick (isWanted (kind o (p .bytes))) (p ∷ []) []
-unfolding wantedOf only
-wanted-append o ps p = only-append (λ (x : Packet). isWanted (kind o (x .bytes))) ps (p ∷ [])
-
-pub wanted-yes : (o : Opening) (ps : List Packet) (p : Packet) → isWanted (kind o (p .bytes)) ≡ true → wantedOf o (ps ++ p ∷ []) ≡ wantedOf o ps ++ p ∷ []
-wanted-yes o ps p h = wanted-append o ps p ∙ rw h
-
-pub wanted-no : (o : Opening) (ps : List Packet) (p : Packet) → isWanted (kind o (p .bytes)) ≡ false → wantedOf o (ps ++ p ∷ []) ≡ wantedOf o ps
-wanted-no o ps p h = wanted-append o ps p ∙ rw h (append-nil (wantedOf o ps))
-
-pub bad-append : (o : Opening) (ps : List Packet) (p : Packet) → badOf o (ps ++ p ∷ []) ≡ badOf o ps + pick (isBad (kind o (p .bytes))) 1 0
-unfolding badOf count
-bad-append o ps p = count-append (λ (x : Packet). isBad (kind o (x .bytes))) ps (p ∷ []) ∙ omega arith
-
-pub nine-no : (o : Opening) (ps : List Packet) (p : Packet) → isWanted (kind o (p .bytes)) ≡ false → nine o (ps ++ p ∷ []) ≡ nine o ps
-unfolding nine
-nine-no o ps p h = rw (wanted-no o ps p h)
-
-pub nine-yes : (o : Opening) (ps : List Packet) (p : Packet) → isWanted (kind o (p .bytes)) ≡ true → nine o ps ≡ none →
-    nine o (ps ++ p ∷ []) ≡ pick (ltb 750 (length (beginnings (wantedOf o ps ++ p ∷ [])))) (fault 9 (p .place + 3)) none
-unfolding nine
-nine-yes o ps p h n = rw (wanted-yes o ps p h) (begins-nine (wantedOf o ps) p (few-begin o ps n))
-
--- a packet goes by its first four bytes
-pub record Same4 (b c : List ℕ) : Type 0 where
-  pub bytes : (i : ℕ) → i < 4 → byte c i ≡ byte b i
-
-module _ {b c : List ℕ} (a : Same4 b c) where
-  pub kind-same : (o : Opening) → kind o c ≡ kind o b
-  unfolding kind identifier
-  kind-same o = rw (a .bytes 0 (omega arith), a .bytes 1 (omega arith), a .bytes 2 (omega arith))
-
-  pub start-same : startMark c ≡ startMark b
-  unfolding startMark
-  start-same = rw (a .bytes 1 (omega arith))
-
-  pub counter-same : counter c ≡ counter b
-  unfolding counter
-  counter-same = rw (a .bytes 3 (omega arith))
-
-  arrival-same : (ps : List Packet) (τ q : ℕ) →
-      arrivalAfter ps (record { time = τ; place = q; bytes = c }) ≡ arrivalAfter ps (record { time = τ; place = q; bytes = b })
-  unfolding lossBetween
-  arrival-same [] τ q = refl
-  arrival-same (x ∷ ps) τ q = rw (start-same, counter-same)
-
-  begins-same : (ps : List Packet) (τ q : ℕ) →
-      beginsAfter ps (record { time = τ; place = q; bytes = c }) ≡ beginsAfter ps (record { time = τ; place = q; bytes = b })
-  begins-same [] τ q = refl
-  begins-same (x ∷ ps) τ q = start-same
-
-  pub nine-same : (o : Opening) (ps : List Packet) (τ q : ℕ) →
-      nine o (ps ++ record { time = τ; place = q; bytes = c } ∷ []) ≡ nine o (ps ++ record { time = τ; place = q; bytes = b } ∷ [])
-  unfolding nine
-  nine-same o ps τ q =
-      rw (wanted-append o ps (record { time = τ; place = q; bytes = c }), wanted-append o ps (record { time = τ; place = q; bytes = b }), kind-same o) (go (isWanted (kind o b)))
-    where
-      go : (t : Bool) →
-          beginsAt (drop 750 (beginnings (wantedOf o ps ++ pick t (record { time = τ; place = q; bytes = c } ∷ []) [])))
-          ≡ beginsAt (drop 750 (beginnings (wantedOf o ps ++ pick t (record { time = τ; place = q; bytes = b } ∷ []) [])))
-      go false = refl
-      go true =
-          rw (beginnings-more (wantedOf o ps) (record { time = τ; place = q; bytes = c }), beginnings-more (wantedOf o ps) (record { time = τ; place = q; bytes = b }), arrival-same (wantedOf o ps) τ q, begins-same (wantedOf o ps) τ q)
-
-pub same-more : (y t : List ℕ) → 4 ≤ length y → Same4 y (y ++ t)
-same-more y t h = record { bytes = λ i k. List·getD-append y t 0 i (omega arith) }
-
 -- ---- the counts
 
-pub bad-of : (o : Opening) (s : List ℕ) → badCount o s ≡ badOf o (reached 188 s)
-unfolding badCount whole
+pub bad-of : (o : Opening) (s : List ℕ) →
+    badCount o s ≡ badOf (reached 188 s) + beforeUnits (knowsDamage (o .edition)) (wantedOf o (reached 188 s))
+unfolding badCount wholeWanted whole
 bad-of o s = refl
 
 pub wanted-of : (o : Opening) (s : List ℕ) → wholeWanted o s ≡ wantedOf o (reached 188 s)

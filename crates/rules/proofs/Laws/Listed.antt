@@ -125,7 +125,7 @@ of-link c = of-showing (length c) 6 23 (not (eqb (word32 c 20) 1)) refl
 
 of-many : (o : Opening) (c : List ℕ) → Numbered (tooManyUnits o c)
 unfolding tooManyUnits
-of-many o c = of-begins (drop 750 (beginnings (shownWanted o c)))
+of-many o c = of-begins (drop 750 (beginnings (o .edition) (shownWanted o c)))
 
 pub capture : (o : Opening) (c : List ℕ) → Numbered (captureFault o c)
 unfolding captureFault

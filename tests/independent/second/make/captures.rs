@@ -49,6 +49,8 @@ pub struct CaptureMaker<'r> {
     seconds: u32,
     /// One cell of PID in so many begins a unit.
     pub start_every: usize,
+    /// One cell in so many is damaged.
+    pub damage_every: usize,
     /// Whether cells are mostly spliced, with gaps, and worth cutting inside their first bytes.
     pub splicing: bool,
     pub side: Side,
@@ -59,7 +61,9 @@ impl<'r> CaptureMaker<'r> {
     pub fn bare(random: &'r mut Prng, pid: u32) -> Self {
         let counter = random.byte() & 15;
         let seconds = random.pick(&[0, 10, 1_700_000_000, u32::MAX - 40]);
-        CaptureMaker { random, pid, counter, seconds, start_every: 6, splicing: false, side: Side::default() }
+        let damage_every = random.pick(&[2, 9, 30]);
+        let side = Side::default();
+        CaptureMaker { random, pid, counter, seconds, start_every: 6, damage_every, splicing: false, side }
     }
 
     /// A maker that has made a good file header.
@@ -249,8 +253,17 @@ impl<'r> CaptureMaker<'r> {
         let mut frame = self.frame_head(8 + identifiers.len() * CELL);
         for &identifier in identifiers {
             let start = self.random.once_in(self.start_every);
-            let mut cell = self.cell_of(0x47, identifier, start);
-            cell[1] &= 0x7F;
+            frame.extend(undamaged(self.cell_of(0x47, identifier, start)));
+        }
+        self.record(&frame);
+    }
+
+    /// A carrying record of so many damaged cells of PID.
+    pub fn damaged_record(&mut self, cells: usize, start: bool) {
+        let mut frame = self.frame_head(8 + cells * CELL);
+        for _ in 0..cells {
+            let mut cell = self.cell_of(0x47, self.pid, start);
+            cell[1] |= 0x80;
             frame.extend(cell);
         }
         self.record(&frame);
@@ -269,7 +282,9 @@ impl<'r> CaptureMaker<'r> {
     fn cell_of(&mut self, first: u8, identifier: u32, start: bool) -> [u8; CELL] {
         let mut cell = [self.random.pick(&[0x47, 0x00, 0xFF]); CELL];
         cell[0] = first;
-        cell[1] = (identifier >> 8) as u8 & 0x1F | self.random.byte() & 0xA0 | u8::from(start) << 6;
+        let damaged = self.random.once_in(self.damage_every);
+        cell[1] = (identifier >> 8) as u8 & 0x1F | self.random.byte() & 0x20;
+        cell[1] |= u8::from(start) << 6 | u8::from(damaged) << 7;
         cell[2] = identifier as u8;
         cell[3] = self.random.byte() & 0xF0 | self.counter;
         if self.splicing || self.random.once_in(2) {
@@ -287,7 +302,7 @@ impl<'r> CaptureMaker<'r> {
         cell[5] = self.random.pick(&[0x80, 0x80, 0xFF, 0x7F, 0x00]);
     }
 
-    /// So many units: as many cells of PID with a start mark, others between them.
+    /// So many units: as many undamaged cells of PID with a start mark.
     pub fn units(&mut self, count: usize) {
         let mut left = count;
         while left > 0 {
@@ -295,7 +310,7 @@ impl<'r> CaptureMaker<'r> {
             let mut frame = self.frame_head(8 + cells * CELL);
             for _ in 0..cells {
                 self.counter = (self.counter + 1) & 15;
-                frame.extend(self.cell_of(0x47, self.pid, true));
+                frame.extend(undamaged(self.cell_of(0x47, self.pid, true)));
             }
             left -= cells;
             self.record(&frame);
@@ -340,4 +355,9 @@ impl<'r> CaptureMaker<'r> {
     pub fn longest_record(&mut self) {
         self.carrying_record(348);
     }
+}
+
+fn undamaged(mut cell: [u8; CELL]) -> [u8; CELL] {
+    cell[1] &= 0x7F;
+    cell
 }

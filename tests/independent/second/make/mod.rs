@@ -24,7 +24,7 @@ pub use surveys::{capture_file, make as make_survey};
 use weave::{weave, Cutting, Plan, Side};
 
 /// Names of the families, and what each of them is about.
-pub const KINDS: [(&str, &str); 15] = [
+pub const KINDS: [(&str, &str); 16] = [
     ("valid", "small valid samples of every kind, cut anywhere, seals between"),
     ("scenes", "scene starts, repeats, runs, changes; cut strengths near their bounds"),
     ("changes", "changes q on either side of a half, and at it"),
@@ -33,6 +33,7 @@ pub const KINDS: [(&str, &str); 15] = [
     ("openings", "refused openings and openings on the bounds"),
     ("faults", "wrong magic, link type, microseconds, stored length, and feeding on"),
     ("splices", "spliced cells with and without a length byte, gaps, cells cut behind each of their first bytes"),
+    ("damaged", "damaged cells before and in units, with start marks and splices"),
     ("units", "749 to 760 units"),
     ("pictures", "749 to 751 pictures, up to 250 scenes"),
     ("ends", "captures and pictures that aren't finished, headers alone, nothing at all"),
@@ -73,13 +74,14 @@ fn plan(random: &mut Prng, kind: &str) -> Plan {
         "scenes" => scene_opening(random),
         "valid" => small_opening(random),
         "changes" => changed_opening(random),
-        "splices" => Opening { edition: random.pick(&[1, 2, 2, 3]), width: 15, height: 30, ..small_opening(random) },
+        "damaged" => Opening { edition: random.pick(&[3, 4, 4, 4]), width: 15, height: 30, ..small_opening(random) },
+        "splices" => Opening { edition: random.pick(&[1, 2, 3, 4]), width: 15, height: 30, ..small_opening(random) },
         "mixed" if random.once_in(2) => small_opening(random),
         _ => Opening { width: 15, height: 30, ..small_opening(random) },
     };
     let capture_family = match kind {
-        "frames" | "splices" | "faults" | "units" | "ends" => kind,
-        "mixed" => random.pick(&["valid", "few", "frames", "splices", "faults", "units", "ends"]),
+        "frames" | "splices" | "damaged" | "faults" | "units" | "ends" => kind,
+        "mixed" => random.pick(&["valid", "few", "frames", "splices", "damaged", "faults", "units", "ends"]),
         "valid" => "valid",
         _ => "few",
     };
@@ -108,8 +110,8 @@ fn opening_of(random: &mut Prng, (width, height): (u32, u32)) -> Opening {
 
 /// A rule edition, mostly an allowed one.
 fn any_edition(random: &mut Prng) -> u32 {
-    let refused = random.pick(&[0, 4, 256 + 1, u32::MAX]);
-    if random.once_in(20) { refused } else { random.pick(&[1, 2, 2, 3, 3]) }
+    let refused = random.pick(&[0, 5, 256 + 1, u32::MAX]);
+    if random.once_in(20) { refused } else { random.pick(&[1, 2, 3, 4, 4]) }
 }
 
 fn small_opening(random: &mut Prng) -> Opening {
@@ -135,7 +137,7 @@ fn scene_opening(random: &mut Prng) -> Opening {
 /// Sizes of 1,600 reduced pixels: a change may lie halfway between two whole numbers there.
 fn changed_opening(random: &mut Prng) -> Opening {
     let sides = random.pick(&[(40, 40), (40, 40), (50, 32), (80, 80), (81, 83)]);
-    Opening { edition: random.pick(&[1, 2, 3, 3, 3]), ..opening_of(random, sides) }
+    Opening { edition: random.pick(&[1, 2, 3, 3, 4]), ..opening_of(random, sides) }
 }
 
 /// Sizes of every level k, many with surplus columns and rows.
@@ -178,7 +180,7 @@ fn any_opening(random: &mut Prng) -> Opening {
     let bad_time = random.pick(&[0, 9_999, 200_001, u32::MAX]);
     let display_time = random.pick(&[10_000, 40_000, 200_000, bad_time]);
     let pid = random.pick(&[0, 8_191, 8_191, 8_192, 8_192 + 256, u32::MAX]);
-    let edition = random.pick(&[0, 1, 2, 2, 3, 4, 256 + 1]);
+    let edition = random.pick(&[0, 1, 2, 3, 4, 5, 256 + 1]);
     Opening { width, height, display_time, pid, edition }
 }
 
@@ -190,7 +192,8 @@ fn capture(random: &mut Prng, family: &str, pid: u32) -> Side {
     let units = random.pick(&[749, 750, 750, 751, 752, 760]);
     let skipped_in_ten = random.below(6);
     let longest = random.once_in(10);
-    let surely_a_unit = !random.once_in(12);
+    let surely_a_unit = if family == "damaged" { random.once_in(2) } else { !random.once_in(12) };
+    let damaged_start = random.once_in(3);
     let mut maker = CaptureMaker::new(random, pid);
     if surely_a_unit && family != "units" {
         maker.units(1);
@@ -207,9 +210,17 @@ fn capture(random: &mut Prng, family: &str, pid: u32) -> Side {
             maker.splicing = true;
             maker.records(2 + count, 1);
         }
+        "damaged" => {
+            maker.damage_every = 1 + count / 3;
+            maker.start_every = 3;
+            maker.records(2 + count, 1);
+        }
         "units" => {
             maker.start_every = 1_000;
             maker.units(units);
+            if damaged_start {
+                maker.damaged_record(1, true);
+            }
             maker.records(4, 3);
         }
         "few" => maker.records(1 + count / 4, 2),

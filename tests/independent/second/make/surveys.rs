@@ -80,18 +80,22 @@ fn equals(random: &mut Prng) -> Side {
             maker.skipped_record();
         }
     }
+    maker.damaged_record(2, false);
     maker.side
 }
 
-/// A capture without a good cell: nothing but a header, records that don't carry, or bad cells.
+/// A capture without a good cell: nothing but a header, records that don't carry, bad or damaged cells.
 fn none_good(random: &mut Prng) -> Side {
-    let (skipped, bad) = (random.below(4), random.below(4));
+    let (skipped, bad, damaged) = (random.below(4), random.below(4), random.below(3));
     let mut maker = CaptureMaker::new(random, 256);
     for _ in 0..skipped {
         maker.skipped_record();
     }
     for cells in 0..bad {
         maker.bad_record(1 + cells);
+    }
+    for cells in 0..damaged {
+        maker.damaged_record(1 + cells, cells > 0);
     }
     maker.side
 }

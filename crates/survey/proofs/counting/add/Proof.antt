@@ -1,4 +1,4 @@
--- `add` meets its contract, by whether the cell starts with 0x47.
+-- `add` meets its contract, by whether the cell is good.
 use native.Mathlib.Omega.{arith}
 use mathlib.Core.Path.{refl}
 use Rattle.survey.proofs.Counts.{tallied-good, tallied-other}
@@ -6,8 +6,8 @@ use borrow.Author.Needs.{needs}
 use Rattle.survey.proofs.counting.add.Statement.{statement}
 use Rattle.survey.proofs.counting.add.Tie as tie
 
-starts-right-requires : tie.Need-starts-right-requires
-starts-right-requires c κs = search needs
+is-good-requires : tie.Need-is-good-requires
+is-good-requires c κs = search needs
 
 mul-wrapping-add-u32 : tie.Need-mul-wrapping-add-u32
 mul-wrapping-add-u32 c = search needs
@@ -27,18 +27,18 @@ element-write-counts c = search needs
 returns : tie.Need-returns
 returns c =
     let start = c .before .before .before .before in
-    tallied-good _ _ (start .args .c) (c .before .before .before .starts-right .ensures)
+    tallied-good _ _ (start .args .c) (c .before .before .before .is-good .ensures)
     (c .before .before .if1 .taken) (start .pre) (c .wrapping-add-u32 .ensures) refl
 
 returns-2 : tie.Need-returns-2
 returns-2 c =
-    tallied-other _ (c .before .before .args .c) (c .before .starts-right .ensures) (c .if1 .left)
+    tallied-other _ (c .before .before .args .c) (c .before .is-good .ensures) (c .if1 .left)
 
 pub add-spec : {M : Type 1} → statement M
 add-spec =
     tie.close
     (tie.spec
-    starts-right-requires
+    is-good-requires
     mul-wrapping-add-u32
     element-copy-out-wrapping-add-u32
     wrapping-add-u32-requires
