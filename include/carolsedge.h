@@ -42,9 +42,9 @@ enum {
     CAROLSEDGE_REFUSED_UNITS = 9,           /* a 751st unit begins; place: byte 3 of the packet that begins it */
     CAROLSEDGE_REFUSED_LUMA_LENGTH = 10,    /* a byte of the luma past 750 pictures; place: that byte */
     CAROLSEDGE_REFUSED_CAPTURE_INSIDE = 11, /* seal, survey: it ends inside its header or a frame; place: its bytes fed */
-    CAROLSEDGE_REFUSED_NO_PACKET = 12,      /* seal: no packet of PID, or damaged ones alone */
+    CAROLSEDGE_REFUSED_NO_PACKET = 12,      /* seal, index: no packet of PID, or damaged ones alone */
     CAROLSEDGE_REFUSED_LUMA_INSIDE = 13,    /* seal: the luma ends inside a picture; place: its bytes fed */
-    CAROLSEDGE_REFUSED_NO_PICTURE = 14,     /* seal: no picture */
+    CAROLSEDGE_REFUSED_NO_PICTURE = 14,     /* seal, index: no picture */
     CAROLSEDGE_REFUSED_BUFFER = 15,         /* what is lent to be written is too short; place: the length needed */
     CAROLSEDGE_REFUSED_SHORT = 16,          /* reading: under 64 bytes */
     CAROLSEDGE_REFUSED_EDITION = 17,        /* reading: an edition that there is not */
@@ -88,6 +88,13 @@ struct carolsedge_sample {
 };
 CAROLSEDGE_ASSERT(sizeof(struct carolsedge_sample) <= 65536, "the state of a sample stays within 64 KiB");
 
+/* The index with its two parts: ic = 4 × (unrepeated / pictures), ip = packets / (packets + lost), value = 1 + ic
+ * × ip. */
+struct carolsedge_index {
+    double ic, ip, value;
+};
+CAROLSEDGE_ASSERT(sizeof(struct carolsedge_index) == 24, "the three are without gaps");
+
 /* The functions of the library take the state's arrays apart. The carolsedge_sample_ functions below take the structure. */
 uint32_t carolsedge_open(uint64_t *walk, uint8_t *kept, uint64_t *numbers, uint64_t *table,
                          uint64_t *luma, uint32_t *sums, uint32_t *bins, uint8_t *picture,
@@ -98,6 +105,8 @@ uint32_t carolsedge_feed_luma(uint64_t *luma, uint32_t *sums, uint32_t *bins, ui
                               const uint8_t *piece, size_t length, uint64_t *value);
 uint32_t carolsedge_seal(const uint64_t *walk, const uint8_t *kept, const uint64_t *numbers, const uint64_t *table,
                          const uint64_t *luma, uint8_t *buffer, size_t length, uint64_t *value);
+uint32_t carolsedge_index(const uint64_t *numbers, const uint64_t *luma, struct carolsedge_index *index,
+                          uint64_t *place);
 
 /* Opens a sample: width W and height H of a picture, its display time d in microseconds, packet identifier PID, and
  * the edition of the rules, 1 to 4, that it is measured by. Refused: 1, 2, 3 or 20, which its feeds and seals then
@@ -133,11 +142,25 @@ static inline uint32_t carolsedge_sample_seal(const struct carolsedge_sample *s,
     return carolsedge_seal(s->walk, s->kept, s->numbers, s->table, s->luma, length ? buffer : &none, length, value);
 }
 
-/* A whole list of calls after one opening, coded in a script: five 32-bit little-endian words W, H, d, PID and the edition; then calls, each
- * a byte C or L, a 32-bit length n and n bytes (a feed of that side), or a byte S and a 32-bit length n (a seal into n bytes of 0xA5). The list ends where the
- * script ends inside a call or another byte stands. What the opening and every call come to goes to out, one behind the other: a byte 0 (done) or 1 (refused);
- * the result, or the refusal's number; 0, or its place, 64 bits each; and behind a seal's its whole buffer. False where there is no room for it all; out then
- * stands. Proved: what is written is what the rules give for the whole list. */
+/* The index of what was fed so far, of all whole packets and all whole pictures: the same as a seal's where a seal
+ * is done. It reads four totals and the refusals kept, no row, and a packet or picture that is not whole does not
+ * stop it. Refused: the opening's number, a feed's, then 12 or 14; *index stands, and *place is the refusal's
+ * place (0 where it is done). Proved of any contents of the state: none of the three is a NaN, and a refusal
+ * leaves *index. */
+static inline uint32_t carolsedge_sample_index(const struct carolsedge_sample *s, struct carolsedge_index *index,
+                                               uint64_t *place)
+{
+    return carolsedge_index(s->numbers, s->luma, index, place);
+}
+
+/* A whole list of calls after one opening, coded in a script: five 32-bit little-endian words W, H, d, PID and the
+ * edition; then calls, each a byte C or L, a 32-bit length n and n bytes (a feed of that side), a byte S and a
+ * 32-bit length n (a seal into n bytes of 0xA5), or a byte I (the index). The list ends where the script ends
+ * inside a call or another byte stands. What the opening and every call come to goes to out, one behind the other:
+ * a byte 0 (done) or 1 (refused); the result, or the refusal's number; 0, or its place, 64 bits each; and behind a
+ * seal's its whole buffer. An index has three times 64 bits behind its byte: the bits of ic, ip and value, or
+ * number, place and 0. False where there is no room for it all; out then stands. Proved: what is written is what
+ * the rules give for the whole list. */
 bool carolsedge_replay(const uint8_t *script, size_t length, uint8_t *out, size_t room);
 
 /* ---- a survey: which identifier of a capture has most good packets (docs/RULE.md, 21) */

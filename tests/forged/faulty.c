@@ -1,4 +1,4 @@
-/* Functions with one fault each (FAULT, 1 to 21) in the place of the library's own, by the linker's --wrap: the forged
+/* Functions with one fault each (FAULT, 1 to 23) in the place of the library's own, by the linker's --wrap: the forged
  * calls have to notice every one. */
 #include <stddef.h>
 #include <stdint.h>
@@ -6,9 +6,11 @@
 struct carolsedge_header;
 struct carolsedge_unit;
 struct carolsedge_shelf;
+struct carolsedge_index { double ic, ip, value; };
 uint32_t __real_carolsedge_feed_capture(uint64_t *, uint8_t *, uint64_t *, uint64_t *, const uint8_t *, size_t, uint64_t *);
 uint32_t __real_carolsedge_feed_luma(uint64_t *, uint32_t *, uint32_t *, uint8_t *, const uint8_t *, size_t, uint64_t *);
 uint32_t __real_carolsedge_seal(const uint64_t *, const uint8_t *, const uint64_t *, const uint64_t *, const uint64_t *, uint8_t *, size_t, uint64_t *);
+uint32_t __real_carolsedge_index(const uint64_t *, const uint64_t *, struct carolsedge_index *, uint64_t *);
 uint32_t __real_carolsedge_sheet(const uint8_t *, size_t, uint8_t *, size_t, uint64_t *);
 uint32_t __real_carolsedge_feed_survey(uint64_t *, uint8_t *, uint32_t *, const uint8_t *, size_t, uint64_t *);
 uint32_t __real_carolsedge_ask_survey(const uint64_t *, const uint32_t *, uint64_t *, uint64_t *);
@@ -51,6 +53,17 @@ uint32_t __wrap_carolsedge_seal(const uint64_t *walk, const uint8_t *kept, const
     if (FAULT == 6 && k && length) /* writes to a refused seal's buffer */
         buffer[length / 2] = 1;
     return FAULT == 7 && k ? 999 : k; /* a number that is not in the table */
+}
+
+uint32_t __wrap_carolsedge_index(const uint64_t *numbers, const uint64_t *luma, struct carolsedge_index *index,
+                                 uint64_t *place)
+{
+    uint32_t k = __real_carolsedge_index(numbers, luma, index, place);
+    if (FAULT == 22 && k) /* writes to a refused index */
+        index->ip = 0;
+    if (FAULT == 23 && !k) /* Ip without what was lost */
+        index->ip = 1;
+    return k;
 }
 
 uint32_t __wrap_carolsedge_read_header(const uint8_t *record, size_t length, struct carolsedge_header *header)

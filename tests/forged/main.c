@@ -24,13 +24,13 @@
 #define LIMIT 5 /* seconds that a call may take */
 #endif
 
-enum { OPEN, FEED_CAPTURE, FEED_LUMA, SEAL, READ_HEADER, READ_UNIT, READ_SCENE, SHEET, REPLAY, OPEN_SURVEY,
+enum { OPEN, FEED_CAPTURE, FEED_LUMA, SEAL, INDEX, READ_HEADER, READ_UNIT, READ_SCENE, SHEET, REPLAY, OPEN_SURVEY,
        FEED_SURVEY, ASK_SURVEY, EFFECTIVE_LOSS, MOST_SCENES, BUSIEST_LUMA, GAP_RUNS, SHELF_OPEN, SHELF_PART,
        FUNCTIONS };
-static const char *const name[FUNCTIONS] = {"open", "feed_capture", "feed_luma", "seal", "read_header", "read_unit",
-                                             "read_scene", "sheet", "replay", "open_survey", "feed_survey",
-                                             "ask_survey", "effective_loss", "most_scenes", "busiest_luma",
-                                             "gap_runs", "shelf_open", "shelf_part"};
+static const char *const name[FUNCTIONS] = {"open", "feed_capture", "feed_luma", "seal", "index", "read_header",
+                                             "read_unit", "read_scene", "sheet", "replay", "open_survey",
+                                             "feed_survey", "ask_survey", "effective_loss", "most_scenes",
+                                             "busiest_luma", "gap_runs", "shelf_open", "shelf_part"};
 enum { LAST_NUMBER = 28 }; /* of the table of refusals */
 static uint64_t answers[FUNCTIONS][LAST_NUMBER + 1], calls[FUNCTIONS], longest, seed;
 static volatile int under_way;
@@ -265,7 +265,7 @@ static void alter_state(void)
         l[12] = 15 + below(400), l[13] = 30 + below(200), l[14] = 10000 + below(190001), l[15] = 256;
         break;
     case 1: /* ready for a seal, but for the counts */
-        c[0] = w[0] = 0, w[2] = 1000, w[3] = 0, c[4] = below(800);
+        c[0] = w[0] = 0, w[2] = 1000, w[3] = 0, c[4] = below(800), c[6] = figure(), c[7] = figure(), l[4] = below(760);
         l[0] = 0, l[3] = below(760), l[5] = l[6] = l[7] = 0;
         break;
     case 2:
@@ -390,6 +390,46 @@ static void call_seal(void)
     if (!untouched(buffer + done, n - done))
         fail("a byte behind the record, or of a refused seal's buffer, was written");
     check_slack(&out);
+    check_state();
+}
+
+static uint32_t listed(uint64_t number) { return number < 1 || number > LAST_NUMBER ? 18 : (uint32_t)number; }
+
+/* What an index call answers of any words: it reads the totals and the refusals kept, and nothing else. */
+static uint32_t index_of(const uint64_t *c, const uint64_t *l, struct carolsedge_index *index, uint64_t *place)
+{
+    uint32_t unrepeated = (uint32_t)l[4], pictures = (uint32_t)l[3], packets = (uint32_t)c[6], lost = (uint32_t)c[7];
+    *place = c[0] ? c[1] : l[0] ? l[1] : 0;
+    if (c[0] || l[0])
+        return listed(c[0] ? c[0] : l[0]);
+    if (c[6] == 0 || l[3] == 0)
+        return c[6] == 0 ? CAROLSEDGE_REFUSED_NO_PACKET : CAROLSEDGE_REFUSED_NO_PICTURE;
+    memset(index, 0, sizeof *index);
+    if (pictures == 0 || unrepeated > pictures || packets == 0)
+        return CAROLSEDGE_DONE;
+    index->ic = 4.0 * ((double)unrepeated / (double)pictures);
+    index->ip = (double)packets / (double)((uint64_t)packets + lost);
+    index->value = 1.0 + index->ic * index->ip;
+    return CAROLSEDGE_DONE;
+}
+
+static void call_index(void)
+{
+    const uint64_t *c = (const uint64_t *)(void *)at(&numbers), *l = (const uint64_t *)(void *)at(&luma);
+    struct carolsedge_index right, *given = (struct carolsedge_index *)(void *)lend(&header, sizeof *given);
+    uint64_t place, *value = (uint64_t *)(void *)lend(&lent, 8);
+    memset(&right, SLACK, sizeof right);
+    uint32_t number = index_of(c, l, &right, &place);
+    int guarded = below(16) == 0;
+    if (guarded)
+        guard(PROT_READ);
+    begin(INDEX);
+    uint32_t k = end(carolsedge_index(c, l, given, value));
+    if (guarded)
+        guard(PROT_READ | PROT_WRITE);
+    if (k != number || *value != place || memcmp(given, &right, sizeof right) != 0)
+        fail("another index than that of the totals, or a refused one that was written");
+    check_slack(&header);
     check_state();
 }
 
@@ -561,7 +601,11 @@ static void call_replay(void)
             put32(made + 16, (uint32_t)below(CAROLSEDGE_NEWEST_EDITION + 2));
     for (uint64_t i = below(12); i > 0; i--) {
         size_t length = below(200);
-        made[n] = below(20) ? (uint8_t)"CLS"[below(3)] : (uint8_t)chance();
+        made[n] = below(20) ? (uint8_t)"CLSI"[below(4)] : (uint8_t)chance();
+        if (made[n] == 'I') {
+            n++;
+            continue;
+        }
         put32(made + n + 1, below(50) ? (uint32_t)length : (uint32_t)figure());
         if (made[n] == 'S')
             length = 0;
@@ -667,11 +711,11 @@ static void round_of_surveys(void)
 /* A forged state, and a few calls on it. */
 static void round_of_calls(uint64_t most)
 {
-    static void (*const feeds[])(void) = {call_feed_capture, call_feed_luma, call_seal};
+    static void (*const feeds[])(void) = {call_feed_capture, call_feed_luma, call_seal, call_index};
     forge_state();
-    for (int i = 0; i < 24; i++) {
-        if (calls[FEED_CAPTURE + i % 3] < most)
-            feeds[i % 3]();
+    for (int i = 0; i < 32; i++) {
+        if (calls[FEED_CAPTURE + i % 4] < most)
+            feeds[i % 4]();
         alter_state();
     }
     for (int i = 0; i < 8 && calls[OPEN] < most; i++)

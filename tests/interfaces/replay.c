@@ -38,6 +38,32 @@ static void print(const char *word, const uint8_t *p)
         printf("%s %llu", word, first);
 }
 
+/* An index's 25 bytes: the bits of the index, the last of the three; or the refusal. */
+static void print_index(const uint8_t *p)
+{
+    if (p[0] == 1)
+        print("index", p);
+    else
+        printf("index %016llX", (unsigned long long)number(p + 17, 8));
+}
+
+/* How many bytes of the script a call takes, 0 where there is no call, and how many its outcome. */
+static size_t call_at(size_t at, size_t *room)
+{
+    *room = 25;
+    if (size - at >= 1 && script[at] == 'I')
+        return 1;
+    if (size - at < 5)
+        return 0;
+    size_t n = number(script + at + 1, 4);
+    *room = 17 + (script[at] == 'S' ? n : 0);
+    if (script[at] == 'S')
+        return n > 65536 ? 0 : 5;
+    if ((script[at] != 'C' && script[at] != 'L') || n > 1048576 || size - at - 5 < n)
+        return 0;
+    return 5 + n;
+}
+
 int main(void)
 {
     script = larger(NULL, most);
@@ -47,15 +73,9 @@ int main(void)
     if (size < 20)
         return 0;
     /* the script as far as replay_main takes it, and the room that its calls need */
-    size_t end = 20, room = 17;
-    while (size - end >= 5) {
-        size_t n = number(script + end + 1, 4);
-        int seal = script[end] == 'S', feed = script[end] == 'C' || script[end] == 'L';
-        if ((!seal && !feed) || n > (seal ? 65536u : 1048576u) || (feed && size - end - 5 < n))
-            break;
-        end += 5 + (feed ? n : 0);
-        room += 17 + (seal ? n : 0);
-    }
+    size_t end = 20, room = 17, taken, needed;
+    while ((taken = call_at(end, &needed)) > 0)
+        end += taken, room += needed;
     uint8_t *out = larger(NULL, room + 1);
     out[room] = 0xC5;
     if (carolsedge_replay(script, end, out, room - 1) || !carolsedge_replay(script, end, out, room) || out[room] != 0xC5)
@@ -64,17 +84,18 @@ int main(void)
     putchar('\n');
     const uint8_t *p = out + 17;
     for (size_t at = 20; at < end; putchar('\n')) {
-        size_t n = number(script + at + 1, 4);
-        int seal = script[at] == 'S';
-        print(seal ? "seal" : script[at] == 'C' ? "capture" : "luma", p);
-        p += 17;
-        at += 5 + (seal ? 0 : n);
-        if (seal) {
+        taken = call_at(at, &needed);
+        if (script[at] == 'I')
+            print_index(p);
+        else
+            print(script[at] == 'S' ? "seal" : script[at] == 'C' ? "capture" : "luma", p);
+        if (script[at] == 'S') {
             putchar(' ');
-            for (size_t i = 0; i < n; i++)
+            for (size_t i = 17; i < needed; i++)
                 printf("%02x", p[i]);
-            p += n;
         }
+        p += needed;
+        at += taken;
     }
     return 0;
 }

@@ -54,7 +54,7 @@ pub use loss::effective_loss;
 pub use busiest::{busiest_luma, most_scenes};
 pub use record::{sheet, Header, Record, Scene, Unit};
 pub use refusal::Refusal;
-pub use sample::{Opening, Sample};
+pub use sample::{Index, Opening, Sample};
 pub use shelf::{shelf_of, shelf_part, Shelf, SHELF_RECORDS_MOST};
 pub use survey::{Most, Survey};
 

@@ -25,6 +25,9 @@ pub type Figures = [u64; 12];
 pub type UnitFigures = [u64; 6];
 pub type SceneFigures = [u64; 7];
 
+/// Ic, Ip and the index.
+pub type Three = [f64; 3];
+
 extern "C" {
     fn carolsedge_open(
         walk: &mut [u64; 16],
@@ -68,6 +71,12 @@ extern "C" {
         buffer: *mut u8,
         length: usize,
         value: &mut u64,
+    ) -> u32;
+    fn carolsedge_index(
+        numbers: &[u64; 16],
+        luma: &[u64; 1600],
+        three: &mut Three,
+        place: &mut u64,
     ) -> u32;
     fn carolsedge_read_header(record: *const u8, length: usize, figures: &mut Figures) -> u32;
     fn carolsedge_read_unit(
@@ -219,6 +228,15 @@ impl State {
             )
         };
         (number, value)
+    }
+
+    /// Ic, Ip and the index, or the refusal's number and place.
+    pub fn index(&self) -> Result<Three, (u32, u64)> {
+        let mut three = [0.0; 3];
+        let mut place = 0;
+        // SAFETY: the arrays have the sizes that the function uses, and those that it writes to are borrowed alone.
+        let number = unsafe { carolsedge_index(&self.numbers, &self.luma, &mut three, &mut place) };
+        given(number, three).map_err(|number| (number, place))
     }
 }
 

@@ -17,6 +17,17 @@ pub struct Opening {
     pub edition: u32,
 }
 
+/// The index with its two parts. It is no opinion score.
+#[derive(Debug, Clone, Copy, PartialEq)]
+pub struct Index {
+    /// Ic = 4 × (unrepeated pictures / pictures), 0 to 4.
+    pub ic: f64,
+    /// Ip = packets / (packets + lost), 0 to 1.
+    pub ip: f64,
+    /// 1 + Ic × Ip, 1 to 5.
+    pub value: f64,
+}
+
 /// A sample: opened, fed on two sides in pieces of any length and in any order, sealed as often as wanted.
 ///
 /// Its state is 61,064 bytes on the heap; no call allocates. A clone goes on by itself.
@@ -62,6 +73,19 @@ impl Sample {
     /// The sample does not change, so feeding may go on. No record is longer than [`RECORD_MOST`](crate::RECORD_MOST) bytes.
     pub fn seal(&self, buffer: &mut [u8]) -> Result<usize, Refusal> {
         answer(self.state.seal(buffer))
+    }
+
+    /// The index of what was fed so far: of all whole packets, those of an unfinished frame among
+    /// them, and of all whole pictures.
+    ///
+    /// It may be asked for at any time and takes the same few steps however much was fed. Where a
+    /// seal is done, it is the index that the record has. Refused: 4 to 10 as a feed gave them,
+    /// then 12 (no packet) and 14 (no picture); 11 and 13 do not stop it.
+    pub fn index(&self) -> Result<Index, Refusal> {
+        match self.state.index() {
+            Ok([ic, ip, value]) => Ok(Index { ic, ip, value }),
+            Err((number, place)) => Err(Refusal { number, place }),
+        }
     }
 }
 

@@ -1,5 +1,5 @@
 //! The calls from Rust: document 01's worked sample, cuts, every refusal with its place, and that a refusal leaves lent memory as it was.
-use carolsedge::{sheet, Most, Opening, Record, Refusal, Sample, Scene, Survey, Unit};
+use carolsedge::{sheet, Index, Most, Opening, Record, Refusal, Sample, Scene, Survey, Unit};
 use carolsedge::{NEWEST_EDITION, RECORD_MOST, SHEET_MOST};
 
 const BLACK: Opening = Opening {
@@ -451,6 +451,68 @@ fn refused_seals() {
         fed(&worked_capture(), &black).seal(&mut []),
         Err(refusal(15, 128))
     );
+}
+
+// The index of these counts, each operation once.
+fn index_of(unrepeated: u32, pictures: u32, packets: u32, lost: u32) -> Index {
+    let ic = 4.0 * (f64::from(unrepeated) / f64::from(pictures));
+    let ip = f64::from(packets) / f64::from(packets + lost);
+    let value = 1.0 + ic * ip;
+    Index { ic, ip, value }
+}
+
+fn bits(index: Index) -> [u64; 3] {
+    [index.ic, index.ip, index.value].map(f64::to_bits)
+}
+
+// A capture of two frames, fed byte by byte: a packet counts with its last byte, and its loss with
+// it; and so does a picture.
+#[test]
+fn index_while_feeding() {
+    let packets = [
+        packet(256, true, 0),
+        packet(256, false, 3),
+        packet(256, true, 4),
+    ];
+    let frames = [
+        frame(1, 0, &carrying(&packets[..2])),
+        frame(2, 0, &carrying(&packets[2..])),
+    ];
+    let capture = [file_header(), frames.concat()].concat();
+    let first = 24 + 16 + 42;
+    let ends = [first + 188, first + 376, capture.len()];
+    let lost = [0, 0, 2, 2];
+    let mut sample = fed(&[], &[0; 2 * PICTURE + 1]);
+    for (i, byte) in capture.iter().enumerate() {
+        sample.feed_capture(&[*byte]).unwrap();
+        let whole = ends.iter().filter(|&&end| end <= i + 1).count();
+        let expected = match whole {
+            0 => Err(refusal(12, 0)),
+            n => Ok(bits(index_of(1, 2, n as u32, lost[n]))),
+        };
+        assert_eq!(sample.index().map(bits), expected);
+    }
+    sample.feed_luma(&[9; PICTURE - 1]).unwrap();
+    let last = sample.index().unwrap();
+    assert_eq!(bits(last), bits(index_of(2, 3, 3, 2)));
+    let bytes = sealed(&sample).unwrap();
+    assert_eq!(Record::read(&bytes).unwrap().header().index, last.value);
+}
+
+#[test]
+fn refused_indices() {
+    let black = [0; 2 * PICTURE];
+    let asked = |capture: &[u8], luma: &[u8]| fed(capture, luma).index().map(bits);
+    assert_eq!(asked(&[], &[]), Err(refusal(12, 0)));
+    assert_eq!(asked(&worked_capture()[..269], &black), Err(refusal(12, 0)));
+    assert_eq!(asked(&worked_capture(), &[0]), Err(refusal(14, 0)));
+    assert_eq!(asked(&[0; 4], &black), Err(refusal(5, 3)));
+    let surplus = vec![0; 750 * PICTURE + 1];
+    assert_eq!(asked(&[0; 4], &surplus), Err(refusal(5, 3)));
+    assert_eq!(asked(&[], &surplus), Err(refusal(10, 675_000)));
+    let three = asked(&worked_capture(), &black);
+    assert_eq!(three, Ok(bits(index_of(1, 2, 1, 0))));
+    assert_eq!(three.unwrap()[2], 0x4008_0000_0000_0000);
 }
 
 #[test]

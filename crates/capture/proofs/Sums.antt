@@ -55,9 +55,10 @@ module _ {kept table : List ℕ} {w : Walk} {t : Tally} {o : Opening} {joined : 
         few = few;
       }
 
-pub sum-of : {kept table : List ℕ} {w : Walk} {t : Tally} {o : Opening} {joined : List ℕ} (inside : Bool) → Asks w inside → Stands kept table w t o joined →
+sum-with : {kept table : List ℕ} {w : Walk} {t : Tally} {o : Opening} {joined : List ℕ} (inside : Bool) →
+    (w .status ≡ 0 → walk.Stands kept w joined → inside ≡ captureInside joined) → Stands kept table w t o joined →
     SumOf table o joined (summaryOf w t inside)
-sum-of {kept} {table} {w} {t} {o} {joined} inside a s = go (s .counting)
+sum-with {kept} {table} {w} {t} {o} {joined} inside a s = go (s .counting)
   where
     go : Counting table t o joined → SumOf table o joined (summaryOf w t inside)
     go (stopped e k) = record { refusal = rw (e, ne-eqb (t .status) 0 (λ x. omega arith)); figures = λ h. absurd (omega arith) }
@@ -67,8 +68,19 @@ sum-of {kept} {table} {w} {t} {o} {joined} inside a s = go (s .counting)
         let h : w .status ≡ 0 = says-none (none-both (formatFault joined) (tooManyUnits o joined) (sym (capture-format o joined) ∙ v .clear) .0) f in
         record {
           refusal = rw (v .good, v .clear, eq-eqb (t .status) 0 n);
-          figures = λ _. figures f v h inside (a kept joined h f);
+          figures = λ _. figures f v h inside (a h f);
         }
+
+pub sum-of : {kept table : List ℕ} {w : Walk} {t : Tally} {o : Opening} {joined : List ℕ} (inside : Bool) →
+    Asks w inside → Stands kept table w t o joined →
+    SumOf table o joined (summaryOf w t inside)
+sum-of {kept} {joined = joined} inside a s = sum-with inside (λ h f. a kept joined h f) s
+
+-- of what the arrays stand for, the totals among it: for these nothing is asked of the walk
+pub stands-sum : {kept table : List ℕ} {w : Walk} {t : Tally} {o : Opening} {joined : List ℕ} →
+    Stands kept table w t o joined →
+    SumOf table o joined (summaryOf w t (captureInside joined))
+stands-sum {joined = joined} s = sum-with (captureInside joined) (λ h f. refl) s
 
 pub sum-by : (words numbers : List ℕ) (w : Walk) (t : Tally) (inside : Bool) {r : Summary} →
     w ≡ walk.loaded words → t ≡ loaded numbers → Asks w inside → r ≡ summaryOf w t inside → SumsUp words numbers r

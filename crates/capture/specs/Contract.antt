@@ -3,7 +3,7 @@ use Prim.Native.Nat.{ℕ, _%_, _^_, _≤_, _<_}
 use mathlib.Core.Path.{_≡_}
 use mathlib.Core.List.{List, [], _++_, map}
 use mathlib.Core.Bool.{Bool}
-use lib.ListN.{length}
+use lib.ListN.{length, getD}
 use lib.Dec.{eqb}
 use Rattle.rules.specs.declared.Opening.{Opening}
 use Rattle.rules.specs.declared.Answer.{Answer}
@@ -25,6 +25,7 @@ use Rattle.capture_units.specs.State as table
 use Rattle.capture_counts.specs.declared.Tally.{Tally}
 use Rattle.capture.specs.declared.Meter.{Meter}
 use Rattle.capture.specs.declared.Summary.{Summary}
+use Rattle.capture.specs.declared.Totals.{Totals}
 use Rattle.capture.specs.State.{Arrays, loaded, Live, Counting, Stands, Means}
 
 -- `open`: the opening's number, or 0, its PID and its edition; the arrays after
@@ -71,6 +72,12 @@ abbrev pub SumsUp : List ℕ → List ℕ → Summary → Type 0
 SumsUp walk numbers r =
     (kept table : List ℕ) (o : Opening) (joined : List ℕ) → Means (record { walk = walk; kept = kept; numbers = numbers; table = table }) o joined →
     SumOf table o joined r
+
+-- ---- `totals_in`
+
+abbrev pub totalsIn : List ℕ → Totals
+totalsIn numbers =
+    record { number = getD numbers 0 0; place = getD numbers 1 0; packets = getD numbers 6 0; lost = getD numbers 7 0 }
 
 -- ---- of the functions within
 

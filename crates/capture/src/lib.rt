@@ -1,7 +1,7 @@
 // The capture side of a sample: the walk finds frames and cells in pieces that are cut anywhere, and the cells of PID make units. Its state is four
 // lent arrays: the walk's words and collected bytes, the side's own numbers, and the table of units. Every call is safe on any contents of them.
 ghost use Rattle.capture_walk.specs.Contract.{Fits};
-ghost use Rattle.capture.specs.Contract.{Opened, FeedPost, SumsUp, Takes, Goes, Replies, summaryOf};
+ghost use Rattle.capture.specs.Contract.{Opened, FeedPost, SumsUp, Takes, Goes, Replies, summaryOf, totalsIn};
 ghost use mathlib.Core.Path.{_≡_};
 
 mod numbers;
@@ -35,6 +35,15 @@ pub struct Summary {
     pub skipped: u32,
     pub bad: u32,
     pub units: u32,
+    pub packets: u64,
+    pub lost: u64,
+}
+
+// What an index call reads (document 02, R-7): the refusal that stands (number 0: none) and its place; over all units
+// the cells and those lost.
+pub struct Totals {
+    pub number: u64,
+    pub place: u64,
     pub packets: u64,
     pub lost: u64,
 }
@@ -166,4 +175,16 @@ pub fn sum_up(walk: &WalkWords, numbers: &Numbers) -> Summary
     let t = load(numbers);
     let inside = capture_walk::inside(w);
     summary_of(w, t, inside)
+}
+
+// The totals, and no word beside them.
+pub fn totals_in(numbers: &Numbers) -> Totals
+    ensures { λ r. ⌜ r ≡ totalsIn (now (numbers .entry)) ⌝ }
+{
+    Totals {
+        number: numbers[0],
+        place: numbers[1],
+        packets: numbers[6],
+        lost: numbers[7],
+    }
 }

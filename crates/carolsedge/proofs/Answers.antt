@@ -1,7 +1,11 @@
--- The contracts of the reading functions, by the case of the answer.
+-- The contracts of the reading functions and of the index, by the case of the answer.
 use Prim.Native.Nat.{ℕ}
 use mathlib.Core.Path.{_≡_}
 use mathlib.Core.List.{List}
+use lib.Ieee.{Float}
+use Rattle.rules.specs.declared.Index.{Index}
+use Rattle.rules.specs.declared.IndexAnswer.{IndexAnswer}
+use Rattle.rules.specs.declared.IndexAnswer.the-variants as of-index
 use Rattle.rules.specs.declared.Header.{Header}
 use Rattle.rules.specs.declared.UnitRow.{UnitRow}
 use Rattle.rules.specs.declared.SceneRow.{SceneRow}
@@ -13,8 +17,9 @@ use Rattle.rules.specs.declared.UnitAnswer.the-variants as of-unit
 use Rattle.rules.specs.declared.SceneAnswer.the-variants as of-scene
 use Rattle.rules.specs.Refusals.{listed}
 use Rattle.rules.specs.Reading.{headerAnswer, unitAnswer, sceneAnswer}
-use Rattle.carolsedge.specs.Figures.{figuresOf, unitFigures, sceneFigures}
-use Rattle.carolsedge.specs.Contract.{HeaderRead, UnitRead, SceneRead}
+use Rattle.carolsedge.specs.Figures.{figuresOf, unitFigures, sceneFigures, indexFigures}
+use Rattle.carolsedge.specs.Contract.{HeaderRead, UnitRead, SceneRead, IndexTold}
+use Rattle.sample.specs.WhileFeeding.{IndexPost}
 
 module _ (b old : List ℕ) (a : HeaderAnswer) (e : a ≡ headerAnswer b) where
   pub header-done : (h : Header) (new : List ℕ) → a ≡ of-header.Given h → new ≡ figuresOf h → HeaderRead b old 0 new
@@ -37,3 +42,11 @@ module _ (b : List ℕ) (j : ℕ) (old : List ℕ) (a : SceneAnswer) (e : a ≡ 
 
   pub scene-refused : (k p r : ℕ) → a ≡ of-scene.Refused k p → r ≡ listed k → SceneRead b j old r old
   scene-refused k p r g n = record { numbered = rw (← e, g) n; given = rw (← e, g) }
+
+module _ (numbers luma : List ℕ) (old : List Float) (a : IndexAnswer) (h : IndexPost numbers luma a) where
+  pub index-given : (i : Index) (new : List Float) → a ≡ of-index.Given i → new ≡ indexFigures i →
+      IndexTold numbers luma old 0 0 new
+  index-given i new g n = record { answer = a; made = h .asked; numbered = rw g; placed = rw g; given = rw g n }
+
+  pub index-refused : (k p r : ℕ) → a ≡ of-index.Refused k p → r ≡ listed k → IndexTold numbers luma old r p old
+  index-refused k p r g n = record { answer = a; made = h .asked; numbered = rw g n; placed = rw g; given = rw g }

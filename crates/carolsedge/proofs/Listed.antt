@@ -14,11 +14,15 @@ use Rattle.rules.specs.Seal.{sealedLength, noRoom, sealFault, captureAnswer, lu
 use Rattle.rules.specs.Reading.{readingFault, unitFault, sceneFault, headerOf, unitAt, sceneAt, orHeader, orUnit}
 use Rattle.rules.specs.Reading.{orScene, headerAnswer, unitAnswer, sceneAnswer}
 use Rattle.rules.specs.Sheet.{sheetLength, sheetAnswer}
+use Rattle.rules.specs.declared.Index.{Index}
 use Rattle.rules.specs.Capture.{formatFault}
+use Rattle.rules.specs.Seal.{index}
 use Rattle.rules.specs.Survey.{goodPackets, identifiers, withMost, surveyFeedAnswer, surveyFault, orMost, surveyAnswer}
+use Rattle.rules.specs.WhileFeeding.{indexFault, orIndex, indexAnswer}
 use Rattle.rules.proofs.Laws.Listed.{Numbered, of-either, opening, capture, luma, seal, reading, unit, scene, room}
 use Rattle.rules.proofs.Laws.Listed.{format, survey}
-use Rattle.carolsedge.specs.Numbers.{numberOf, headerNumber, unitNumber, sceneNumber, mostNumber}
+use Rattle.rules.proofs.Laws.WhileFeeding.{index-numbered}
+use Rattle.carolsedge.specs.Numbers.{numberOf, indexNumber, headerNumber, unitNumber, sceneNumber, mostNumber}
 
 -- reading's, then 15
 pub sheet : (r : List ℕ) (n : ℕ) → Numbered (readingFault r orElse noRoom n (sheetLength r))
@@ -49,6 +53,14 @@ luma-number o l n = of-answer (openingFault o orElse lumaFault o l) n (of-either
 pub seal-number : (o : Opening) (c l : List ℕ) (n : ℕ) → numberOf (sealAnswer o c l n) ≡ numberIn (sealFault o c l n)
 unfolding sealAnswer
 seal-number o c l n = of-answer (sealFault o c l n) (sealedLength o c l) (seal o c l n)
+
+of-index-answer : (f : Fault) (i : Index) → Numbered f → indexNumber (orIndex f i) ≡ numberIn f
+of-index-answer none i x = refl
+of-index-answer (fault k p) i x = x
+
+pub index-number : (o : Opening) (c l : List ℕ) → indexNumber (indexAnswer o c l) ≡ numberIn (indexFault o c l)
+unfolding indexAnswer
+index-number o c l = of-index-answer (indexFault o c l) (index o c l) (index-numbered o c l)
 
 of-header-answer : (f : Fault) (h : Header) → Numbered f → headerNumber (orHeader f h) ≡ numberIn f
 of-header-answer none h x = refl

@@ -1,24 +1,26 @@
 -- What the C functions promise: there is an answer of which the crate below promises what document 01 says, and the number and the value are that answer's.
 use Prim.Native.Nat.{ℕ}
 use mathlib.Core.Path.{_≡_}
-use mathlib.Core.List.{List}
+use mathlib.Core.List.{List, []}
 use lib.ListN.{length}
+use lib.Ieee.{Float}
 use Rattle.rules.specs.declared.Opening.{Opening}
 use Rattle.rules.specs.declared.Answer.{Answer}
+use Rattle.rules.specs.declared.IndexAnswer.{IndexAnswer}
 use Rattle.rules.specs.declared.SurveyAnswer.{SurveyAnswer}
 use Rattle.rules.specs.Reading.{headerAnswer, unitAnswer, sceneAnswer}
 use Rattle.rules.specs.Sheet.{sheetAnswer, sheetBuffer}
-use Rattle.rules.specs.Calls.{Question, Reply, lentAfter}
+use Rattle.rules.specs.Calls.{Question, index, Reply, indexed, lentAfter}
 use Rattle.capture.specs.State.{Arrays}
 use Rattle.capture.specs.Contract as side-capture
 use Rattle.luma.specs.Contract as side-luma
 use Rattle.sample.specs.State.{State, Words}
 use Rattle.sample.specs.Contract.{OpenPost, Asked}
 use Rattle.carolsedge.specs.Numbers.{numberOf, valueOf, replyNumber, replyValue, headerNumber, unitNumber}
-use Rattle.carolsedge.specs.Numbers.{sceneNumber, mostNumber, mostValue, mostCount}
+use Rattle.carolsedge.specs.Numbers.{sceneNumber, indexNumber, indexPlace, mostNumber, mostValue, mostCount}
 use Rattle.survey.specs.State as state-survey
 use Rattle.survey.specs.Contract as of-survey
-use Rattle.carolsedge.specs.Figures.{headerInto, unitInto, sceneInto}
+use Rattle.carolsedge.specs.Figures.{headerInto, unitInto, sceneInto, indexInto, threeOf}
 
 -- the opening, the number, the state after
 pub record Opened (o : Opening) (number : ℕ) (after : State) : Type 0 where
@@ -40,13 +42,27 @@ pub record FedLuma (luma sums bins picture piece : List ℕ) (number value : ℕ
   pub numbered : number ≡ numberOf answer
   pub valued : value ≡ valueOf answer
 
--- of every question: the words that it looks at, the question, the number, the value, the lent bytes after
+-- of every question but the index: the words that it looks at, the question, the number, the value, the lent bytes
+-- after
 pub record Told (w : Words) (q : Question) (number value : ℕ) (after : List ℕ) : Type 0 where
   pub reply : Reply
   pub made : Asked w q reply
   pub numbered : number ≡ replyNumber reply
   pub valued : value ≡ replyValue reply
   pub lent : after ≡ lentAfter reply
+  pub three : threeOf reply ≡ []
+
+-- of an index: the capture side's numbers, the luma words, the lent three before, the number, the place, the lent
+-- three after; whatever stands in the other arrays
+pub record IndexTold (numbers luma : List ℕ) (before : List Float) (number place : ℕ) (after : List Float) :
+    Type 0 where
+  pub answer : IndexAnswer
+  pub made : (walk kept table : List ℕ) →
+      Asked (record { capture = record { walk = walk; kept = kept; numbers = numbers; table = table }; luma = luma })
+      index (indexed answer)
+  pub numbered : number ≡ indexNumber answer
+  pub placed : place ≡ indexPlace answer
+  pub given : after ≡ indexInto answer before
 
 -- the record's bytes, the lent array before, the number, the lent array after
 pub record HeaderRead (bytes before : List ℕ) (number : ℕ) (after : List ℕ) : Type 0 where

@@ -1,15 +1,21 @@
--- What a reading leaves in the lent array: the figures in document 01's order of the header and of the rows; after a refusal what stood there.
+-- What a reading or an index call leaves in the lent array: the figures in document 01's order of the header and of
+-- the rows; after a refusal what stood there.
 use Prim.Native.Nat.{ℕ}
 use mathlib.Core.List.{List, [], _∷_}
+use lib.Ieee.{Float}
 use Rattle.rules.specs.declared.Header.{Header}
 use Rattle.rules.specs.declared.UnitRow.{UnitRow}
 use Rattle.rules.specs.declared.SceneRow.{SceneRow}
+use Rattle.rules.specs.declared.Index.{Index}
+use Rattle.rules.specs.declared.IndexAnswer.{IndexAnswer}
 use Rattle.rules.specs.declared.HeaderAnswer.{HeaderAnswer}
 use Rattle.rules.specs.declared.UnitAnswer.{UnitAnswer}
 use Rattle.rules.specs.declared.SceneAnswer.{SceneAnswer}
 use Rattle.rules.specs.declared.HeaderAnswer.the-variants as of-header
+use Rattle.rules.specs.declared.IndexAnswer.the-variants as of-index
 use Rattle.rules.specs.declared.UnitAnswer.the-variants as of-unit
 use Rattle.rules.specs.declared.SceneAnswer.the-variants as of-scene
+use Rattle.rules.specs.Calls.{Reply, sealedInto, indexed}
 
 abbrev pub figuresOf : Header → List ℕ
 figuresOf h =
@@ -20,6 +26,19 @@ unitFigures u = u .least ∷ u .greatest ∷ u .size ∷ u .packets ∷ u .lost 
 
 abbrev pub sceneFigures : SceneRow → List ℕ
 sceneFigures s = s .first ∷ s .pictures ∷ s .repeated ∷ s .longest ∷ s .score ∷ s .peak ∷ s .change ∷ []
+
+-- Ic, Ip and the index
+abbrev pub indexFigures : Index → List Float
+indexFigures i = i .ic ∷ i .ip ∷ i .value ∷ []
+
+abbrev pub indexInto : IndexAnswer → List Float → List Float
+indexInto (of-index.Given i) old = indexFigures i
+indexInto (of-index.Refused k p) old = old
+
+-- the three f64 that a question's reply gives
+abbrev pub threeOf : Reply → List Float
+threeOf (sealedInto a buffer) = []
+threeOf (indexed a) = indexInto a []
 
 abbrev pub headerInto : HeaderAnswer → List ℕ → List ℕ
 headerInto (of-header.Given h) old = figuresOf h

@@ -3,15 +3,17 @@ use Prim.Native.Nat.{ℕ}
 use Rattle.rules.specs.declared.Answer.{Answer}
 use Rattle.rules.specs.declared.Answer.the-variants.{Done, Refused}
 use Rattle.rules.specs.declared.HeaderAnswer.{HeaderAnswer}
+use Rattle.rules.specs.declared.IndexAnswer.{IndexAnswer}
 use Rattle.rules.specs.declared.UnitAnswer.{UnitAnswer}
 use Rattle.rules.specs.declared.SceneAnswer.{SceneAnswer}
 use Rattle.rules.specs.declared.SurveyAnswer.{SurveyAnswer}
 use Rattle.rules.specs.declared.HeaderAnswer.the-variants as of-header
+use Rattle.rules.specs.declared.IndexAnswer.the-variants as of-index
 use Rattle.rules.specs.declared.UnitAnswer.the-variants as of-unit
 use Rattle.rules.specs.declared.SceneAnswer.the-variants as of-scene
 use Rattle.rules.specs.declared.SurveyAnswer.the-variants as of-survey
 use Rattle.rules.specs.Refusals.{listed}
-use Rattle.rules.specs.Calls.{Reply, sealedInto}
+use Rattle.rules.specs.Calls.{Reply, sealedInto, indexed}
 
 abbrev pub numberOf : Answer → ℕ
 numberOf (Done n) = 0
@@ -21,12 +23,23 @@ abbrev pub valueOf : Answer → ℕ
 valueOf (Done n) = n
 valueOf (Refused k p) = p
 
+-- of an index: its value is the refusal's place, or 0
+abbrev pub indexNumber : IndexAnswer → ℕ
+indexNumber (of-index.Given i) = 0
+indexNumber (of-index.Refused k p) = listed k
+
+abbrev pub indexPlace : IndexAnswer → ℕ
+indexPlace (of-index.Given i) = 0
+indexPlace (of-index.Refused k p) = p
+
 -- of a question's reply
 abbrev pub replyNumber : Reply → ℕ
 replyNumber (sealedInto a buffer) = numberOf a
+replyNumber (indexed a) = indexNumber a
 
 abbrev pub replyValue : Reply → ℕ
 replyValue (sealedInto a buffer) = valueOf a
+replyValue (indexed a) = indexPlace a
 
 -- of a reading, whose refusals all stand at 0
 abbrev pub headerNumber : HeaderAnswer → ℕ

@@ -8,7 +8,8 @@ ghost use Rattle.rules.specs.Calls.{seal};
 ghost use Rattle.carolsedge.specs.Numbers.{numberOf, valueOf};
 ghost use Rattle.carolsedge.specs.Figures.{figuresOf, unitFigures, sceneFigures};
 ghost use Rattle.carolsedge.specs.Contract.{Opened, FedCapture, FedLuma, Told, HeaderRead, UnitRead, SceneRead};
-ghost use Rattle.carolsedge.specs.Contract.{SheetPrinted, SurveyFed, SurveyTold};
+ghost use Rattle.carolsedge.specs.Figures.{indexFigures};
+ghost use Rattle.carolsedge.specs.Contract.{SheetPrinted, IndexTold, SurveyFed, SurveyTold};
 ghost use Rattle.survey.specs.State.{stateOf};
 ghost use Rattle.survey.specs.Contract as of-survey;
 ghost use Rattle.carolsedge.specs.Numbers.{mostNumber, mostValue, mostCount};
@@ -25,6 +26,8 @@ use capture_walk::WalkWords;
 use rules::Answer;
 use rules::Header;
 use rules::HeaderAnswer;
+use rules::Index;
+use rules::IndexAnswer;
 use rules::Opening;
 use rules::SceneAnswer;
 use rules::SceneRow;
@@ -143,6 +146,37 @@ pub extern "C" fn carolsedge_seal(
     let a = sample::seal(walk, kept, numbers, table, luma, buffer);
     *value = value_of(a);
     number_of(a)
+}
+
+fn put_three(three: &mut [f64; 3], i: Index)
+    ensures { λ _. ⌜ now (three .exit) ≡ indexFigures i ⌝ }
+{
+    *three = [i.ic, i.ip, i.value];
+}
+
+// The index of what was fed so far: Ic, Ip and the index. The place is the refusal's, or 0; on a refusal the lent
+// three stand as they were.
+#[no_mangle]
+pub extern "C" fn carolsedge_index(
+    numbers: &Numbers,
+    luma: &[u64; 1600],
+    three: &mut [f64; 3],
+    place: &mut u64,
+) -> u32
+    ensures { λ r. ⌜ IndexTold (now (numbers .entry)) (now (luma .entry)) (now (three .entry)) r (now (place .exit))
+        (now (three .exit)) ⌝ }
+{
+    match sample::index(numbers, luma) {
+        IndexAnswer::Given(i) => {
+            put_three(three, i);
+            *place = 0;
+            0
+        }
+        IndexAnswer::Refused { number, place: at } => {
+            *place = at;
+            listed_number(number)
+        }
+    }
 }
 
 // Opens, feeds and seals as a script says (include/carolsedge.h has its form), and writes what every call comes to. False, and out stands as it was, where there is no

@@ -15,7 +15,7 @@ use lib.Ieee.Back.{round-whole}
 use lib.Ieee.Positive.{through, first-pos}
 use lib.Ieee.Bits.{cond-no}
 use Rattle.rules.specs.Index.{float, icOf, ipOf, valueOf, indexOf}
-use Rattle.index.specs.Counts.{Counts}
+use Rattle.index.specs.Counts.{Counts, NoNan}
 
 pub exact : {n : ℕ} → n ≤ 2 ^ 53 → T (inFloat binary64 (pos n))
 unfolding inFloat
@@ -172,6 +172,7 @@ module _ {unrepeated pictures packets lost : ℕ} (h : Counts unrepeated picture
   unfolding indexOf
   at-most-five = upper 5 (lit≤ tt) value-at-most
 
-  pub no-nan : T (not (isNan (indexOf unrepeated pictures packets lost .value)))
+  -- nor is Ic, from 0 to 4, or Ip, from 0 to 1
+  pub no-nan : NoNan (indexOf unrepeated pictures packets lost)
   unfolding indexOf
-  no-nan = real value-at-most
+  no-nan = record { ic = real ic-at-most; ip = real ip-at-most; value = real value-at-most }

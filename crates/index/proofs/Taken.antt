@@ -7,33 +7,33 @@ use lib.Ieee.{isNan, ofInt}
 use borrow.Author.Tests.{le-leb, lt-leb}
 use Rattle.rules.specs.declared.Index.{Index}
 use Rattle.rules.specs.Index.{float, indexOf}
-use Rattle.index.specs.Counts.{Counts, noIndex, IndexFrom}
+use Rattle.index.specs.Counts.{Counts, noIndex, NoNan, IndexFrom}
 use Rattle.index.proofs.Bound.{no-nan}
 
 zero-number : T (not (isNan (float 0)))
 unfolding ofInt isNan
 zero-number = tt
 
-numbered : (i : Index) → i ≡ noIndex → T (not (isNan (i .value)))
-numbered i e = subst⁻¹ (λ (x : Index). T (not (isNan (x .value)))) e zero-number
+numbered : (i : Index) → i ≡ noIndex → NoNan i
+numbered i e = subst⁻¹ NoNan e (record { ic = zero-number; ip = zero-number; value = zero-number })
 
 module _ (u n p l : ℕ) (i : Index) where
   pub no-picture : n < 1 → i ≡ noIndex → IndexFrom u n p l i
-  no-picture h e = record { is = rw (lt-leb 1 n h) e; number = numbered i e }
+  no-picture h e = record { is = rw (lt-leb 1 n h) e; numbers = numbered i e }
 
   module _ (h₁ : 1 ≤ n) where
     pub too-many : n < u → i ≡ noIndex → IndexFrom u n p l i
-    too-many h e = record { is = rw (le-leb 1 n h₁, lt-leb u n h) e; number = numbered i e }
+    too-many h e = record { is = rw (le-leb 1 n h₁, lt-leb u n h) e; numbers = numbered i e }
 
     module _ (h₂ : u ≤ n) where
       pub no-packet : p < 1 → i ≡ noIndex → IndexFrom u n p l i
-      no-packet h e = record { is = rw (le-leb 1 n h₁, le-leb u n h₂, lt-leb 1 p h) e; number = numbered i e }
+      no-packet h e = record { is = rw (le-leb 1 n h₁, le-leb u n h₂, lt-leb 1 p h) e; numbers = numbered i e }
 
       pub taken : Counts u n p l → i ≡ indexOf u n p l → IndexFrom u n p l i
       taken k e =
           record {
             is = rw (le-leb 1 n h₁, le-leb u n h₂, le-leb 1 p (k .some-packets)) e;
-            number = subst⁻¹ (λ (x : Index). T (not (isNan (x .value)))) e (no-nan k);
+            numbers = subst⁻¹ NoNan e (no-nan k);
           }
 
 -- of counts that a sample can have it is the rule's

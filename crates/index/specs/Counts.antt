@@ -25,7 +25,18 @@ countable unrepeated pictures packets = leb 1 pictures && leb unrepeated picture
 abbrev pub noIndex : Index
 noIndex = record { ic = float 0; ip = float 0; value = float 0 }
 
--- the rule's index of counts that a sample can have, zeros of any others; never a NaN
+-- none of the three is a NaN
+pub record NoNan (i : Index) : Type 0 where
+  pub ic : T (not (isNan (i .ic)))
+  pub ip : T (not (isNan (i .ip)))
+  pub value : T (not (isNan (i .value)))
+
+-- the rule's index of counts that a sample can have, zeros of any others
+abbrev pub taken : ℕ → ℕ → ℕ → ℕ → Index
+taken unrepeated pictures packets lost =
+    pick (countable unrepeated pictures packets) (indexOf unrepeated pictures packets lost) noIndex
+
+-- that, and never a NaN
 pub record IndexFrom (unrepeated pictures packets lost : ℕ) (i : Index) : Type 0 where
-  pub is : i ≡ pick (countable unrepeated pictures packets) (indexOf unrepeated pictures packets lost) noIndex
-  pub number : T (not (isNan (i .value)))
+  pub is : i ≡ taken unrepeated pictures packets lost
+  pub numbers : NoNan i

@@ -3,7 +3,7 @@ use Prim.Native.Nat.{ℕ, _+_, _-_, _*_, _%_, _^_, _≤_, _<_}
 use mathlib.Core.Path.{_≡_}
 use mathlib.Core.List.{List, [], _++_}
 use mathlib.Core.Bool.{Bool, true, false}
-use lib.ListN.{length, take}
+use lib.ListN.{length, take, getD}
 use lib.Dec.{eqb}
 use Rattle.rules.specs.declared.Opening.{Opening}
 use Rattle.rules.specs.declared.Answer.{Answer}
@@ -16,6 +16,7 @@ use Rattle.luma_state.specs.declared.Grid.{Grid}
 use Rattle.luma_state.specs.declared.Progress.{Progress}
 use Rattle.luma_rows.specs.declared.Taken.{Taken}
 use Rattle.luma.specs.declared.Summary.{Summary}
+use Rattle.luma.specs.declared.Totals.{Totals}
 use Rattle.luma_state.specs.State.{gridOf, Words, Live, Sane, Stands, Means, movesIn, Holding, Fits, Goes}
 use Rattle.luma_rows.specs.Contract.{Loose, Took}
 use Rattle.luma_state.specs.Steps.{placedAt, countedAs}
@@ -50,6 +51,11 @@ pub record Summarised (luma : List ℕ) (o : Opening) (joined : List ℕ) (r : S
 
 abbrev pub SummaryPost : List ℕ → Summary → Type 0
 SummaryPost luma r = (sums bins picture : List ℕ) (o : Opening) (joined : List ℕ) → Means luma sums bins picture o joined → Summarised luma o joined r
+
+-- `totals_in`
+abbrev pub totalsIn : List ℕ → Totals
+totalsIn luma =
+    record { number = getD luma 0 0; place = getD luma 1 0; pictures = getD luma 3 0; fresh = getD luma 4 0 }
 
 -- the place is not a picture's start
 abbrev pub insideOf : Progress → Bool

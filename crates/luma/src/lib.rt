@@ -1,6 +1,6 @@
 // The luma side: pictures that come in pieces, cut anywhere, over memory that the caller lends. Whatever stands in that memory, every call is safe.
 ghost use mathlib.Core.Path.{_≡_};
-ghost use Rattle.luma.specs.Contract.{Replied, insideOf, OpenPost, FeedPost, SummaryPost};
+ghost use Rattle.luma.specs.Contract.{Replied, insideOf, OpenPost, FeedPost, SummaryPost, totalsIn};
 
 mod steps;
 
@@ -10,6 +10,7 @@ use luma_blocks::Sums;
 use luma_state::Progress;
 use luma_state::Words;
 use luma_state::grid_of;
+use luma_state::layout;
 use luma_state::load;
 pub use luma_state::opening_in;
 use luma_state::placed;
@@ -24,6 +25,15 @@ pub struct Summary {
     pub place: u64,
     pub fed: u64,
     pub inside: bool,
+    pub pictures: u64,
+    pub fresh: u64,
+}
+
+// What an index call reads (document 02, R-7): the refusal that stands (number 0: none) and its place; whole pictures,
+// and those of them that are not repeated.
+pub struct Totals {
+    pub number: u64,
+    pub place: u64,
     pub pictures: u64,
     pub fresh: u64,
 }
@@ -121,5 +131,17 @@ pub fn summarise(luma: &Words) -> Summary
         inside: inside,
         pictures: s.pictures as u64,
         fresh: s.fresh,
+    }
+}
+
+// The totals, and no word beside them.
+pub fn totals_in(luma: &Words) -> Totals
+    ensures { λ r. ⌜ r ≡ totalsIn (now (luma .entry)) ⌝ }
+{
+    Totals {
+        number: luma[layout::STATUS],
+        place: luma[layout::PLACE],
+        pictures: luma[layout::COUNT],
+        fresh: luma[layout::FRESH],
     }
 }

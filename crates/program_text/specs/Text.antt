@@ -5,6 +5,7 @@ use lib.Dec.{ltb}
 use Rattle.rules.specs.Bytes.{pick, endToEnd}
 use Rattle.rules.specs.declared.Answer.{Answer}
 use Rattle.rules.specs.declared.Answer.the-variants.{Done, Refused}
+use Rattle.rules.specs.Digits.{hexIn}
 use Rattle.record_text.specs.Lines.{fields}
 
 -- a word, numbers with a space before each, and an end
@@ -15,6 +16,10 @@ lineOf word numbers end = word ++ fields numbers ++ end
 unfoldable pub answerText : List ℕ → List ℕ → Answer → List ℕ → List ℕ
 answerText done refused (Done n) end = lineOf done (n ∷ []) end
 answerText done refused (Refused k p) end = lineOf refused (k ∷ p ∷ []) end
+
+-- a float's bits: a word, a space and 16 hexadecimal digits, letters capital, and an end
+unfoldable pub bitsText : List ℕ → ℕ → List ℕ → List ℕ
+bitsText word bits end = word ++ (32 ∷ hexIn 16 bits) ++ end
 
 -- a hexadecimal digit, in lower case
 abbrev pub digit : ℕ → ℕ

@@ -4,7 +4,7 @@ ghost use Prim.Native.Nat.{_+_, _*_, _≤_, _<_};
 ghost use lib.ListN.{length};
 ghost use Rattle.io.specs.Counts.{Counts};
 ghost use Rattle.rules.specs.Seal.{over};
-ghost use Rattle.program_text.specs.Text.{lineOf, answerText, hexText};
+ghost use Rattle.program_text.specs.Text.{lineOf, answerText, bitsText, hexText};
 ghost use Rattle.program_text.specs.Text.{digit as digitOf};
 use rules::Answer;
 
@@ -38,6 +38,26 @@ pub fn print_answer(done: &[u8], refused: &[u8], a: Answer, end: &[u8])
 {
     let mut line = [0u8; 64];
     let n = put_answer(&mut line, done, refused, a, end);
+    io::write_all(libc::STDOUT_FILENO, &line[..n]);
+}
+
+// A word, 16 hexadecimal digits with capital letters and an end, at the front of the line.
+fn put_bits(line: &mut [u8], word: &[u8], bits: u64, end: &[u8]) -> usize
+    requires { ⌜ length (now word) + 17 + length (now end) ≤ length (now line) ⌝ }
+    ensures { λ r. ⌜ (r ≡ length (bitsText (now (word .entry)) bits (now (end .entry)))) × Counts r (now (line .exit))
+        × (now (line .exit) ≡ over (bitsText (now (word .entry)) bits (now (end .entry))) (now (line .entry))) ⌝ }
+{
+    let start = record_text::put_text(line, 0, word);
+    let digits = record_text::put_hex(line, start, bits);
+    record_text::put_text(line, digits, end)
+}
+
+// Prints a word and a float's bits, and then a line feed.
+pub fn print_bits(word: &[u8], bits: u64)
+    requires { ⌜ length (now word) ≤ 16 ⌝ }
+{
+    let mut line = [0u8; 64];
+    let n = put_bits(&mut line, word, bits, b"\n");
     io::write_all(libc::STDOUT_FILENO, &line[..n]);
 }
 

@@ -6,8 +6,9 @@ use mathlib.Core.List.{List, [], _∷_, _++_, append-nil, append-assoc}
 use mathlib.Core.Bool.{Bool, true, false}
 use lib.Dec.{leb, ltb, eqb}
 use lib.ListN.{length, take, drop, length-append, length-drop, length-replicate, drop-of-length-le, take-append-drop}
+use lib.ListN.{List·getD-eq-default}
 use lib.Seq.{take-all, append-snoc, take-at, drop-at, drop-drop, length-take-le}
-use borrow.Author.Tests.{le-leb, lt-leb, leb-true, ltb-false, lt-ltb}
+use borrow.Author.Tests.{le-leb, lt-leb, leb-true, ltb-false, lt-ltb, ne-eqb}
 use borrow.Rule.Slice.PartMut.{midOf, putMid, post-is}
 use Rattle.rules.specs.declared.Answer.{Answer}
 use Rattle.rules.specs.Bytes.{pick, byte, word32}
@@ -18,7 +19,7 @@ use Rattle.sample.specs.Contract.{OpenPost}
 use Rattle.sample.specs.Calls.{Runs, done, next}
 use Rattle.sample.proofs.Lists.{every-list}
 use Rattle.replay.specs.declared.reading.Head.{Head}
-use Rattle.replay.specs.declared.reading.Head.the-variants.{Stop, Capture, Luma, Seal}
+use Rattle.replay.specs.declared.reading.Head.the-variants.{Stop, Capture, Luma, Seal, Index}
 use Rattle.replay.specs.Script.{openingOf, headBy, headAt, callsWith, callsBy, callsOf, code, codeOf, codes, room, roomFor, replayed, Replayed, nextOf, sizeOf, CallPost, Played, All}
 
 -- ---- heads
@@ -27,12 +28,19 @@ pub short : (left kind n : ℕ) → left < 5 → Stop ≡ headBy left kind n
 unfolding headBy
 short left kind n h = rw (lt-ltb left 5 h)
 
+-- another byte than I
+pub other-head : (script : List ℕ) (at : ℕ) {h : Head} → (byte script at ≡ 73 → ⊥) →
+    h ≡ headBy (length script - at) (byte script at) (word32 script (at + 1)) →
+    h ≡ headAt script at
+other-head script at i e = rw (ne-eqb (byte script at) 73 i) e
+
 -- a call's bytes are there
 unfoldable pub bytesOfHead : Head → ℕ
 bytesOfHead Stop = 0
 bytesOfHead (Capture n) = 5 + n
 bytesOfHead (Luma n) = 5 + n
 bytesOfHead (Seal n) = 5
+bytesOfHead Index = 0
 
 fits : (left kind n : ℕ) → bytesOfHead (headBy left kind n) ≤ left
 unfolding headBy bytesOfHead
@@ -59,7 +67,14 @@ fits left kind n = a (ltb left 5) refl
     a false g = s (eqb kind 83) (ltb-false left 5 g)
 
 fits-at : (script : List ℕ) (at : ℕ) (h : Head) → h ≡ headAt script at → bytesOfHead h ≤ length script - at
-fits-at script at h e = rw e (fits (length script - at) _ _)
+unfolding bytesOfHead
+fits-at script at h e = rw e (go (eqb (byte script at) 73))
+  where
+    go : (b : Bool) →
+        bytesOfHead (pick b Index (headBy (length script - at) (byte script at) (word32 script (at + 1)))) ≤
+        length script - at
+    go true = omega arith
+    go false = fits (length script - at) _ _
 
 pub fits-capture : (script : List ℕ) (at n : ℕ) → Capture n ≡ headAt script at → 5 + n ≤ length script - at
 unfolding bytesOfHead
@@ -80,7 +95,11 @@ calls-on (suc g) script at h e = (g, refl, refl)
 calls-end : (f : ℕ) (script : List ℕ) (at : ℕ) → length script ≤ at → callsBy f script at ≡ []
 unfolding callsBy
 calls-end zero script at h = refl
-calls-end (suc f) script at h = let z = short (length script - at) (byte script at) (word32 script (at + 1)) (omega arith) in rw (← z)
+calls-end (suc f) script at h =
+    let none : byte script at ≡ 0 = List·getD-eq-default script 0 h in
+    let s = short (length script - at) (byte script at) (word32 script (at + 1)) (omega arith) in
+    let z = other-head script at (λ e. omega arith) s in
+    rw (← z)
 
 -- ---- codes and their room
 
@@ -103,6 +122,7 @@ no-call Stop script at more z = refl
 no-call (Capture n) script at more z = absurd (omega arith)
 no-call (Luma n) script at more z = absurd (omega arith)
 no-call (Seal n) script at more z = absurd (omega arith)
+no-call Index script at more z = absurd (omega arith)
 
 takes : (h : Head) (script : List ℕ) (at : ℕ) (more : ℕ → List Call) → sizeOf h ≤ room (callsWith h script at more)
 unfolding room
@@ -110,12 +130,14 @@ takes Stop script at more = omega arith
 takes (Capture n) script at more = omega arith
 takes (Luma n) script at more = omega arith
 takes (Seal n) script at more = rw length-replicate (omega arith)
+takes Index script at more = omega arith
 
 pub next-on : (h : Head) (at : ℕ) → at < nextOf h at
 next-on Stop at = omega arith
 next-on (Capture n) at = omega arith
 next-on (Luma n) at = omega arith
 next-on (Seal n) at = omega arith
+next-on Index at = omega arith
 
 takes-on : (h : Head) (script : List ℕ) (at : ℕ) (more : ℕ → List Call) → 0 < sizeOf h → room (callsWith h script at more) ≡ sizeOf h + room (more (nextOf h at))
 unfolding room
@@ -123,6 +145,7 @@ takes-on Stop script at more z = absurd (omega arith)
 takes-on (Capture n) script at more z = refl
 takes-on (Luma n) script at more z = refl
 takes-on (Seal n) script at more z = rw length-replicate
+takes-on Index script at more z = refl
 
 -- ---- room so far: the opening's answer and the calls before `at` take `to` bytes
 pub record Taken (script : List ℕ) (at to : ℕ) : Type 0 where

@@ -9,7 +9,7 @@ use lib.Seq.{take-all, drop-at, length-take-le, take-suc-set}
 use borrow.Rule.Slice.PartMut.{midOf, postOf, putMid}
 use Rattle.rules.specs.declared.Answer.{Answer}
 use Rattle.rules.specs.Bytes.{bytesOf}
-use Rattle.rules.specs.Calls.{Question, seal, sealedInto, Call, feedCapture, feedLuma, ask, fed, replied}
+use Rattle.rules.specs.Calls.{Question, seal, index, sealedInto, Call, feedCapture, feedLuma, ask, fed, replied}
 use Rattle.words.specs.Written.{written}
 use Rattle.words.proofs.Laws.{written-sets, written-append}
 use Rattle.capture.specs.State.{Arrays}
@@ -17,9 +17,9 @@ use Rattle.sample.specs.State.{State, Words, wordsOf}
 use Rattle.sample.specs.Contract.{SealPost}
 use Rattle.sample.specs.Calls.{feedsCapture, feedsLuma, asks}
 use Rattle.replay.specs.declared.reading.Head.{Head}
-use Rattle.replay.specs.declared.reading.Head.the-variants.{Capture, Luma, Seal}
-use Rattle.replay.specs.Script.{kindOf, firstOf, secondOf, code, callsWith, replyRoom, sizeOf, FedCapture}
-use Rattle.replay.specs.Script.{FedLuma, Replied, CallPost}
+use Rattle.replay.specs.declared.reading.Head.the-variants.{Capture, Luma, Seal, Index}
+use Rattle.replay.specs.Script.{kindOf, firstOf, secondOf, code, threeWords, callsWith, replyRoom, sizeOf}
+use Rattle.replay.specs.Script.{FedCapture, FedLuma, Replied, CallPost}
 
 -- an answer's three stores
 pub put-law : (out : List ℕ) (a : Answer) → 17 ≤ length out →
@@ -32,6 +32,22 @@ put-law out a h =
     ap (λ (l : List ℕ). written 9 y (written 1 x l)) (written-sets 0 k out (omega arith))
     ∙ ap (λ (l : List ℕ). written 9 y l) (written-append 0 k out (omega arith) x)
     ∙ written-append 0 (k ++ x) out (omega arith) y
+
+-- an index's four stores
+pub three-law : (out : List ℕ) (kind a b c : ℕ) → length out ≡ 25 →
+    written 17 (bytesOf 8 c) (written 9 (bytesOf 8 b) (written 1 (bytesOf 8 a) (set out 0 kind))) ≡
+    threeWords kind a b c
+unfolding bytesOf written threeWords
+three-law out kind a b c h =
+    let k = kind ∷ [] in
+    let x = bytesOf 8 a in
+    let y = bytesOf 8 b in
+    let z = bytesOf 8 c in
+    ap (λ (l : List ℕ). written 17 z (written 9 y (written 1 x l))) (written-sets 0 k out (omega arith))
+    ∙ ap (λ (l : List ℕ). written 17 z (written 9 y l)) (written-append 0 k out (omega arith) x)
+    ∙ ap (λ (l : List ℕ). written 17 z l) (written-append 0 (k ++ x) out (omega arith) y)
+    ∙ written-append 0 (k ++ x ++ y) out (omega arith) z
+    ∙ rw (drop-of-length-le out {i = 25} (omega arith))
 
 -- one byte more is filled
 pub fill-law : (out : List ℕ) (i : ℕ) → i < length out → take i out ≡ replicate i 165 → take (i + 1) (set out i 165) ≡ replicate (i + 1) 165
@@ -136,3 +152,8 @@ after-seal st script out′ at n from size h e f z p =
     let k : size - 17 ≡ n = omega arith in
     after-question st script out′ at from h (seal (replicate (size - 17) 165)) (λ more. rw (e, k, f))
     (rw (e, k, length-replicate {A = ℕ} n 165)) (omega arith) p
+
+pub after-index : (st : State) (script out′ : List ℕ) (at from : ℕ) (h : Head) → h ≡ Index → from ≡ at + 1 →
+    Replied (wordsOf st) index out′ → CallPost st script at h from st out′
+after-index st script out′ at from h e f p =
+    after-question st script out′ at from h index (λ more. rw (e, f)) (rw e) (omega arith) p

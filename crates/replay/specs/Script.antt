@@ -5,13 +5,18 @@ use mathlib.Core.List.{List, [], _∷_, _++_}
 use mathlib.Core.Bool.{Bool}
 use lib.Dec.{leb, ltb, eqb}
 use lib.ListN.{length, take, drop, replicate}
+use lib.Ieee.{binary64, toBits}
 use Rattle.rules.specs.declared.Opening.{Opening}
 use Rattle.rules.specs.declared.Answer.{Answer}
 use Rattle.rules.specs.declared.Answer.the-variants.{Done, Refused}
+use Rattle.rules.specs.declared.IndexAnswer.{IndexAnswer}
+use Rattle.rules.specs.declared.IndexAnswer.the-variants as of-index
+use Rattle.rules.specs.declared.Index as of-rules
+use Rattle.index.specs.Counts.{NoNan}
 use Rattle.rules.specs.Bytes.{pick, byte, word32, bytesOf}
 use Rattle.rules.specs.Opening.{openAnswer}
-use Rattle.rules.specs.Calls.{Question, seal, Reply, sealedInto, Call, feedCapture, feedLuma, ask, Outcome, fed}
-use Rattle.rules.specs.Calls.{replied, expected}
+use Rattle.rules.specs.Calls.{Question, seal, index, Reply, sealedInto, indexed, Call, feedCapture, feedLuma, ask}
+use Rattle.rules.specs.Calls.{Outcome, fed, replied, expected}
 use Rattle.capture.specs.State.{Arrays}
 use Rattle.capture.specs.Contract as side-capture
 use Rattle.luma.specs.Contract as side-luma
@@ -19,7 +24,7 @@ use Rattle.sample.specs.State.{State, Words}
 use Rattle.sample.specs.Contract.{Asked}
 use Rattle.sample.specs.Calls.{Ran, Runs}
 use Rattle.replay.specs.declared.reading.Head.{Head}
-use Rattle.replay.specs.declared.reading.Head.the-variants.{Stop, Capture, Luma, Seal}
+use Rattle.replay.specs.declared.reading.Head.the-variants.{Stop, Capture, Luma, Seal, Index}
 
 -- ---- what a script says
 
@@ -37,9 +42,10 @@ unfoldable pub headBy : ℕ → ℕ → ℕ → Head
 headBy left kind n =
     pick (ltb left 5) Stop (pick (eqb kind 83) (Seal n) (pick (ltb (left - 5) n) Stop (pick (eqb kind 67) (Capture n) (pick (eqb kind 76) (Luma n) Stop))))
 
--- the head that the script has at a place
+-- the head that the script has at a place: I is a call by itself
 abbrev pub headAt : List ℕ → ℕ → Head
-headAt script at = headBy (length script - at) (byte script at) (word32 script (at + 1))
+headAt script at =
+    pick (eqb (byte script at) 73) Index (headBy (length script - at) (byte script at) (word32 script (at + 1)))
 
 -- the calls from a place on, of which the first has this head
 abbrev pub callsWith : Head → List ℕ → ℕ → (ℕ → List Call) → List Call
@@ -47,6 +53,7 @@ callsWith Stop script at more = []
 callsWith (Capture n) script at more = feedCapture (take n (drop (at + 5) script)) ∷ more (at + 5 + n)
 callsWith (Luma n) script at more = feedLuma (take n (drop (at + 5) script)) ∷ more (at + 5 + n)
 callsWith (Seal n) script at more = ask (seal (replicate n 0xA5)) ∷ more (at + 5)
+callsWith Index script at more = ask index ∷ more (at + 1)
 
 -- at most as many calls as the first number says
 unfoldable pub callsBy : ℕ → List ℕ → ℕ → List Call
@@ -78,9 +85,20 @@ secondOf (Refused number place) = place
 unfoldable pub code : Answer → List ℕ
 code a = kindOf a ∷ bytesOf 8 (firstOf a) ++ bytesOf 8 (secondOf a)
 
+-- a byte of its kind and three times eight bytes
+unfoldable pub threeWords : ℕ → ℕ → ℕ → ℕ → List ℕ
+threeWords kind a b c = kind ∷ bytesOf 8 a ++ bytesOf 8 b ++ bytesOf 8 c
+
+-- an index's 25 bytes: the bits of Ic, Ip and the index; or the refusal's number, its place and 0
+abbrev pub indexCode : IndexAnswer → List ℕ
+indexCode (of-index.Given i) =
+    threeWords 0 (toBits binary64 (i .ic)) (toBits binary64 (i .ip)) (toBits binary64 (i .value))
+indexCode (of-index.Refused number place) = threeWords 1 number place 0
+
 -- a question's reply. Of a seal: its answer and the whole buffer behind it
 abbrev pub replyCode : Reply → List ℕ
 replyCode (sealedInto a buffer) = code a ++ buffer
+replyCode (indexed a) = indexCode a
 
 -- a call's outcome
 abbrev pub codeOf : Outcome → List ℕ
@@ -95,6 +113,7 @@ codes (o ∷ os) = codeOf o ++ codes os
 -- how many bytes a question's reply takes, and a call's outcome
 abbrev pub replyRoom : Question → ℕ
 replyRoom (seal buffer) = 17 + length buffer
+replyRoom index = 25
 
 abbrev pub roomOf : Call → ℕ
 roomOf (feedCapture piece) = 17
@@ -112,6 +131,7 @@ nextOf Stop at = at + 5
 nextOf (Capture n) at = at + 5 + n
 nextOf (Luma n) at = at + 5 + n
 nextOf (Seal n) at = at + 5
+nextOf Index at = at + 1
 
 -- the bytes that the opening's answer and the outcomes of all calls take
 abbrev pub roomFor : List ℕ → ℕ
@@ -135,6 +155,7 @@ sizeOf Stop = 0
 sizeOf (Capture n) = 17
 sizeOf (Luma n) = 17
 sizeOf (Seal n) = 17 + n
+sizeOf Index = 25
 
 -- a feed of the capture side, and its code
 pub record FedCapture (capture : Arrays) (piece : List ℕ) (capture′ : Arrays) (out′ : List ℕ) : Type 0 where
@@ -153,6 +174,17 @@ pub record Replied (w : Words) (q : Question) (out′ : List ℕ) : Type 0 where
   pub reply : Reply
   pub post : Asked w q reply
   pub wrote : out′ ≡ replyCode reply
+
+-- an index that is asked for, whatever stands in the other arrays, and the code of its answer
+abbrev pub IndexReplied : List ℕ → List ℕ → List ℕ → Type 0
+IndexReplied numbers luma out′ =
+    (walk kept table : List ℕ) →
+    Replied (record { capture = record { walk = walk; kept = kept; numbers = numbers; table = table }; luma = luma })
+    index out′
+
+-- the three of an index that is given have bits
+abbrev pub HasBits : IndexAnswer → Type 0
+HasBits a = (i : of-rules.Index) → a ≡ of-index.Given i → NoNan i
 
 -- a call's head stands there, and its outcome takes n bytes
 pub record Called (script : List ℕ) (at : ℕ) (h : Head) (n : ℕ) : Type 0 where

@@ -1,12 +1,13 @@
 // Runs a whole list of calls that a script of bytes holds, all after one opening, and writes what they come to. A
-// script: the 32-bit little-endian words W, H, d, PID and a rule edition; then calls. A call: byte C or L, a 32-bit
-// length n and n bytes, a feed of that side; or byte S and a 32-bit length n, a seal into n bytes of 0xA5. Where the
-// script ends inside a call, or where another byte stands, the list ends.
+// script: the 32-bit little-endian words W, H, d, PID and the rule edition; then calls. A call: byte C or L, a 32-bit
+// length n and n bytes, a feed of that side; byte S and a 32-bit length n, a seal into n bytes of 0xA5; or byte I, the
+// index. Where the script ends inside a call, or where another byte stands, the list ends.
 ghost use mathlib.Core.Path.{_≡_};
 ghost use Prim.Native.Nat.{_-_, _≤_};
 ghost use lib.ListN.{length, replicate};
 ghost use Rattle.rules.specs.Calls.{seal};
-ghost use Rattle.replay.specs.Script.{FedCapture, FedLuma, Replied, Called, CallPost, All, Replayed};
+ghost use Rattle.replay.specs.Script.{FedCapture, FedLuma, Replied, IndexReplied, Called, CallPost};
+ghost use Rattle.replay.specs.Script.{All, Replayed};
 
 mod reading;
 mod writing;
@@ -19,6 +20,7 @@ use crate::reading::size;
 use crate::reading::wide;
 use crate::writing::fill;
 use crate::writing::put;
+use crate::writing::put_index;
 use capture::Numbers;
 use capture_units::Table;
 use capture_walk::Collected;
@@ -73,6 +75,14 @@ fn call_seal(
     put(out, a);
 }
 
+fn call_index(numbers: &Numbers, luma: &[u64; 1600], out: &mut [u8])
+    requires { ⌜ length (now out) ≡ 25 ⌝ }
+    ensures { λ _. ⌜ IndexReplied (now (numbers .entry)) (now (luma .entry)) (now (out .exit)) ⌝ }
+{
+    let a = sample::index(numbers, luma);
+    put_index(out, a);
+}
+
 // The call whose head h stands at `at`: where the next one stands.
 fn call(
     walk: &mut WalkWords,
@@ -94,6 +104,10 @@ fn call(
     let from = at + 5;
     match h {
         Head::Stop => from,
+        Head::Index => {
+            call_index(numbers, luma, out);
+            at + 1
+        }
         Head::Seal(_) => {
             call_seal(walk, kept, numbers, table, luma, out);
             from

@@ -12,6 +12,7 @@ pub enum Head {
     Capture(u32),
     Luma(u32),
     Seal(u32),
+    Index,
 }
 
 pub fn wide(n: u32) -> usize
@@ -74,12 +75,16 @@ pub fn head_at(script: &[u8], at: usize) -> Head
     requires { ⌜ at < length (now script) ⌝ }
     ensures { λ r. ⌜ r ≡ headAt (now (script .entry)) at ⌝ }
 {
+    let kind = script[at];
+    if kind == 73 {
+        return Head::Index;
+    }
     let left = script.len() - at;
     if left < 5 {
         return Head::Stop;
     }
     let n = words::word32(script, at + 1);
-    head_by(left, script[at], n)
+    head_by(left, kind, n)
 }
 
 // How many bytes the call's outcome takes, 0 of no call.
@@ -91,6 +96,7 @@ pub fn size(h: Head) -> usize
         Head::Capture(_) => 17,
         Head::Luma(_) => 17,
         Head::Seal(n) => 17 + wide(n),
+        Head::Index => 25,
     }
 }
 
@@ -102,6 +108,7 @@ fn next_at(at: usize, h: Head) -> usize
     let from = at + 5;
     match h {
         Head::Stop => from,
+        Head::Index => at + 1,
         Head::Seal(_) => from,
         Head::Capture(n) => from + wide(n),
         Head::Luma(n) => from + wide(n),

@@ -1,7 +1,9 @@
 // Runs a script of calls from standard input, and prints a line for each: what a call answered and, of a seal, its whole buffer afterwards.
 //
-// The script: five 32-bit little-endian words W, H, d, PID and the rule edition, then calls. `C` or `L`, a 32-bit length and as many bytes: a feed of that side.
-// `S` and a 32-bit length: a seal into a buffer of so many bytes, each 0xA5 before. Anything else, or the end of the script inside a call, ends the run.
+// The script: five 32-bit little-endian words W, H, d, PID and the rule edition, then calls. `C` or `L`, a 32-bit
+// length and as many bytes: a feed of that side. `S` and a 32-bit length: a seal into a buffer of so many bytes, each
+// 0xA5 before. `I`: the index, whose bits are printed. Anything else, or the end of the script inside a call, ends the
+// run.
 use capture::Numbers;
 use capture_units::Table;
 use capture_walk::Collected;
@@ -9,6 +11,7 @@ use capture_walk::WalkWords;
 use libc::STDIN_FILENO;
 use libc::STDOUT_FILENO;
 use rules::Answer;
+use rules::IndexAnswer;
 use rules::Opening;
 
 // The opening; answers whether its words were there.
@@ -62,6 +65,17 @@ fn run_seal(
     program_text::print_answer(b"seal", b"seal refused", a, b" ");
     program_text::print_hex(buffer);
     io::write_all(STDOUT_FILENO, b"\n");
+    true
+}
+
+fn run_index(numbers: &Numbers, luma: &[u64; 1600]) -> bool {
+    match sample::index(numbers, luma) {
+        IndexAnswer::Given(i) => program_text::print_bits(b"index", index::index_bits(i)),
+        IndexAnswer::Refused { number, place } => {
+            let a = Answer::Refused { number, place };
+            program_text::print_answer(b"", b"index refused", a, b"\n");
+        }
+    }
     true
 }
 
@@ -120,13 +134,20 @@ fn run_call(
     picture: &mut [u8; 14104],
     piece: &mut [u8],
 ) -> bool {
-    let mut head = [0u8; 5];
-    if io::read_full(STDIN_FILENO, &mut head) < 5 {
+    let mut kind = [0u8; 1];
+    if io::read_full(STDIN_FILENO, &mut kind) < 1 {
         return false;
     }
-    let length = words::word32(&head, 1);
-    let kind = head[0];
-    match kind {
+    if kind[0] == 73 {
+        return run_index(numbers, luma);
+    }
+    let mut word = [0u8; 4];
+    if io::read_full(STDIN_FILENO, &mut word) < 4 {
+        return false;
+    }
+    let length = words::word32(&word, 0);
+    let side = kind[0];
+    match side {
         67 => feed_capture(walk, kept, numbers, table, piece, length),
         76 => feed_luma(luma, sums, bins, picture, piece, length),
         83 => run_seal(walk, kept, numbers, table, luma, length),

@@ -6,10 +6,12 @@ use borrow.Author.Tests.{lt-ltb}
 use mathlib.Core.Path.{_≡_, refl}
 use mathlib.Core.List.{List, [], _∷_, _++_, map}
 use lib.ListN.{length, replicate, set, drop}
-use lib.Ieee.{add, mul, div, ofInt, toBits}
+use lib.Ieee.{binary64, add, mul, div, ofInt, toBits}
 use Rattle.rules.specs.declared.Opening.{Opening}
 use Rattle.rules.specs.declared.Answer.{Answer}
 use Rattle.rules.specs.declared.Answer.the-variants.{Done, Refused}
+use Rattle.rules.specs.declared.IndexAnswer.{IndexAnswer}
+use Rattle.rules.specs.declared.IndexAnswer.the-variants as of-index
 use Rattle.rules.specs.Refusals.{Fault, none, fault}
 use Rattle.rules.specs.Bytes.{word32, word64, network16, bytesOf, total, greatestOf, leastOf, count, only, table, parts, endToEnd}
 use Rattle.rules.specs.Editions.{isEdition, heedsSplices, roundsToNearest, knowsDamage}
@@ -32,7 +34,7 @@ use Rattle.rules.specs.Record.{le32, recordLength, sceneOffset, headerBy
 use Rattle.rules.specs.Reading.{scenePlace, unitPlace, allowedHeader, allowedUnit, allowedUnits, allowedScene, allowedScenes, allowedRows, allowed, readingFault, rowFault, unitFault, sceneFault}
 use Rattle.rules.specs.Seal.{reduced, scenesIn, scenes, unrepeated, indexFrom, index, header, sealed, sealedLength, captureUnfinished, noPacket, lumaUnfinished, noPicture, noRoom, sealFault, captureAnswer, lumaAnswer, sealAnswer, over, sealedBuffer}
 use Rattle.rules.specs.Calls.{Call, feedCapture, feedLuma, ask, seal, Outcome, fed, replied, Reply, sealedInto}
-use Rattle.rules.specs.Calls.{expected}
+use Rattle.rules.specs.Calls.{indexed, expected}
 use Rattle.rules.proofs.Worked.{Case}
 
 -- ---- the parts that samples are made of
@@ -70,7 +72,7 @@ splicedOf pid n m = 0x47 ∷ (pid / 256) ∷ (pid % 256) ∷ (0x30 + n) ∷ m �
 abbrev pub openedBy : ℕ → ℕ → ℕ → ℕ → ℕ → Opening
 openedBy e w h d p = record { width = w; height = h; time = d; pid = p; edition = e }
 
-abbrev opened : ℕ → ℕ → ℕ → ℕ → Opening
+abbrev pub opened : ℕ → ℕ → ℕ → ℕ → Opening
 opened w h d p = openedBy 1 w h d p
 
 -- what is lost in all, under an edition, of packets with the counters 3, 9 and 11, the second with an indicator in m bytes
@@ -94,8 +96,14 @@ abbrev pub told : Answer → List ℕ
 told (Done n) = 0 ∷ n ∷ []
 told (Refused k p) = k ∷ p ∷ []
 
+-- of an index: 0 and the bits of Ic, Ip and the index
+abbrev toldIndex : IndexAnswer → List ℕ
+toldIndex (of-index.Given i) = 0 ∷ toBits binary64 (i .ic) ∷ toBits binary64 (i .ip) ∷ toBits binary64 (i .value) ∷ []
+toldIndex (of-index.Refused k p) = k ∷ p ∷ []
+
 abbrev toldIn : Reply → List ℕ
 toldIn (sealedInto a buffer) = told a ++ buffer
+toldIn (indexed a) = toldIndex a
 
 abbrev toldOf : Outcome → List ℕ
 toldOf (fed a) = told a
@@ -105,18 +113,18 @@ abbrev pub toldFault : Fault → List ℕ
 toldFault none = 0 ∷ 0 ∷ []
 toldFault (fault k p) = k ∷ p ∷ []
 
-run : Opening → List Call → List ℕ
+unfoldable pub run : Opening → List Call → List ℕ
 run o cs = told (openAnswer o) ++ endToEnd (map toldOf (expected o [] [] cs))
 
 -- the opening of the small samples: the least picture, 15 by 30, and the longest display time
-abbrev small : Opening
+abbrev pub small : Opening
 small = opened 15 30 200000 256
 
 -- a capture of one frame with one packet of PID, and a picture of one value
-oneFrame : List ℕ
+unfoldable pub oneFrame : List ℕ
 oneFrame = goodHeader ++ frameWith 10 5 1 (packetOf 256 0x40 0)
 
-picture : ℕ → List ℕ
+unfoldable pub picture : ℕ → List ℕ
 picture v = replicate 450 v
 
 -- n packets of PID with start marks, one behind the other, as far as they show what they are

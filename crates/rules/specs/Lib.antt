@@ -18,6 +18,7 @@ pub mod Index
 pub mod Record
 pub mod Reading
 pub mod Seal
+pub mod WhileFeeding
 pub mod Calls
 pub mod Digits
 pub mod Sheet

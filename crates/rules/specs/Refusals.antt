@@ -3,6 +3,7 @@
 --   capture  4 Capture.tooLong, 5 Capture.wrongMagic, 6 Capture.wrongLink, 7 and 8 Capture.wrongFrameHeader, 9 Capture.tooManyUnits (beginsAt)
 --   luma     10 Pictures.lumaFault
 --   seal     11 Seal.captureUnfinished, 12 Seal.noPacket, 13 Seal.lumaUnfinished, 14 Seal.noPicture, 15 Seal.noRoom
+--   index    the opening's, 4 to 10, 12, 14: WhileFeeding.indexFault
 --   reading  16, 17, 18 Reading.readingFault, 19 Reading.rowFault
 --   sheet    16, 17, 18, then 15: Sheet.sheetAnswer
 --   survey   4 to 8, then 11, then 21: Survey.surveyFault (21 Survey.noGood)

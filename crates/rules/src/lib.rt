@@ -87,6 +87,12 @@ pub enum SceneAnswer {
     Refused { number: u64, place: u64 },
 }
 
+// What an index call answers (document 02, R-7): the index with its two parts, or a refusal.
+pub enum IndexAnswer {
+    Given(Index),
+    Refused { number: u64, place: u64 },
+}
+
 // What a survey answers: the identifier with most good packets and how many it has, or a refusal (document 02, R-4).
 pub enum SurveyAnswer {
     Most { identifier: u64, count: u64 },

@@ -2,4 +2,5 @@ pub mod Lists
 pub mod Opened
 pub mod Sealing
 pub mod Writing
+pub mod WhileFeeding
 pub mod ReadBack

@@ -30,7 +30,7 @@ use Rattle.sample.specs.Contract.{Leaves, SealPost, Ready, WritePost}
 
 -- ---- refusals one after the other
 
-either : (a b c : Fault) → a orElse (b orElse c) ≡ (a orElse b) orElse c
+pub either : (a b c : Fault) → a orElse (b orElse c) ≡ (a orElse b) orElse c
 either none b c = refl
 either (fault k p) b c = refl
 

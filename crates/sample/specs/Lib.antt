@@ -1,4 +1,5 @@
 pub mod State
 pub mod Contract
+pub mod WhileFeeding
 pub mod Calls
 pub mod ReadBack

@@ -1,5 +1,6 @@
 // A stream sample: opened, fed on two sides, sealed. Its state is memory that the caller lends, in arrays of fixed sizes: the capture side's walk words,
 // collected bytes, numbers and table of units, and the luma side's words, block sums, bins and picture. Every call is safe and ends on any contents of them, and expects no checking by its caller.
+ghost use Prim.Native.Nat.{_%_, _^_};
 ghost use mathlib.Core.Path.{_≡_};
 ghost use mathlib.Core.Bool.{not};
 ghost use lib.Dec.{T};
@@ -8,7 +9,11 @@ ghost use Rattle.rules.specs.Refusals.{listed};
 ghost use Rattle.rules.specs.Index.{indexBits};
 ghost use Rattle.capture.specs.Contract as side-capture;
 ghost use Rattle.luma.specs.Contract as side-luma;
-ghost use Rattle.sample.specs.Contract.{OpenPost, SealPost, IndexIn, headerBy, WritePost};
+ghost use Rattle.index.specs.Counts.{IndexFrom};
+ghost use Rattle.sample.specs.Contract.{OpenPost, SealPost, headerBy, WritePost};
+
+mod while_feeding;
+
 use capture::Numbers;
 use capture::Summary;
 use capture_units::Table;
@@ -18,6 +23,7 @@ use rules::Answer;
 use rules::Header;
 use rules::Index;
 use rules::Opening;
+pub use while_feeding::index;
 
 // Opens a sample, and answers Done with 0, or refusal 1, 2 or 3, which its feeds and seals then repeat.
 pub fn open(
@@ -83,15 +89,16 @@ fn refused(number: u64, place: u64) -> Answer
     }
 }
 
-// The index of what was fed, from what the two sides count; zeros of counts that no sample has.
-fn index_in(c: Summary, l: luma::Summary) -> Index
-    ensures { λ r. ⌜ IndexIn c l r ⌝ }
+// The index of what was fed, from what the two sides count: a seal and an index call take it here. Zeros of counts
+// that no sample has.
+fn index_in(unrepeated: u64, pictures: u64, packets: u64, lost: u64) -> Index
+    ensures { λ r. ⌜ IndexFrom (unrepeated % 2 ^ 32) (pictures % 2 ^ 32) (packets % 2 ^ 32) (lost % 2 ^ 32) r ⌝ }
 {
-    let unrepeated = figures::low(l.fresh);
-    let pictures = figures::low(l.pictures);
-    let packets = figures::low(c.packets);
-    let lost = figures::low(c.lost);
-    index::index_from(unrepeated, pictures, packets, lost)
+    let u = figures::low(unrepeated);
+    let n = figures::low(pictures);
+    let p = figures::low(packets);
+    let l = figures::low(lost);
+    index::index_from(u, n, p, l)
 }
 
 // The header's figures, with so many pictures and scenes, and with the index's bits.
@@ -139,7 +146,7 @@ fn write(
     if buffer.len() < size {
         return refused(15, size as u64);
     }
-    let i = index_in(c, l);
+    let i = index_in(l.fresh, l.pictures, c.packets, c.lost);
     let h = header_of(o, c, n as u32, scenes as u32, i);
     sealing::write_record(buffer, table, luma, h);
     Answer::Done(size as u64)

@@ -52,6 +52,9 @@ pub struct Capture<T> {
     stored_length: usize,
     cells_left: usize,
     padding: usize,
+    /// The head of the last cell that didn't come at once, and the offset at which this cell ends.
+    cut_head: [u8; CELL_HEAD],
+    cut_cell_end: usize,
     refusal: Option<Refusal>,
     pub records: u32,
     pub passed_over: u32,
@@ -70,6 +73,8 @@ impl<T: TakeCells> Capture<T> {
             stored_length: 0,
             cells_left: 0,
             padding: 0,
+            cut_head: [0; CELL_HEAD],
+            cut_cell_end: 0,
             refusal: None,
             records: 0,
             passed_over: 0,
@@ -89,6 +94,11 @@ impl<T: TakeCells> Capture<T> {
     /// Whether the bytes end behind the file header or behind a record.
     pub fn between_records(&self) -> bool {
         self.field == Field::Time && self.skip == 0 && self.held == 0
+    }
+
+    /// The head of the cell that was taken in by its head but isn't whole yet.
+    pub fn unfinished_cell(&self) -> Option<&[u8; CELL_HEAD]> {
+        (self.taken < self.cut_cell_end).then_some(&self.cut_head)
     }
 
     /// Feeds one piece: its length, or refusal 4 to 9.
@@ -158,6 +168,8 @@ impl<T: TakeCells> Capture<T> {
             Field::StoredLength => self.begin_record(word(0) as usize),
             Field::FrameHead => self.begin_frame(bytes),
             Field::CellHead => {
+                self.cut_head.copy_from_slice(bytes);
+                self.cut_cell_end = self.taken + CELL - CELL_HEAD;
                 if self.cells.take_head(self.time, bytes).map_err(|TooManyUnits| self.refused_here(9))? {
                     self.expect(0, Field::Adaptation);
                 } else {

@@ -68,6 +68,23 @@ impl SampleCells {
     }
 }
 
+impl SampleCells {
+    /// Cells and lost over all units, without a cell that isn't whole yet.
+    pub fn whole(&self, unfinished: Option<&[u8; CELL_HEAD]>) -> (u32, u32) {
+        let (cells, lost) = self.units.totals();
+        match unfinished {
+            Some(head) if self.counts(head) => (cells - 1, lost - self.units.last_lost()),
+            _ => (cells, lost),
+        }
+    }
+
+    /// Whether a cell is counted in a unit.
+    fn counts(&self, head: &[u8]) -> bool {
+        let trusted = kind(head) == Kind::Good || (kind(head) == Kind::Damaged && self.trusting);
+        trusted && identifier(head) == self.pid
+    }
+}
+
 impl TakeCells for SampleCells {
     #[inline]
     fn take_head(&mut self, time: u64, head: &[u8]) -> Result<bool, TooManyUnits> {

@@ -2,6 +2,7 @@
 
 use crate::lent::print_call;
 use crate::opening::Refusal;
+use crate::record::Index;
 use crate::sample::Sample;
 use crate::script::{read_call, read_opening, read_survey_call, Call};
 use crate::survey::{Found, Survey};
@@ -20,6 +21,7 @@ pub fn replay(mut script: impl Read, mut out: impl Write) -> io::Result<()> {
         match call {
             Call::Capture(piece) => print_feed(&mut out, "capture", sample.feed_capture(&piece))?,
             Call::Luma(piece) => print_feed(&mut out, "luma", sample.feed_luma(&piece))?,
+            Call::Index => print_index(&mut out, sample.index())?,
             Call::Seal(room) => print_call(&mut out, "seal", room, |buffer| sample.seal(buffer))?,
         }
     }
@@ -38,6 +40,13 @@ pub fn replay_survey(mut script: impl Read, mut out: impl Write) -> io::Result<(
         }
     }
     out.flush()
+}
+
+fn print_index(out: &mut impl Write, answer: Result<Index, Refusal>) -> io::Result<()> {
+    match answer {
+        Ok(index) => writeln!(out, "index {:016X}", index.index.to_bits()),
+        Err(Refusal { number, place }) => writeln!(out, "index refused {number} {place}"),
+    }
 }
 
 fn print_feed(out: &mut impl Write, side: &str, answer: Result<usize, Refusal>) -> io::Result<()> {

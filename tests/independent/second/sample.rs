@@ -40,6 +40,22 @@ impl Sample {
         self.sides.as_mut().map_err(|refusal| *refusal)?.luma.feed(piece)
     }
 
+    /// The index of all whole pictures and all whole cells: refusals of the opening, 4 to 10, 12, 14.
+    pub fn index(&self) -> Result<Index, Refusal> {
+        let Sides { capture, luma } = &**self.sides.as_ref().map_err(|&refusal| refusal)?;
+        if let Some(refusal) = capture.refusal().or(luma.refusal()) {
+            return Err(refusal);
+        }
+        let (cells, lost) = capture.cells.whole(capture.unfinished_cell());
+        if cells == 0 {
+            return Err(Refusal::unplaced(12));
+        }
+        if luma.film.pictures() == 0 {
+            return Err(Refusal::unplaced(14));
+        }
+        Ok(Index::new(luma.film.unrepeated(), luma.film.pictures(), cells, lost))
+    }
+
     /// Seals into a buffer: the record's length, or the first of all refusals that hold.
     pub fn seal(&self, buffer: &mut [u8]) -> Result<usize, Refusal> {
         lent::fill(buffer, &self.record()?)
@@ -51,8 +67,7 @@ impl Sample {
         sides.ready()?;
         let Sides { capture, luma } = &**sides;
         let units = capture.cells.units.rows();
-        let cells = units.iter().map(|unit| unit.cells).sum();
-        let lost = units.iter().map(|unit| unit.lost).sum();
+        let (cells, lost) = capture.cells.units.totals();
         let index = Index::new(luma.film.unrepeated(), luma.film.pictures(), cells, lost);
         let figures = Figures {
             opening: self.opening,
@@ -233,6 +248,47 @@ mod tests {
         let record = sample.record().unwrap();
         assert_eq!(show(&record).lines().nth(1), Some("unit 0 2000005 2000005 184 1 0"));
         assert_eq!((record[52], record[64 + 28]), (2, 1));
+    }
+
+    /// Request R-7, byte by byte from several places on.
+    #[test]
+    fn the_index_counts_whole_cells_and_whole_pictures() {
+        for edition in [1, 2] {
+            let capture = spliced_capture([0x30, 1, 0x80]);
+            let lost = if edition == 1 { 4.0 } else { 0.0 };
+            let first_end = capture.len() - 188;
+            for start in [0, 41, first_end - 188, first_end - 4, first_end, first_end + 3] {
+                let mut sample = Sample::open(Opening { edition, ..OPENING });
+                assert_eq!(sample.index(), Err(Refusal::unplaced(12)));
+                sample.feed_luma(&[0; 899]).unwrap();
+                sample.feed_capture(&capture[..start]).unwrap();
+                for fed in start..capture.len() {
+                    let refusal = if fed < first_end { 12 } else { 14 };
+                    assert_eq!(sample.index(), Err(Refusal::unplaced(refusal)), "{fed} bytes");
+                    sample.feed_capture(&capture[fed..=fed]).unwrap();
+                }
+                sample.feed_luma(&[0]).unwrap();
+                let index = sample.index().unwrap();
+                assert_eq!((index.continuity, index.packets), (4.0, 2.0 / (2.0 + lost)));
+                assert_eq!(index.index.to_bits().to_le_bytes(), sample.record().unwrap()[56..64]);
+                let mut shorter = Sample::open(Opening { edition, ..OPENING });
+                shorter.feed_luma(&[0; 901]).unwrap();
+                shorter.feed_capture(&capture[..capture.len() - 1]).unwrap();
+                assert_eq!(shorter.index().unwrap().packets, 1.0);
+            }
+        }
+    }
+
+    #[test]
+    fn refusals_of_the_index_come_in_their_order() {
+        let mut sample = Sample::open(Opening { edition: 5, ..OPENING });
+        let _ = sample.feed_capture(&[0; 24]);
+        assert_eq!(sample.index(), Err(Refusal::unplaced(20)));
+        let mut sample = Sample::open(Opening { width: 15, ..OPENING });
+        assert_eq!(sample.feed_luma(&vec![0; 450 * 751]), Err(Refusal::at(10, 337_500)));
+        assert_eq!(sample.index(), Err(Refusal::at(10, 337_500)));
+        let _ = sample.feed_capture(&[0; 24]);
+        assert_eq!(sample.index(), Err(Refusal::at(5, 3)));
     }
 
     #[test]

@@ -13,6 +13,8 @@ pub enum Call {
     Luma(Vec<u8>),
     /// A seal into a buffer of so many bytes.
     Seal(usize),
+    /// The index of what was fed so far.
+    Index,
 }
 
 /// The opening's values; nothing if the script ends within the five words.
@@ -32,6 +34,7 @@ pub fn read_call(script: &mut impl Read) -> Option<Call> {
         b'C' => read_piece(script).map(Call::Capture),
         b'L' => read_piece(script).map(Call::Luma),
         b'S' => read_length(script, LONGEST_BUFFER).map(Call::Seal),
+        b'I' => Some(Call::Index),
         _ => None,
     }
 }
@@ -79,6 +82,7 @@ pub fn write_call(script: &mut impl Write, call: &Call) -> io::Result<()> {
         Call::Capture(piece) => (b'C', piece.len(), &piece[..]),
         Call::Luma(piece) => (b'L', piece.len(), &piece[..]),
         Call::Seal(length) => (b'S', *length, &[][..]),
+        Call::Index => return script.write_all(b"I"),
     };
     script.write_all(&[letter])?;
     script.write_all(&(length as u32).to_le_bytes())?;

@@ -37,6 +37,17 @@ impl Units {
         &self.rows
     }
 
+    /// Cells and lost of all rows together.
+    pub fn totals(&self) -> (u32, u32) {
+        let cells = self.rows.iter().map(|unit| unit.cells).sum();
+        (cells, self.rows.iter().map(|unit| unit.lost).sum())
+    }
+
+    /// What the last counted cell added to lost.
+    pub fn last_lost(&self) -> u32 {
+        self.last_lost
+    }
+
     /// Takes in one cell of PID, carried by a record of this time.
     #[inline]
     pub fn take_cell(&mut self, time: u64, start_mark: bool, counter: u8) -> Result<(), TooManyUnits> {

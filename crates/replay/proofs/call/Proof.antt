@@ -4,7 +4,7 @@ use mathlib.Core.Path.{refl, sym, ap, _∙_}
 use borrow.Author.Needs.{needs}
 use Rattle.replay.specs.Script.{sizeOf}
 use Rattle.replay.proofs.Laws.{fits-capture, fits-luma}
-use Rattle.replay.proofs.Outcomes.{after-capture, after-luma, after-seal}
+use Rattle.replay.proofs.Outcomes.{after-capture, after-luma, after-seal, after-index}
 use Rattle.replay.proofs.call.Statement.{statement}
 use Rattle.replay.proofs.call.Tie as tie
 
@@ -17,8 +17,21 @@ enum-told c = search needs
 enum-told-2 : tie.Need-enum-told-2
 enum-told-2 c = search needs
 
+call-index-requires : tie.Need-call-index-requires
+call-index-requires c κs =
+    let told = c .before .before .before in
+    told .before .before .before .before .pre .size ∙ ap sizeOf (told .enum-told2 .given .1)
+
+add-result : tie.Need-add-result
+add-result c = search needs
+
+enum-told-3 : tie.Need-enum-told-3
+enum-told-3 c = search needs
+
 call-seal-requires : tie.Need-call-seal-requires
-call-seal-requires c κs = omega (arith, c .before .before .before .before .before .before .before .before .before .before .pre .size ∙ ap sizeOf (c .before .before .before .before .before .before .enum-told2 .given .1))
+call-seal-requires c κs =
+    let told = c .before .before .before .before .before .before in
+    omega (arith, told .before .before .before .before .pre .size ∙ ap sizeOf (told .enum-told3 .given .1))
 
 enum-known-h : tie.Need-enum-known-h
 enum-known-h c = search needs
@@ -70,22 +83,36 @@ same-length c = search needs
 
 returns-2 : tie.Need-returns-2
 returns-2 c =
-    let is = c .before .before .before .before .before .before .before .before .before .enum-told2 .given .1 in
-    after-seal _ _ _ _ _ _ _ _ is refl (c .before .before .before .before .before .before .before .before .before .before .before .before .before .pre .size ∙ ap sizeOf is) (c .before .before .call-seal .ensures)
+    let told = c .before .before .before .before .before .before in
+    after-index _ _ _ _ _ _ (told .enum-told2 .given .1) refl (c .before .before .call-index .ensures _ _ _)
 
 same-length-2 : tie.Need-same-length-2
 same-length-2 c = search needs
 
 returns-3 : tie.Need-returns-3
 returns-3 c =
-    after-capture _ _ _ _ _ _ _ _ _ _ _ _ _ (c .before .before .before .before .before .before .before .before .before .before .before .h .given .1) refl (rw (c .before .before .before .before .before .before .before .before .before .wide .ensures)) (c .before .before .call-capture .ensures)
+    let told = c .before .before .before .before .before .before .before .before .before in
+    let is = told .enum-told3 .given .1 in
+    after-seal _ _ _ _ _ _ _ _ is refl (told .before .before .before .before .pre .size ∙ ap sizeOf is)
+    (c .before .before .call-seal .ensures)
 
 same-length-3 : tie.Need-same-length-3
 same-length-3 c = search needs
 
 returns-4 : tie.Need-returns-4
 returns-4 c =
-    after-luma _ _ _ _ _ _ _ _ _ _ _ _ _ _ _ _ (c .before .before .before .before .before .before .before .before .before .before .before .h2 .given .1) refl (rw (c .before .before .before .before .before .before .before .before .before .wide2 .ensures)) (c .before .before .call-luma .ensures)
+    let wide = c .before .before .before .before .before .before .before .before .before in
+    after-capture _ _ _ _ _ _ _ _ _ _ _ _ _ (wide .before .before .h .given .1) refl (rw (wide .wide .ensures))
+    (c .before .before .call-capture .ensures)
+
+same-length-4 : tie.Need-same-length-4
+same-length-4 c = search needs
+
+returns-5 : tie.Need-returns-5
+returns-5 c =
+    let wide = c .before .before .before .before .before .before .before .before .before in
+    after-luma _ _ _ _ _ _ _ _ _ _ _ _ _ _ _ _ (wide .before .before .h2 .given .1) refl (rw (wide .wide2 .ensures))
+    (c .before .before .call-luma .ensures)
 
 pub call-spec : {M : Type 1} → statement M
 call-spec =
@@ -94,6 +121,9 @@ call-spec =
     add-from
     enum-told
     enum-told-2
+    call-index-requires
+    add-result
+    enum-told-3
     call-seal-requires
     enum-known-h
     wide-requires
@@ -115,4 +145,6 @@ call-spec =
     same-length-2
     returns-3
     same-length-3
-    returns-4)
+    returns-4
+    same-length-4
+    returns-5)

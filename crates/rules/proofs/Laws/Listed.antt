@@ -59,7 +59,7 @@ Numbered (fault k p) = listed k ≡ k
 
 -- ---- choices keep it
 
-of-pick : (b : Bool) (f g : Fault) → Numbered f → Numbered g → Numbered (pick b f g)
+pub of-pick : (b : Bool) (f g : Fault) → Numbered f → Numbered g → Numbered (pick b f g)
 of-pick true f g x y = x
 of-pick false f g x y = y
 
@@ -159,7 +159,7 @@ pub luma : (o : Opening) (l : List ℕ) → Numbered (lumaFault o l)
 unfolding lumaFault
 luma o l = of-pick (ltb (750 * pictureSize o) (length l)) (fault 10 (750 * pictureSize o)) none refl tt
 
-of-units : (us : List UnitRow) → Numbered (noPacket us)
+pub of-units : (us : List UnitRow) → Numbered (noPacket us)
 unfolding noPacket
 of-units [] = refl
 of-units (u ∷ us) = tt

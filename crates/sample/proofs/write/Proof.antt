@@ -69,7 +69,7 @@ cast-header-of-2 : tie.Need-cast-header-of-2
 cast-header-of-2 c = search needs
 
 header-of-requires : tie.Need-header-of-requires
-header-of-requires c κs = c .index-in .ensures .number
+header-of-requires c κs = c .index-in .ensures .numbers .value
 
 write-record-requires : tie.Need-write-record-requires
 unfolding recordLength

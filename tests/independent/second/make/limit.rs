@@ -87,6 +87,7 @@ fn finish(mut script: impl Write) -> io::Result<()> {
     for piece in [Vec::new(), vec![7], vec![1, 2, 3], Vec::new()] {
         write_call(&mut script, &Call::Capture(piece))?;
         write_call(&mut script, &seal)?;
+        write_call(&mut script, &Call::Index)?;
     }
     write_call(&mut script, &Call::Luma(vec![0; 901]))?;
     write_call(&mut script, &seal)?;

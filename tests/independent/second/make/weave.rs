@@ -1,4 +1,4 @@
-//! Cuts the bytes of both sides into pieces and weaves them, with seals between, into a script.
+//! Cuts the bytes of both sides into pieces and weaves them, with seals and questions between, into a script.
 
 use crate::opening::Opening;
 use crate::prng::Prng;
@@ -107,6 +107,9 @@ pub fn weave(random: &mut Prng, plan: Plan, mut script: impl Write) -> io::Resul
         if feeds > 0 && (at_rest || weaver.random.once_in(plan.seal_every)) {
             weaver.seal()?;
         }
+        if feeds > 0 && weaver.random.once_in(5) {
+            weaver.ask()?;
+        }
     }
     weaver.end()
 }
@@ -155,9 +158,14 @@ impl<W: Write> Weaver<'_, W> {
         let _ = match &call {
             Call::Capture(piece) => self.sample.feed_capture(piece),
             Call::Luma(piece) => self.sample.feed_luma(piece),
-            Call::Seal(_) => Ok(0),
+            Call::Seal(_) | Call::Index => Ok(0),
         };
         Ok(())
+    }
+
+    /// A call that neither feeds nor seals.
+    fn ask(&mut self) -> io::Result<()> {
+        self.call(Call::Index)
     }
 
     /// A seal into no buffer, a buffer of one byte, one too short, one that fits, a longer one.
@@ -180,11 +188,13 @@ impl<W: Write> Weaver<'_, W> {
         for _ in 0..self.random.between(2, 5) {
             self.seal()?;
         }
+        self.ask()?;
         for _ in 0..self.random.below(4) {
             let length = self.random.pick(&[0, 1, 3, 16, 450]);
             let piece = self.random.bytes(length);
             let capture = self.random.once_in(2);
             self.call(if capture { Call::Capture(piece) } else { Call::Luma(piece) })?;
+            self.ask()?;
             self.seal()?;
         }
         self.script.flush()

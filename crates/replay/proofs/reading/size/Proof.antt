@@ -23,6 +23,9 @@ wide-requires c κs = search needs
 add-result : tie.Need-add-result
 add-result c = search needs
 
+enum-told-4 : tie.Need-enum-told-4
+enum-told-4 c = search needs
+
 returns : tie.Need-returns
 returns c = sym (ap sizeOf (c .enum-told .given .1))
 
@@ -35,5 +38,22 @@ returns-3 c = sym (ap sizeOf (c .enum-told3 .given .1))
 returns-4 : tie.Need-returns-4
 returns-4 c = rw (c .wide .ensures) (sym (ap sizeOf (c .before .before .h .given .1)))
 
+returns-5 : tie.Need-returns-5
+returns-5 c = sym (ap sizeOf (c .enum-told4 .given .1))
+
 pub size-spec : {M : Type 1} → statement M
-size-spec = tie.close (tie.spec enum-told enum-told-2 enum-told-3 enum-known-h wide-requires add-result returns returns-2 returns-3 returns-4)
+size-spec =
+    tie.close
+    (tie.spec
+    enum-told
+    enum-told-2
+    enum-told-3
+    enum-known-h
+    wide-requires
+    add-result
+    enum-told-4
+    returns
+    returns-2
+    returns-3
+    returns-4
+    returns-5)

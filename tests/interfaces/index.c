@@ -1,0 +1,74 @@
+/* The index while feeding: its three parts, its refusals in order, and that a refusal leaves them. The exit status is
+ * the number of the first case that does not hold. */
+#include <stdint.h>
+#include <string.h>
+
+#include "carolsedge.h"
+
+static struct carolsedge_sample sample;
+
+/* Whether the index is refused so, and what is lent stands. */
+static int refused(uint32_t number, uint64_t place)
+{
+    struct carolsedge_index index = {7, 8, 9};
+    uint64_t at = 77;
+    return carolsedge_sample_index(&sample, &index, &at) == number && at == place && index.ic == 7 && index.ip == 8 &&
+           index.value == 9;
+}
+
+static int given(double ic, double ip, double value)
+{
+    struct carolsedge_index index;
+    uint64_t at = 77;
+    return carolsedge_sample_index(&sample, &index, &at) == CAROLSEDGE_DONE && at == 0 && index.ic == ic &&
+           index.ip == ip && index.value == value;
+}
+
+int main(void)
+{
+    static const uint8_t magic[4] = {0xD4, 0xC3, 0xB2, 0xA1}, dark[901], bright[899] = {1};
+    static const double third = 1.0 / 3, most = 4.0 * (2.0 / 3);
+    uint8_t capture[24 + 16 + 42 + 376] = {0};
+    uint64_t value;
+
+    memcpy(capture, magic, 4);
+    capture[20] = 1;
+    uint8_t *frame = capture + 24, *body = frame + 16, *cells = body + 42;
+    frame[8] = (42 + 376) & 255, frame[9] = (42 + 376) >> 8;
+    body[12] = 8, body[14] = 0x45, body[16] = (28 + 376) >> 8, body[17] = (28 + 376) & 255, body[23] = 17;
+    body[38] = (8 + 376) >> 8, body[39] = (8 + 376) & 255;
+    cells[0] = cells[188] = 0x47, cells[1] = 0x41, cells[189] = 1, cells[191] = 5;
+
+    carolsedge_sample_open(&sample, 640, 29, 40000, 256, 1);
+    if (!refused(CAROLSEDGE_REFUSED_SIZE, 0))
+        return 1;
+    carolsedge_sample_open(&sample, 30, 30, 40000, 256, 1);
+    if (!refused(CAROLSEDGE_REFUSED_NO_PACKET, 0))
+        return 2;
+    /* all but the last byte of the second packet: an unfinished frame */
+    carolsedge_sample_feed_capture(&sample, capture, sizeof capture - 1, &value);
+    if (!refused(CAROLSEDGE_REFUSED_NO_PICTURE, 0))
+        return 3;
+    /* one picture and a byte of the next */
+    carolsedge_sample_feed_luma(&sample, dark, 901, &value);
+    if (!given(4, 1, 5))
+        return 4;
+    /* the second packet, before which four were lost: two of six */
+    carolsedge_sample_feed_capture(&sample, capture + sizeof capture - 1, 1, &value);
+    if (!given(4, third, 1 + 4 * third))
+        return 5;
+    carolsedge_sample_feed_luma(&sample, bright, 899, &value);
+    carolsedge_sample_feed_luma(&sample, bright, 0, &value);
+    if (!given(4, third, 1 + 4 * third))
+        return 6;
+    /* a repeated picture: two of three */
+    carolsedge_sample_feed_luma(&sample, dark, 1, &value);
+    carolsedge_sample_feed_luma(&sample, bright, 899, &value);
+    if (!given(most, third, 1 + most * third))
+        return 7;
+    carolsedge_sample_feed_capture(&sample, magic, 4, &value);
+    carolsedge_sample_feed_capture(&sample, magic, 4, &value);
+    if (!refused(CAROLSEDGE_REFUSED_MICROSECONDS, sizeof capture + 7))
+        return 8;
+    return 0;
+}
