@@ -124,7 +124,7 @@ between capture e =
     let h = ltb-false 0 (length (unfinished capture)) (neither (ltb (length capture) 24) (ltb 0 (length (unfinished capture))) e .1) in
     no-elements (unfinished capture) (omega arith)
 
-all-reached : (d : ℕ) → 0 < d → d ≤ 188 → (s : List ℕ) → unfinished s ≡ [] → reached d s ≡ packets 24 (wholeFrames s)
+pub all-reached : (d : ℕ) → 0 < d → d ≤ 188 → (s : List ℕ) → unfinished s ≡ [] → reached d s ≡ packets 24 (wholeFrames s)
 all-reached d some small s e =
     layout d some small s
     ∙ rw (e, of-none d some small (base s) [] (omega arith)) (append-nil (packets 24 (wholeFrames s)))

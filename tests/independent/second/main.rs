@@ -7,15 +7,18 @@ mod capture;
 mod cells;
 mod film;
 mod gaps;
+mod lean;
 mod lent;
 mod loss;
 mod luma;
 mod make;
 mod opening;
+mod plain;
 mod prng;
 mod record;
 mod records;
 mod recut;
+mod relume;
 mod replay;
 mod rtp;
 mod sample;
@@ -27,7 +30,7 @@ mod units;
 
 use opening::{Opening, Refusal};
 use sample::Sample;
-use std::fs::File;
+use std::fs::{self, File};
 use std::io::{self, BufReader, BufWriter, Read, Write};
 use std::process::ExitCode;
 use std::str::FromStr;
@@ -61,6 +64,10 @@ measure-again make-rtp SEED > PACKETS
 measure-again make-shelf SEED > SHELF
 measure-again kinds
 measure-again recut SEED < SCRIPT > SCRIPT
+measure-again relume SEED < SCRIPT > SCRIPT
+measure-again lean FIRST COUNT PROGRAM [ARGUMENT]...
+measure-again lean-record CAPTURE RECORD
+measure-again lean-pair RECORD RECORD
 measure-again records SEED > RECORD
 measure-again captures SEED > CAPTURE
 measure-again bench luma W H PIECE TIMES
@@ -132,9 +139,15 @@ fn run(arguments: &[&str], out: &mut impl Write) -> io::Result<()> {
         ["survey"] => print_survey(io::stdin(), out),
         ["survey", capture] => print_survey(File::open(capture)?, out),
         ["survey-replay"] => replay::replay_survey(script(), out),
-        ["shelf", "check", file] => out.write_all(shelf::check(&std::fs::read(file)?).as_bytes()),
-        ["shelf", "take", file, record] => out.write_all(&shelf::take(&std::fs::read(file)?, number(record)?)),
+        ["shelf", "check", file] => out.write_all(shelf::check(&fs::read(file)?).as_bytes()),
+        ["shelf", "take", file, record] => out.write_all(&shelf::take(&fs::read(file)?, number(record)?)),
         ["recut", seed] => recut::recut(number(seed)?, script(), out),
+        ["relume", seed] => relume::relume(number(seed)?, script(), out),
+        ["lean", first, count, ref program @ ..] if !program.is_empty() => {
+            lean::try_facts(number(first)?, number(count)?, program, out)
+        }
+        ["lean-record", capture, record] => print_lean(lean::facts(&fs::read(capture)?, &fs::read(record)?), out),
+        ["lean-pair", one, other] => print_lean(lean::pair(&fs::read(one)?, &fs::read(other)?), out),
         ["bench", ref what @ ..] => bench(what),
         _ => run_alone(arguments, out),
     }
@@ -207,7 +220,7 @@ fn measure(opening: Opening, capture: &str, luma: &str, record: &str) -> io::Res
     let mut buffer = vec![0; record::LONGEST];
     match sample.seal(&mut buffer) {
         Ok(length) => {
-            std::fs::write(record, &buffer[..length])?;
+            fs::write(record, &buffer[..length])?;
             println!("sealed {length}");
         }
         Err(Refusal { number, place }) => println!("refused {number} {place}"),
@@ -220,6 +233,12 @@ fn print_number(answer: Result<u32, Refusal>, out: &mut impl Write) -> io::Resul
         Ok(number) => writeln!(out, "{number}"),
         Err(Refusal { number, place }) => writeln!(out, "refused {number} {place}"),
     }
+}
+
+/// Whether the facts of request R-14 hold, or which doesn't.
+fn print_lean(held: Result<(), String>, out: &mut impl Write) -> io::Result<()> {
+    held.map_err(io::Error::other)?;
+    writeln!(out, "lean: holds")
 }
 
 fn print_survey(capture: impl Read, out: &mut impl Write) -> io::Result<()> {

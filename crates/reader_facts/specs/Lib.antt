@@ -1,0 +1,2 @@
+-- What a thirty-year reader may lean on.
+pub mod Facts
