@@ -30,8 +30,9 @@ busiest =
     ∷ record { rule = told (busiestAnswer 640 29 9999 0 0 9); paper = 1 ∷ 0 ∷ [] }
     ∷ record { rule = told (busiestAnswer 640 30 9999 0 0 9); paper = 1 ∷ 0 ∷ [] }
     ∷ record { rule = told (busiestAnswer 30 30 9999 0 0 9); paper = 2 ∷ 0 ∷ [] }
-    -- at d 200,000 black and white change every three pictures
+    -- black and white change every three pictures at d 200,000, every fifteen at d 40,000
     ∷ record { rule = map (shade 200000) (0 ∷ 2 ∷ 3 ∷ 5 ∷ 6 ∷ []); paper = 0 ∷ 0 ∷ 255 ∷ 255 ∷ 0 ∷ [] }
+    ∷ record { rule = map (shade 40000) (3 ∷ 14 ∷ 15 ∷ 29 ∷ 30 ∷ []); paper = 0 ∷ 0 ∷ 255 ∷ 255 ∷ 0 ∷ [] }
     -- four pictures of two bytes, and parts of them
     ∷ record { rule = busiestLuma 2 1 200000 4; paper = replicate 6 0 ++ (255 ∷ 255 ∷ []) }
     ∷ record { rule = busiestPart 2 1 200000 4 5 2; paper = 0 ∷ 255 ∷ [] }
