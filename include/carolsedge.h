@@ -55,6 +55,7 @@ enum {
     CAROLSEDGE_REFUSED_LOSS_LISTS = 22,     /* loss: N outside 1 to 750, or one of the four lists not N long */
     CAROLSEDGE_REFUSED_PROBABILITY = 23,    /* loss: a probability not within 0 to 1, NaN included; tried after 22 */
     CAROLSEDGE_REFUSED_GAPS = 24,           /* gap runs: above 15 gaps */
+    CAROLSEDGE_REFUSED_ROWS = 25,           /* RTP: no rows, above 4,096, or unequal lists */
     CAROLSEDGE_REFUSED_SHELF = 27,          /* shelf: not laid out as one */
     CAROLSEDGE_REFUSED_SHELF_RECORD = 28    /* shelf: a record is refused by the reader; place: its number */
 };
@@ -298,6 +299,17 @@ uint32_t carolsedge_shelf_open(const uint8_t *shelf, size_t length, struct carol
  * past the number of records, and *part stands. Proved of every slice: a part that is given lies within it. */
 uint32_t carolsedge_shelf_part(const uint8_t *shelf, size_t length, size_t j, struct carolsedge_part *part,
                                uint64_t *place);
+
+/* ---- small-screen streams */
+
+/* The units of RTP packets, which come without transport packets: four lists of equal length with a row for each
+ * packet in arrival order: its sequence number, marker (set if not 0), time and length. Unit rows of 32 bytes, laid
+ * out as in a record, go to the front of the buffer, and *value is their number; bytes behind them stand. Refused: 25
+ * unless there are 1 to 4,096 rows in equal lists, then 15 for a buffer that is too short, with the bytes needed in
+ * *value; the buffer stands. Takes 64 KiB of stack. */
+uint32_t carolsedge_rtp_units(const uint16_t *sequence, size_t sequence_length, const uint8_t *marker,
+                              size_t marker_length, const uint64_t *time, size_t time_length, const uint16_t *size,
+                              size_t size_length, uint8_t *buffer, size_t length, uint64_t *value);
 
 #ifdef __cplusplus
 }

@@ -49,7 +49,7 @@ const MENDS: &[&str] = &[
     "Give 1 to 750 units, and for each a loss of 4 bytes and then a probability of 8: 4 + 12 N bytes in all.",
     "Give probabilities from 0 to 1; what is no number, or was divided by nothing, is none.",
     "Ask for at most 15 gaps: of more, 64 bits do not hold the number of runs.",
-    "Number 25 joins the table with request R-11.",
+    "Give 1 to 4,096 packets, as many as the count says, of 14 bytes each; cut a longer stream by time.",
     "Number 26 joins the table with request R-12.",
     "The file is no shelf, or was altered or cut: look for another copy, or make it again of at most 4,096 records.",
     "The place is that record's number, from 0: look for another copy of the shelf, or make it without that record.",

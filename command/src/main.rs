@@ -11,6 +11,7 @@ mod loss;
 mod measure;
 mod output;
 mod record_file;
+mod rtp;
 mod sheet;
 mod shelf;
 mod show;
@@ -38,6 +39,7 @@ const SUBCOMMANDS: &[Subcommand] = &[
     sheet::SUBCOMMAND,
     loss::SUBCOMMAND,
     gaps::SUBCOMMAND,
+    rtp::SUBCOMMAND,
     shelf::SUBCOMMAND,
     explain::SUBCOMMAND,
 ];

@@ -79,7 +79,7 @@ def right(capture, luma):
 def helps():
     main = expect("help", 0, None, [], "--help")[1].decode()
     names = [line.split()[0] for line in main.splitlines() if line.startswith("  ")]
-    check({"measure", "show", "sheet", "shelf", "explain"} <= set(names), "the help names %s" % names)
+    check({"measure", "show", "sheet", "rtp", "shelf", "explain"} <= set(names), "the help names %s" % names)
     for name in names:
         for word in ("--help", "-h"):
             text = expect("help of " + name, 0, None, [], name, word)[1].decode()

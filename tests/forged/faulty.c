@@ -1,4 +1,4 @@
-/* Functions with one fault each (FAULT, 1 to 23) in the place of the library's own, by the linker's --wrap: the forged
+/* Functions with one fault each (FAULT, 1 to 24) in the place of the library's own, by the linker's --wrap: the forged
  * calls have to notice every one. */
 #include <stddef.h>
 #include <stdint.h>
@@ -23,6 +23,8 @@ uint32_t __real_carolsedge_busiest_luma(uint32_t, uint32_t, uint32_t, uint32_t, 
                                         uint64_t *);
 uint32_t __real_carolsedge_shelf_open(const uint8_t *, size_t, struct carolsedge_shelf *, uint64_t *);
 uint32_t __real_carolsedge_shelf_part(const uint8_t *, size_t, size_t, uint64_t *, uint64_t *);
+uint32_t __real_carolsedge_rtp_units(const uint16_t *, size_t, const uint8_t *, size_t, const uint64_t *, size_t,
+                                     const uint16_t *, size_t, uint8_t *, size_t, uint64_t *);
 
 uint32_t __wrap_carolsedge_feed_capture(uint64_t *walk, uint8_t *kept, uint64_t *numbers, uint64_t *table, const uint8_t *piece, size_t length,
                                         uint64_t *value)
@@ -145,5 +147,15 @@ uint32_t __wrap_carolsedge_shelf_part(const uint8_t *shelf, size_t length, size_
     uint32_t k = __real_carolsedge_shelf_part(shelf, length, j, part, place);
     if (FAULT == 21 && !k) /* a part that ends behind the shelf */
         part[1] = length + 1;
+    return k;
+}
+
+uint32_t __wrap_carolsedge_rtp_units(const uint16_t *s, size_t a, const uint8_t *m, size_t b, const uint64_t *t,
+                                     size_t c, const uint16_t *l, size_t d, uint8_t *buffer, size_t room,
+                                     uint64_t *value)
+{
+    uint32_t k = __real_carolsedge_rtp_units(s, a, m, b, t, c, l, d, buffer, room, value);
+    if (FAULT == 24 && !k && 32 * *value < room) /* writes behind the rows */
+        buffer[32 * *value] = 0;
     return k;
 }

@@ -25,12 +25,12 @@
 #endif
 
 enum { OPEN, FEED_CAPTURE, FEED_LUMA, SEAL, INDEX, READ_HEADER, READ_UNIT, READ_SCENE, SHEET, REPLAY, OPEN_SURVEY,
-       FEED_SURVEY, ASK_SURVEY, EFFECTIVE_LOSS, MOST_SCENES, BUSIEST_LUMA, GAP_RUNS, SHELF_OPEN, SHELF_PART,
-       FUNCTIONS };
+       FEED_SURVEY, ASK_SURVEY, EFFECTIVE_LOSS, MOST_SCENES, BUSIEST_LUMA, GAP_RUNS, RTP_UNITS, SHELF_OPEN,
+       SHELF_PART, FUNCTIONS };
 static const char *const name[FUNCTIONS] = {"open", "feed_capture", "feed_luma", "seal", "index", "read_header",
                                              "read_unit", "read_scene", "sheet", "replay", "open_survey",
                                              "feed_survey", "ask_survey", "effective_loss", "most_scenes",
-                                             "busiest_luma", "gap_runs", "shelf_open", "shelf_part"};
+                                             "busiest_luma", "gap_runs", "rtp_units", "shelf_open", "shelf_part"};
 enum { LAST_NUMBER = 28 }; /* of the table of refusals */
 static uint64_t answers[FUNCTIONS][LAST_NUMBER + 1], calls[FUNCTIONS], longest, seed;
 static volatile int under_way;
@@ -707,6 +707,7 @@ static void round_of_surveys(void)
 #include "gaps.h"
 #include "loss.h"
 #include "busiest.h"
+#include "rtp.h"
 
 /* A forged state, and a few calls on it. */
 static void round_of_calls(uint64_t most)
@@ -738,6 +739,8 @@ static void round_of_calls(uint64_t most)
         call_most_scenes();
     if (calls[BUSIEST_LUMA] < most / 20)
         call_busiest_luma();
+    if (calls[RTP_UNITS] < most / 20)
+        call_rtp_units();
 }
 
 int main(int words, char **word)
@@ -758,6 +761,7 @@ int main(int words, char **word)
     make_loss_rooms();
     gap_table = room_of(8 * TABLE_MOST);
     shelves = room_of(SHELF_MOST);
+    make_rtp_rooms();
     while (calls[SEAL] < most || calls[OPEN] < most || calls[READ_HEADER] < most || calls[SHEET] < most / 10 ||
            calls[REPLAY] < most / 20 || calls[FEED_SURVEY] < most / 10 || calls[EFFECTIVE_LOSS] < most / 10 ||
            calls[GAP_RUNS] < most / 10 || calls[SHELF_OPEN] < most / 10)

@@ -137,6 +137,19 @@ extern "C" {
         part: &mut [u64; 2],
         place: &mut u64,
     ) -> u32;
+    fn carolsedge_rtp_units(
+        sequence: *const u16,
+        sequence_length: usize,
+        marker: *const u8,
+        marker_length: usize,
+        time: *const u64,
+        time_length: usize,
+        size: *const u16,
+        size_length: usize,
+        buffer: *mut u8,
+        length: usize,
+        value: &mut u64,
+    ) -> u32;
 }
 
 impl State {
@@ -372,6 +385,35 @@ pub fn shelf_part(shelf: &[u8], j: usize) -> Result<[u64; 2], (u32, u64)> {
     let number =
         unsafe { carolsedge_shelf_part(shelf.as_ptr(), shelf.len(), j, &mut part, &mut place) };
     given(number, part).map_err(|number| (number, place))
+}
+
+/// The refusal's number, or 0, and the value.
+pub fn rtp_units(
+    sequence: &[u16],
+    marker: &[bool],
+    time: &[u64],
+    size: &[u16],
+    buffer: &mut [u8],
+) -> (u32, u64) {
+    let mut value = 0;
+    // SAFETY: pointers and lengths are those of slices, of which the one that is written is borrowed alone; a bool is
+    // a byte, 0 or 1.
+    let number = unsafe {
+        carolsedge_rtp_units(
+            sequence.as_ptr(),
+            sequence.len(),
+            marker.as_ptr().cast(),
+            marker.len(),
+            time.as_ptr(),
+            time.len(),
+            size.as_ptr(),
+            size.len(),
+            buffer.as_mut_ptr(),
+            buffer.len(),
+            &mut value,
+        )
+    };
+    (number, value)
 }
 
 fn given<T>(number: u32, figures: T) -> Result<T, u32> {

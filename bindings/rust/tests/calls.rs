@@ -549,7 +549,7 @@ fn a_clone_goes_on_by_itself() {
 
 #[test]
 fn words() {
-    let said: Vec<String> = (1..=24)
+    let said: Vec<String> = (1..=25)
         .chain([27, 28])
         .map(|number| refusal(number, 0).meaning().to_string())
         .collect();

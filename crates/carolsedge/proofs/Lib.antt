@@ -6,3 +6,4 @@ pub mod Unplaced
 pub mod Beside
 pub mod BusiestNumbers
 pub mod Shelf
+pub mod RtpNumbers

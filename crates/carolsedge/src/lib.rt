@@ -18,6 +18,7 @@ mod busiest;
 mod gaps;
 mod losses;
 mod shelves;
+mod small_screen;
 
 use capture::Numbers;
 use capture_units::Table;

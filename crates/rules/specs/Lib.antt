@@ -27,3 +27,4 @@ pub mod EffectiveLoss
 pub mod Busiest
 pub mod GapRuns
 pub mod Shelf
+pub mod Rtp

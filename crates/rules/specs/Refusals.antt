@@ -10,6 +10,7 @@
 --   losses   22 and 23 EffectiveLoss.lossFault
 --   busiest  2, then 14 or 10: Busiest.mostFault; 1 before them: Busiest.busiestFault
 --   gaps     24, then 15: GapRuns.gapFault
+--   RTP      25, then 15: Rtp.rtpFault
 --   shelf    27, 28: Shelf.shelfFault, then 19: Shelf.partFault
 use Prim.Native.Nat.{ℕ, _≤_}
 use mathlib.Core.Bool.{Bool, true, false}
@@ -40,7 +41,8 @@ answer (fault k p) n = Refused k p
 
 -- ---- the table's numbers, from 1 on
 
--- the last of them: 20 joined with document 02, R-2, 21 with R-4, 22 and 23 with R-8, 24 with R-10, 27 and 28 with R-13
+-- the last of them: 20 joined with document 02, R-2, 21 with R-4, 22 and 23 with R-8, 24 with R-10, 25 with
+-- R-11, 27 and 28 with R-13
 abbrev pub lastNumber : ℕ
 lastNumber = 28
 

@@ -26,6 +26,7 @@ use Rattle.rules.specs.Survey.{noGood, surveyFault}
 use Rattle.rules.specs.Reading.{allowed, readingFault, rowFault, unitFault, sceneFault}
 use Rattle.rules.specs.Busiest.{mostFault, busiestFault}
 use Rattle.rules.specs.Shelf.{recordCount, laidOut, records, refusedAt, firstRefused, shelfFault, partFault}
+use Rattle.rules.specs.Rtp.{RtpLists, rtpUnits, goodLists, rtpFault}
 
 -- ---- a number in the table, below it and above it
 
@@ -247,3 +248,11 @@ shelf s =
 pub part : (s : List ℕ) (j : ℕ) → Numbered (partFault s j)
 unfolding partFault
 part s j = of-either (shelfFault s) _ (shelf s) (of-unless (ltb j (recordCount s)) 19 refl)
+
+-- of RTP rows: 25, then 15
+pub rtp : (sequence : List ℕ) (l : RtpLists) (buffer : ℕ) → Numbered (rtpFault sequence l buffer)
+unfolding rtpFault
+rtp sequence l buffer =
+    let needed = 32 * length (rtpUnits sequence l) in
+    of-either (unless (goodLists sequence l) 25) (noRoom buffer needed) (of-unless (goodLists sequence l) 25 refl)
+    (room buffer needed)
