@@ -2,7 +2,7 @@
 use crate::stop::Stop;
 use std::ffi::OsStr;
 use std::fs::{File, Metadata};
-use std::io::{self, ErrorKind, Read};
+use std::io::{self, ErrorKind, Read, Seek};
 use std::os::fd::AsFd;
 use std::os::unix::fs::MetadataExt;
 
@@ -21,6 +21,7 @@ pub struct Input {
     file: File,
     identity: Identity,
     length: Option<u64>,
+    twice: bool,
 }
 
 impl Input {
@@ -33,7 +34,9 @@ impl Input {
         let opened = opened(word).and_then(|file| Ok((file.metadata()?, file)));
         let (about, file) = opened.map_err(|error| Stop::file(&name, &error))?;
         let length = about.is_file().then(|| about.len());
-        Ok(Input { name, file, identity: Identity::of(&about), length })
+        // A folder can be read not even once, and reading it says so.
+        let twice = word != "-" && (about.is_file() || about.is_dir());
+        Ok(Input { name, file, identity: Identity::of(&about), length, twice })
     }
 
     pub fn name(&self) -> &str {
@@ -47,6 +50,16 @@ impl Input {
     /// How many bytes it has, where that is known.
     pub fn length(&self) -> Option<u64> {
         self.length
+    }
+
+    /// Whether it can be read from the beginning again: no pipe, no device, not standard input.
+    pub fn twice(&self) -> bool {
+        self.twice
+    }
+
+    /// Goes back to the beginning.
+    pub fn rewind(&mut self) -> Result<(), Stop> {
+        self.file.rewind().map_err(|error| Stop::file(&self.name, &error))
     }
 
     /// Fills the front of the piece, and gives how many bytes came; 0 at the end.

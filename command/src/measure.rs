@@ -12,7 +12,7 @@ use crate::input::Input;
 use crate::output;
 use crate::record_file::RecordFile;
 use crate::stop::Stop;
-use crate::Subcommand;
+use crate::{survey, Subcommand};
 use asked::Asked;
 use carolsedge::{Record, Sample, RECORD_MOST};
 use std::ffi::OsString;
@@ -22,7 +22,7 @@ pub const SUBCOMMAND: Subcommand =
     Subcommand { name: "measure", summary: "measure a capture and its pictures into a record", help: HELP, run };
 
 const HELP: &str = "\
-usage: carolsedge measure CAPTURE [PICTURES] -o RECORD --pid PID [options]
+usage: carolsedge measure CAPTURE [PICTURES] -o RECORD [--pid PID] [options]
 
 Measures a capture and its pictures into a record. Prints `sealed LENGTH`, or
 `refused NUMBER PLACE` and, on standard error, why.
@@ -32,7 +32,8 @@ Measures a capture and its pictures into a record. Prints `sealed LENGTH`, or
                standard input; without PICTURES ffmpeg decodes the capture
   -o RECORD    where the record goes: a new file, or in place of a regular file
                that is neither CAPTURE nor PICTURES
-  --pid PID    the identifier of the video's packets
+  --pid PID    the identifier of the video's packets; without it the one that
+               carolsedge survey names is taken (not from a pipe, nor from -)
   --size WxH   width and height of a picture
   --time US    microseconds that a picture is shown
   --rate N[/D] pictures a second, in place of --time: 25, 30000/1001
@@ -57,17 +58,38 @@ pub struct Measured {
 }
 
 fn run(words: Vec<OsString>) -> Result<(), Stop> {
-    let asked = Asked::read(words)?;
-    let capture = Input::open(&asked.capture)?;
+    let mut asked = Asked::read(words)?;
+    let mut capture = Input::open(&asked.capture)?;
+    if asked.survey && !capture.twice() {
+        return Err(needs_pid(capture.name()));
+    }
     let pictures = asked.pictures.as_deref().map(Input::open).transpose()?;
     let inputs = [Some(&capture), pictures.as_ref()].into_iter().flatten();
     let inputs = inputs.map(|input| (input.identity(), input.name().to_string())).collect();
     let record = RecordFile::new(&asked.record, inputs)?;
+    if asked.survey {
+        asked.pid = surveyed(&mut capture)?;
+    }
     let measured = match pictures {
         Some(pictures) => files::measure(&asked, capture, pictures)?,
         None => stream::measure(&asked, capture)?,
     };
     seal(&asked, &measured, &record)
+}
+
+/// A capture that can be read only once cannot be surveyed before it is measured.
+fn needs_pid(name: &str) -> Stop {
+    let why = format!("{name} is no file that can be read twice, to be surveyed first");
+    Stop::Usage(format!("--pid PID is missing: {why}\nof a stored copy, carolsedge survey FILE names the PID"))
+}
+
+/// The identifier with most good packets, and says that it is taken. The capture is then at its beginning again.
+fn surveyed(capture: &mut Input) -> Result<u32, Stop> {
+    let most = survey::most(capture)?;
+    capture.rewind()?;
+    let packets = output::count(most.packets, "good packet");
+    output::say(&format!("--pid {} is taken: a survey found {packets} of it, and of no other more\n", most.pid));
+    Ok(most.pid)
 }
 
 fn seal(asked: &Asked, measured: &Measured, file: &RecordFile) -> Result<(), Stop> {

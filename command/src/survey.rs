@@ -4,7 +4,7 @@ use crate::output;
 use crate::stop::Stop;
 use crate::words::Words;
 use crate::Subcommand;
-use carolsedge::Survey;
+use carolsedge::{Most, Survey};
 use std::ffi::OsString;
 
 pub const SUBCOMMAND: Subcommand =
@@ -19,7 +19,8 @@ capture, a file or - for standard input, and prints
   survey PID COUNT
 
 with the identifier that has most, the lowest among equals, and how many it has.
-That is usually the picture: give it to carolsedge measure as --pid.
+That is usually the picture: give it to carolsedge measure as --pid, which takes
+it by itself where CAPTURE is a file and --pid is left out.
 
 Exit status: 0 printed, 1 refused, 2 wrong words or a file's error.
 ";
@@ -31,6 +32,12 @@ fn run(words: Vec<OsString>) -> Result<(), Stop> {
     let words = Words::part(words, &[], &[])?;
     let plain = words.plain(&["CAPTURE"], 0)?;
     let mut input = Input::open(plain[0].as_deref().unwrap_or_default())?;
+    let most = most(&mut input)?;
+    output::print(&format!("survey {} {}\n", most.pid, most.packets))
+}
+
+/// The identifier with most good packets of a capture, which is read to its end.
+pub fn most(input: &mut Input) -> Result<Most, Stop> {
     let mut survey = Survey::open();
     let mut piece = vec![0; PIECE];
     loop {
@@ -39,6 +46,5 @@ fn run(words: Vec<OsString>) -> Result<(), Stop> {
             break;
         }
     }
-    let most = survey.ask().map_err(|refusal| Stop::refused(refusal, Vec::new()))?;
-    output::print(&format!("survey {} {}\n", most.pid, most.packets))
+    survey.ask().map_err(|refusal| Stop::refused(refusal, Vec::new()))
 }

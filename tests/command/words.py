@@ -18,7 +18,7 @@ def wrong(capture, luma):
         ("no such option", "--pic: no such option", capture, luma, *out, *RAW, "--pic", "1"),
         ("a short option", "-x: no such option", capture, luma, *out, *RAW, "-x"),
         ("both on standard input", "-: CAPTURE and PICTURES", "-", "-", *out, *RAW),
-        ("no PID", "--pid PID is missing", capture, luma, *out, "--size", "64x48", "--time", "40000"),
+        ("no PID", "--pid PID is missing", "-", luma, *out, "--size", "64x48", "--time", "40000"),
         ("no size", "--size WxH is missing", capture, luma, *out, "--time", "40000", "--pid", "256"),
         ("no time", "--time or --rate is missing", capture, luma, *out, "--size", "64x48", "--pid", "256"),
         ("time and rate", "--rate: --time is given too", capture, luma, *out, *RAW, "--rate", "25"),

@@ -18,7 +18,10 @@ pub struct Asked {
     pub capture: OsString,
     pub pictures: Option<OsString>,
     pub record: OsString,
+    /// The identifier of the video's packets.
     pub pid: u32,
+    /// Whether the words leave `pid` out; a survey of the capture then has to give it, before all else.
+    pub survey: bool,
     edition: u32,
     size: Option<(u32, u32)>,
     time: Option<Time>,
@@ -33,6 +36,7 @@ impl Asked {
         let time = words.read("--time", number, "a number of microseconds")?.map(Time::Microseconds);
         let rate = words.read("--rate", rate, "pictures a second, as 25 or 30000/1001")?;
         let pid = words.read("--pid", number, "a packet identifier")?;
+        let (pid, survey) = (pid.unwrap_or_default(), pid.is_none());
         let edition = words.read("--edition", number, "an edition of the rules")?.unwrap_or(NEWEST_EDITION);
         let Some(record) = words.value("-o") else {
             return usage("-o RECORD is missing");
@@ -43,14 +47,12 @@ impl Asked {
         if time.is_some() && rate.is_some() {
             return usage("--rate: --time is given too");
         }
-        let Some(pid) = pid else {
-            return usage("--pid PID is missing: the identifier of the video's packets");
-        };
         let (capture, pictures) = (plain[0].take().unwrap_or_default(), plain[1].take());
         if capture == "-" && pictures.as_deref() == Some(capture.as_os_str()) {
             return usage("-: CAPTURE and PICTURES cannot both be standard input");
         }
-        Ok(Asked { capture, pictures, record: record.into(), pid, edition, size, time: time.or(rate) })
+        let (record, time) = (record.into(), time.or(rate));
+        Ok(Asked { capture, pictures, record, pid, survey, edition, size, time })
     }
 
     /// The opening for pictures that say nothing of themselves.

@@ -1,0 +1,124 @@
+# measure without --pid: the survey's identifier is taken and told, the record is the one with it; what can be read
+# only once needs --pid; a refused survey makes no record.
+import os
+import subprocess
+from common import PROGRAMS, capture, carrying, check, counted, expect, good, packets, proved
+from common import read, same_record, stream, write, y4m
+
+OUT = ["-o", "record"]
+TAKEN = "--pid %d is taken: a survey found %s of it, and of no other more\n"
+
+
+def told(pid, count):
+    return TAKEN % (pid, "1 good packet" if count == 1 else "%d good packets" % count)
+
+
+def stored():
+    """Every stored stream: the record is the proved program's with the surveyed identifier."""
+    for line in open(stream("counts", ".txt")):
+        if line.startswith("#") or not line.strip():
+            continue
+        name, width, height, time = line.split()[:4]
+        cap, luma, size = stream(name, ".pcap"), stream(name, ".y"), "%sx%s" % (width, height)
+        pid, count = map(int, expect(name, 0, None, [], "survey", cap)[1].split()[1:])
+        record, sealed = proved(width, height, time, pid, cap, luma)
+        file = write("pictures.y4m", y4m(read(luma), int(width), int(height), rate="1000000:" + time))
+        raw = ["--size", size, "--time", time]
+        for how, stdin, *words in (
+            ("raw", b"", cap, luma, *raw),
+            ("raw on standard input", read(luma), cap, "-", *raw),
+            ("y4m", b"", cap, file),
+        ):
+            given = expect(name, 0, sealed, None, "measure", *words, *OUT, "--pid", str(pid), stdin=stdin)
+            same_record(name + ", " + how + ", with --pid", record)
+            check("is taken" not in given[2], name + ": a survey beside --pid")
+            got = expect(name, 0, sealed, None, "measure", *words, *OUT, stdin=stdin)
+            same_record(name + ", " + how, record)
+            check(got[2] == told(pid, count) + given[2], name + ": said " + got[2])
+
+
+def decoded():
+    """Without PICTURES ffmpeg is asked for the surveyed identifier, and given the capture from its beginning."""
+    os.mkdir("stand-in")
+    write("stand-in/ffmpeg", b'#!/bin/sh\necho "$@" >"$HERE/words"\ncat >"$HERE/got"\ncat "$HERE/gives"\n')
+    os.chmod("stand-in/ffmpeg", 0o755)
+    path = os.path.abspath("stand-in") + ":" + os.environ["PATH"]
+    how = {"env": dict(os.environ, PATH=path, HERE=os.getcwd())}
+    write("gives", y4m(read(stream("reduced", ".y")), 150, 122, "mono", rate="10:1"))
+    cap = stream("reduced", ".pcap")
+    record, sealed = proved(150, 122, 100000, 257, cap, stream("reduced", ".y"))
+    expect("with --pid", 0, sealed, None, "measure", cap, *OUT, "--pid", "257", **how)
+    words, got = read("words"), read("got")
+    same_record("with --pid", record)
+    expect("decoded", 0, sealed, [told(257, 191)], "measure", cap, *OUT, **how)
+    same_record("decoded", record)
+    check((read("words"), read("got")) == (words, got), "ffmpeg was asked for or given something else")
+
+
+def made(raw):
+    for name, frames, pid, count in (
+        ("most", [carrying(packets(2, pid=200)), carrying(packets(3, pid=300))], 300, 3),
+        ("lowest among equals", [carrying(packets(2, pid=8191)), carrying(packets(2, pid=0))], 0, 2),
+        ("one", [carrying(packets(1, pid=8191))], 8191, 1),
+        ("bad packets do not count", [carrying(packets(5, pid=7, sync=0x46)), carrying(packets(2))], 256, 2),
+    ):
+        write("capture", capture(frames))
+        record, sealed = proved(30, 30, 40000, pid, "capture", "luma")
+        expect(name, 0, sealed, [told(pid, count)], "measure", "capture", "luma", *OUT, *raw)
+        same_record(name, record)
+
+
+def once(raw):
+    """Standard input (a pipe, a file), a FIFO and a device are told, and nothing is written."""
+    data = capture(good(1))
+    write("capture", data)
+    said = ["carolsedge measure: --pid PID is missing: ", "carolsedge survey FILE", "carolsedge measure --help"]
+    for pictures in (["luma", *raw], []):
+        words = ["measure", "-", *pictures, *OUT]
+        expect("a pipe", 2, b"", [*said, "standard input"], *words, stdin=data)
+        with open("capture", "rb") as file:
+            done = subprocess.run([PROGRAMS["carolsedge"], *words], stdin=file, capture_output=True, timeout=120)
+        check(done.returncode == 2 and said[0].encode() in done.stderr, "a file on standard input: %r" % done.stderr)
+    expect("a pipe by name", 2, b"", [*said, "/dev/stdin"], "measure", "/dev/stdin", "luma", *OUT, *raw, stdin=data)
+    expect("a device", 2, b"", [*said, "/dev/null"], "measure", "/dev/null", "luma", *OUT, *raw)
+    os.mkdir("folder")
+    expect("a folder", 2, b"", ["folder: Is a directory"], "measure", "folder", "luma", *OUT, *raw)
+    expect("no file", 2, b"", ["nowhere: No such file"], "measure", "nowhere", "luma", *OUT, *raw)
+    expect("with --pid", 0, None, None, "measure", "-", "luma", *OUT, *raw, "--pid", "256", stdin=data)
+    os.remove("record")
+
+
+def refused(raw):
+    """A refused survey: its number and place, the reason, and RECORD as it was, whether there was one or not."""
+    whole = capture([carrying(packets(2))])
+    for name, data, number, place in (
+        ("empty", b"", 11, 0),
+        ("inside a frame", whole[:-1], 11, len(whole) - 1),
+        ("another magic", b"\0" + whole[1:], 5, 3),
+        ("another link", whole[:20] + b"\x71" + whole[21:], 6, 23),
+        ("microseconds", whole[:28] + b"\xff" * 4 + whole[32:], 7, 31),
+        ("a length", whole[:32] + b"\xff" * 4 + whole[36:], 8, 35),
+        ("no frame", whole[:24], 21, 0),
+        ("no good packet", capture([carrying(packets(1, sync=0))]), 21, 0),
+    ):
+        write("capture", data)
+        survey = expect(name, 1, b"refused %d %d\n" % (number, place), None, "survey", "capture")
+        for before in (None, b"kept"):
+            if before:
+                write("record", before)
+            for pictures in (["luma", *raw], []):
+                got = expect(name, 1, survey[1], ["refused %d: " % number], "measure", "capture", *pictures, *OUT)
+                check(got[2] == survey[2].replace(" survey:", " measure:", 1), name + ": said " + got[2])
+                check((read("record") if before else os.path.lexists("record")) == (before or False), name)
+        os.remove("record")
+
+
+def test():
+    raw = ["--size", "30x30", "--time", "40000"]
+    write("luma", bytes(900))
+    stored()
+    decoded()
+    made(raw)
+    once(raw)
+    refused(raw)
+    return "pid: %d runs: the surveyed identifier, what can be read only once, and refused surveys" % counted()
