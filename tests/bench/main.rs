@@ -7,6 +7,8 @@
 
 #[path = "../independent/second/capture.rs"]
 mod capture;
+#[path = "../independent/second/cells.rs"]
+mod cells;
 #[path = "../independent/second/film.rs"]
 mod film;
 #[path = "../independent/second/lent.rs"]
