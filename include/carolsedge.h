@@ -56,6 +56,7 @@ enum {
     CAROLSEDGE_REFUSED_PROBABILITY = 23,    /* loss: a probability not within 0 to 1, NaN included; tried after 22 */
     CAROLSEDGE_REFUSED_GAPS = 24,           /* gap runs: above 15 gaps */
     CAROLSEDGE_REFUSED_ROWS = 25,           /* RTP: no rows, above 4,096, or unequal lists */
+    CAROLSEDGE_REFUSED_PASSAGE = 26,        /* repeats: a above b, or b above the whole pictures fed */
     CAROLSEDGE_REFUSED_SHELF = 27,          /* shelf: not laid out as one */
     CAROLSEDGE_REFUSED_SHELF_RECORD = 28    /* shelf: a record is refused by the reader; place: its number */
 };
@@ -106,6 +107,7 @@ uint32_t carolsedge_feed_luma(uint64_t *luma, uint32_t *sums, uint32_t *bins, ui
                               const uint8_t *piece, size_t length, uint64_t *value);
 uint32_t carolsedge_seal(const uint64_t *walk, const uint8_t *kept, const uint64_t *numbers, const uint64_t *table,
                          const uint64_t *luma, uint8_t *buffer, size_t length, uint64_t *value);
+uint32_t carolsedge_repeats(const uint64_t *luma, uint32_t a, uint32_t b, uint64_t *value);
 uint32_t carolsedge_index(const uint64_t *numbers, const uint64_t *luma, struct carolsedge_index *index,
                           uint64_t *place);
 
@@ -154,14 +156,23 @@ static inline uint32_t carolsedge_sample_index(const struct carolsedge_sample *s
     return carolsedge_index(s->numbers, s->luma, index, place);
 }
 
+/* Counts the repeated pictures of a passage: from picture a up to but without b, of the whole pictures fed so far.
+ * *value is the count. Refused: the opening's number, then 26; *value is the place, 0. Refusals of feeds do not
+ * stop it: after 10 the 750 pictures before it are there. */
+static inline uint32_t carolsedge_sample_repeats(const struct carolsedge_sample *s, uint32_t a, uint32_t b,
+                                                 uint64_t *value)
+{
+    return carolsedge_repeats(s->luma, a, b, value);
+}
+
 /* A whole list of calls after one opening, coded in a script: five 32-bit little-endian words W, H, d, PID and the
  * edition; then calls, each a byte C or L, a 32-bit length n and n bytes (a feed of that side), a byte S and a
- * 32-bit length n (a seal into n bytes of 0xA5), or a byte I (the index). The list ends where the script ends
- * inside a call or another byte stands. What the opening and every call come to goes to out, one behind the other:
- * a byte 0 (done) or 1 (refused); the result, or the refusal's number; 0, or its place, 64 bits each; and behind a
- * seal's its whole buffer. An index has three times 64 bits behind its byte: the bits of ic, ip and value, or
- * number, place and 0. False where there is no room for it all; out then stands. Proved: what is written is what
- * the rules give for the whole list. */
+ * 32-bit length n (a seal into n bytes of 0xA5), a byte I (the index), or a byte R and 32-bit words a and b (the
+ * repeats of a passage). The list ends where the script ends inside a call or another byte stands. What the
+ * opening and every call come to goes to out, one behind the other: a byte 0 (done) or 1 (refused); the result, or
+ * the refusal's number; 0, or its place, 64 bits each; and behind a seal's its whole buffer. An index has three
+ * times 64 bits behind its byte: the bits of ic, ip and value, or number, place and 0. False where there is no
+ * room for it all; out then stands. Proved: what is written is what the rules give for the whole list. */
 bool carolsedge_replay(const uint8_t *script, size_t length, uint8_t *out, size_t room);
 
 /* ---- a survey: which identifier of a capture has most good packets (docs/RULE.md, 21) */

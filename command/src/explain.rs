@@ -50,7 +50,7 @@ const MENDS: &[&str] = &[
     "Give probabilities from 0 to 1; what is no number, or was divided by nothing, is none.",
     "Ask for at most 15 gaps: of more, 64 bits do not hold the number of runs.",
     "Give 1 to 4,096 packets, as many as the count says, of 14 bytes each; cut a longer stream by time.",
-    "Number 26 joins the table with request R-12.",
+    "Name a passage of the pictures that are whole: its start at most its end, its end at most their number.",
     "The file is no shelf, or was altered or cut: look for another copy, or make it again of at most 4,096 records.",
     "The place is that record's number, from 0: look for another copy of the shelf, or make it without that record.",
 ];

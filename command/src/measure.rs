@@ -11,11 +11,12 @@ mod y4m;
 use crate::input::Input;
 use crate::output;
 use crate::record_file::RecordFile;
-use crate::stop::Stop;
+use crate::stop::{Refused, Stop};
 use crate::{survey, Subcommand};
 use asked::Asked;
 use carolsedge::{Record, Sample, RECORD_MOST};
 use std::ffi::OsString;
+use std::ops::Range;
 use walk::Walk;
 
 pub const SUBCOMMAND: Subcommand =
@@ -38,6 +39,8 @@ Measures a capture and its pictures into a record. Prints `sealed LENGTH`, or
   --time US    microseconds that a picture is shown
   --rate N[/D] pictures a second, in place of --time: 25, 30000/1001
   --edition N  the edition of the rules, 1 to 4; the newest if it is not given
+  --passage A-B  also count the repeated pictures from A (from 0 on) up to but
+               without B, and print `repeats COUNT` behind the record's line
 
 Numbers may also be hexadecimal, as 0x100. Only 8-bit luma is measured; of a
 y4m file's pictures the luma plane is taken, and its rate unless one is given.
@@ -103,5 +106,18 @@ fn seal(asked: &Asked, measured: &Measured, file: &RecordFile) -> Result<(), Sto
     file.write(bytes)?;
     let record = Record::read(bytes).map_err(|refusal| Stop::refused(refusal, Vec::new()))?;
     telling::sealed(&record.header(), measured);
-    output::print(&format!("sealed {length}\n"))
+    output::print(&format!("sealed {length}\n"))?;
+    asked.passage.clone().map_or(Ok(()), |passage| tell_repeats(&measured.sample, passage))
+}
+
+/// The repeats of a passage. They are told behind the record, which a passage that is refused does not undo: what came
+/// through a pipe cannot be measured again.
+fn tell_repeats(sample: &Sample, passage: Range<u32>) -> Result<(), Stop> {
+    match sample.repeats(passage) {
+        Ok(count) => output::print(&format!("repeats {count}\n")),
+        Err(refusal) => {
+            let line = format!("repeats refused {} {}\n", refusal.number, refusal.place);
+            Err(Stop::Refused(Refused { line, refusal, found: Vec::new() }))
+        }
+    }
 }

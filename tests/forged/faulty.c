@@ -1,4 +1,4 @@
-/* Functions with one fault each (FAULT, 1 to 24) in the place of the library's own, by the linker's --wrap: the forged
+/* Functions with one fault each (FAULT, 1 to 25) in the place of the library's own, by the linker's --wrap: the forged
  * calls have to notice every one. */
 #include <stddef.h>
 #include <stdint.h>
@@ -11,6 +11,7 @@ uint32_t __real_carolsedge_feed_capture(uint64_t *, uint8_t *, uint64_t *, uint6
 uint32_t __real_carolsedge_feed_luma(uint64_t *, uint32_t *, uint32_t *, uint8_t *, const uint8_t *, size_t, uint64_t *);
 uint32_t __real_carolsedge_seal(const uint64_t *, const uint8_t *, const uint64_t *, const uint64_t *, const uint64_t *, uint8_t *, size_t, uint64_t *);
 uint32_t __real_carolsedge_index(const uint64_t *, const uint64_t *, struct carolsedge_index *, uint64_t *);
+uint32_t __real_carolsedge_repeats(const uint64_t *, uint32_t, uint32_t, uint64_t *);
 uint32_t __real_carolsedge_sheet(const uint8_t *, size_t, uint8_t *, size_t, uint64_t *);
 uint32_t __real_carolsedge_feed_survey(uint64_t *, uint8_t *, uint32_t *, const uint8_t *, size_t, uint64_t *);
 uint32_t __real_carolsedge_ask_survey(const uint64_t *, const uint32_t *, uint64_t *, uint64_t *);
@@ -65,6 +66,14 @@ uint32_t __wrap_carolsedge_index(const uint64_t *numbers, const uint64_t *luma, 
         index->ip = 0;
     if (FAULT == 23 && !k) /* Ip without what was lost */
         index->ip = 1;
+    return k;
+}
+
+uint32_t __wrap_carolsedge_repeats(const uint64_t *luma, uint32_t a, uint32_t b, uint64_t *value)
+{
+    uint32_t k = __real_carolsedge_repeats(luma, a, b, value);
+    if (FAULT == 25 && !k && b < 750) /* counts picture b too */
+        *value += luma[64 + b / 64] >> b % 64 & 1;
     return k;
 }
 

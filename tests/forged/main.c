@@ -24,12 +24,12 @@
 #define LIMIT 5 /* seconds that a call may take */
 #endif
 
-enum { OPEN, FEED_CAPTURE, FEED_LUMA, SEAL, INDEX, READ_HEADER, READ_UNIT, READ_SCENE, SHEET, REPLAY, OPEN_SURVEY,
-       FEED_SURVEY, ASK_SURVEY, EFFECTIVE_LOSS, MOST_SCENES, BUSIEST_LUMA, GAP_RUNS, RTP_UNITS, SHELF_OPEN,
-       SHELF_PART, FUNCTIONS };
-static const char *const name[FUNCTIONS] = {"open", "feed_capture", "feed_luma", "seal", "index", "read_header",
-                                             "read_unit", "read_scene", "sheet", "replay", "open_survey",
-                                             "feed_survey", "ask_survey", "effective_loss", "most_scenes",
+enum { OPEN, FEED_CAPTURE, FEED_LUMA, SEAL, INDEX, REPEATS, READ_HEADER, READ_UNIT, READ_SCENE, SHEET, REPLAY,
+       OPEN_SURVEY, FEED_SURVEY, ASK_SURVEY, EFFECTIVE_LOSS, MOST_SCENES, BUSIEST_LUMA, GAP_RUNS, RTP_UNITS,
+       SHELF_OPEN, SHELF_PART, FUNCTIONS };
+static const char *const name[FUNCTIONS] = {"open", "feed_capture", "feed_luma", "seal", "index", "repeats",
+                                             "read_header", "read_unit", "read_scene", "sheet", "replay",
+                                             "open_survey", "feed_survey", "ask_survey", "effective_loss", "most_scenes",
                                              "busiest_luma", "gap_runs", "rtp_units", "shelf_open", "shelf_part"};
 enum { LAST_NUMBER = 28 }; /* of the table of refusals */
 static uint64_t answers[FUNCTIONS][LAST_NUMBER + 1], calls[FUNCTIONS], longest, seed;
@@ -433,6 +433,39 @@ static void call_index(void)
     check_state();
 }
 
+/* What a count of repeats answers of any words: by the opening in them, their number of pictures and their map. */
+static uint32_t repeats_of(const uint64_t *l, uint32_t a, uint32_t b, uint64_t *value)
+{
+    uint32_t number = fault_of((uint32_t)l[12], (uint32_t)l[13], (uint32_t)l[14], (uint32_t)l[15], (uint32_t)l[16]);
+    *value = 0;
+    if (number != CAROLSEDGE_DONE)
+        return number;
+    if (a > b || b > l[3])
+        return CAROLSEDGE_REFUSED_PASSAGE;
+    for (uint32_t i = a; i < b && b <= 750; i++)
+        *value += l[64 + i / 64] >> i % 64 & 1;
+    return CAROLSEDGE_DONE;
+}
+
+static void call_repeats(void)
+{
+    const uint64_t *l = (const uint64_t *)(void *)at(&luma);
+    uint64_t right, *value = (uint64_t *)(void *)lend(&lent, 8);
+    uint32_t a = below(4) ? (uint32_t)below(752) : (uint32_t)figure();
+    uint32_t b = below(4) ? a + (uint32_t)below(200) : (uint32_t)figure();
+    uint32_t number = repeats_of(l, a, b, &right);
+    int guarded = below(16) == 0;
+    if (guarded)
+        guard(PROT_READ);
+    begin(REPEATS);
+    uint32_t k = end(carolsedge_repeats(l, a, b, value));
+    if (guarded)
+        guard(PROT_READ | PROT_WRITE);
+    if (k != number || *value != right)
+        fail("another count than that of the map");
+    check_state();
+}
+
 /* A record's bytes: true ones with a few altered, or wild ones; cut now and then. */
 static const uint8_t *forge_record(size_t *length)
 {
@@ -601,9 +634,9 @@ static void call_replay(void)
             put32(made + 16, (uint32_t)below(CAROLSEDGE_NEWEST_EDITION + 2));
     for (uint64_t i = below(12); i > 0; i--) {
         size_t length = below(200);
-        made[n] = below(20) ? (uint8_t)"CLSI"[below(4)] : (uint8_t)chance();
-        if (made[n] == 'I') {
-            n++;
+        made[n] = below(20) ? (uint8_t)"CLSIR"[below(5)] : (uint8_t)chance();
+        if (made[n] == 'I' || made[n] == 'R') {
+            n += made[n] == 'I' ? 1 : 9;
             continue;
         }
         put32(made + n + 1, below(50) ? (uint32_t)length : (uint32_t)figure());
@@ -712,11 +745,11 @@ static void round_of_surveys(void)
 /* A forged state, and a few calls on it. */
 static void round_of_calls(uint64_t most)
 {
-    static void (*const feeds[])(void) = {call_feed_capture, call_feed_luma, call_seal, call_index};
+    static void (*const feeds[])(void) = {call_feed_capture, call_feed_luma, call_seal, call_index, call_repeats};
     forge_state();
-    for (int i = 0; i < 32; i++) {
-        if (calls[FEED_CAPTURE + i % 4] < most)
-            feeds[i % 4]();
+    for (int i = 0; i < 40; i++) {
+        if (calls[FEED_CAPTURE + i % 5] < most)
+            feeds[i % 5]();
         alter_state();
     }
     for (int i = 0; i < 8 && calls[OPEN] < most; i++)

@@ -53,6 +53,9 @@ static size_t call_at(size_t at, size_t *room)
     *room = 25;
     if (size - at >= 1 && script[at] == 'I')
         return 1;
+    *room = 17;
+    if (size - at >= 9 && script[at] == 'R')
+        return 9;
     if (size - at < 5)
         return 0;
     size_t n = number(script + at + 1, 4);
@@ -88,7 +91,11 @@ int main(void)
         if (script[at] == 'I')
             print_index(p);
         else
-            print(script[at] == 'S' ? "seal" : script[at] == 'C' ? "capture" : "luma", p);
+            print(script[at] == 'S'   ? "seal"
+                  : script[at] == 'C' ? "capture"
+                  : script[at] == 'L' ? "luma"
+                                      : "repeats",
+                  p);
         if (script[at] == 'S') {
             putchar(' ');
             for (size_t i = 17; i < needed; i++)

@@ -78,6 +78,7 @@ extern "C" {
         three: &mut Three,
         place: &mut u64,
     ) -> u32;
+    fn carolsedge_repeats(luma: &[u64; 1600], a: u32, b: u32, value: &mut u64) -> u32;
     fn carolsedge_read_header(record: *const u8, length: usize, figures: &mut Figures) -> u32;
     fn carolsedge_read_unit(
         record: *const u8,
@@ -250,6 +251,14 @@ impl State {
         // SAFETY: the arrays have the sizes that the function uses, and those that it writes to are borrowed alone.
         let number = unsafe { carolsedge_index(&self.numbers, &self.luma, &mut three, &mut place) };
         given(number, three).map_err(|number| (number, place))
+    }
+
+    /// The refusal's number, or 0, and the value.
+    pub fn repeats(&self, a: u32, b: u32) -> (u32, u64) {
+        let mut value = 0;
+        // SAFETY: the array has the size that the function reads.
+        let number = unsafe { carolsedge_repeats(&self.luma, a, b, &mut value) };
+        (number, value)
     }
 }
 

@@ -10,7 +10,7 @@ use std::fmt;
 pub struct Refusal {
     /// 1 to 3 and 20: opening; 4 to 9: the capture; 10: the luma; 11 to 15: sealing (11: a survey too, 15: a sheet,
     /// runs of gaps and RTP too); 16 to 19: reading (19: a shelf too); 21: a survey; 22 and 23: losses; 24: runs of
-    /// gaps; 25: RTP; 27 and 28: a shelf.
+    /// gaps; 25: RTP; 26: a passage; 27 and 28: a shelf.
     pub number: u32,
     /// Where, or 0 where no place is named.
     pub place: u64,
@@ -45,6 +45,7 @@ impl Refusal {
             23 => "a key-frame probability is not within 0 to 1",
             24 => "the gaps of a run are more than 15",
             25 => "the rows of packets are none or more than 4,096, or their lists are not equally long",
+            26 => "the passage ends before it starts, or behind the whole pictures",
             27 => "the shelf is not laid out as one",
             28 => "the shelf holds a record that is refused",
             _ => "a number that is not in the table",

@@ -1,6 +1,7 @@
 use crate::raw::State;
 use crate::Refusal;
 use std::fmt;
+use std::ops::Range;
 
 /// What a sample is opened with.
 #[derive(Debug, Clone, Copy, PartialEq, Eq, Hash)]
@@ -86,6 +87,14 @@ impl Sample {
             Ok([ic, ip, value]) => Ok(Index { ic, ip, value }),
             Err((number, place)) => Err(Refusal { number, place }),
         }
+    }
+
+    /// How many pictures of a passage are repeated: of those from its start up to but without its end.
+    ///
+    /// Refused: 26, if the passage's start is above its end, or its end above the whole pictures fed so far. Refusals
+    /// of feeds do not stop it: after 10 the 750 pictures before it are there.
+    pub fn repeats(&self, passage: Range<u32>) -> Result<usize, Refusal> {
+        answer(self.state.repeats(passage.start, passage.end))
     }
 }
 

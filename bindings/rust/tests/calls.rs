@@ -515,6 +515,38 @@ fn refused_indices() {
     assert_eq!(three.unwrap()[2], 0x4008_0000_0000_0000);
 }
 
+// 200 pictures in runs of 1, 2, 3 and so on alike ones: a passage's repeats are all its pictures but the runs' first.
+#[test]
+fn repeats_in_passages() {
+    let mut firsts = vec![0];
+    while *firsts.last().unwrap() < 200 {
+        firsts.push(firsts.last().unwrap() + firsts.len());
+    }
+    let run_of = |i: usize| firsts.iter().filter(|&&first| first <= i).count();
+    let luma: Vec<u8> = (0..200).flat_map(|i| [run_of(i) as u8 * 8; PICTURE]).collect();
+    let mut sample = fed(&[], &luma[..100 * PICTURE + 1]);
+    let counted = |sample: &Sample, a: usize, b: usize| sample.repeats(a as u32..b as u32);
+    assert_eq!(counted(&sample, 0, 101), Err(refusal(26, 0)));
+    assert_eq!(counted(&sample, 100, 100), Ok(0));
+    sample.feed_luma(&luma[100 * PICTURE + 1..]).unwrap();
+    for a in 0..=200 {
+        for b in a..=200 {
+            let repeated = (a..b).filter(|i| !firsts.contains(i)).count();
+            assert_eq!(counted(&sample, a, b), Ok(repeated));
+        }
+    }
+    for (a, b) in [(0, 201), (1, 0), (200, 199), (201, 201), (0, u32::MAX as usize)] {
+        assert_eq!(counted(&sample, a, b), Err(refusal(26, 0)));
+    }
+    // refusals of feeds do not stop it: 5 of the capture, and 10 behind 750 pictures
+    assert_eq!(sample.feed_capture(&[0; 4]), Err(refusal(5, 3)));
+    assert_eq!(counted(&sample, 0, 200), Ok(200 - run_of(199)));
+    sample.feed_luma(&vec![0; 550 * PICTURE]).unwrap();
+    assert_eq!(sample.feed_luma(&[0]), Err(refusal(10, 675_000)));
+    assert_eq!(counted(&sample, 0, 750), Ok(750 - run_of(199) - 1));
+    assert_eq!(counted(&sample, 0, 751), Err(refusal(26, 0)));
+}
+
 #[test]
 fn refused_readings() {
     let read = |bytes: &[u8]| Record::read(bytes).map(|_| ());
@@ -549,8 +581,7 @@ fn a_clone_goes_on_by_itself() {
 
 #[test]
 fn words() {
-    let said: Vec<String> = (1..=25)
-        .chain([27, 28])
+    let said: Vec<String> = (1..=28)
         .map(|number| refusal(number, 0).meaning().to_string())
         .collect();
     for (i, words) in said.iter().enumerate() {

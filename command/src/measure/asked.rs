@@ -5,6 +5,7 @@ use crate::stop::Stop;
 use crate::words::{number, Words};
 use carolsedge::{Opening, NEWEST_EDITION};
 use std::ffi::OsString;
+use std::ops::Range;
 
 /// How long a picture is shown.
 #[derive(Clone, Copy)]
@@ -20,6 +21,8 @@ pub struct Asked {
     pub record: OsString,
     /// The identifier of the video's packets.
     pub pid: u32,
+    /// A passage whose repeated pictures are to be counted.
+    pub passage: Option<Range<u32>>,
     /// Whether the words leave `pid` out; a survey of the capture then has to give it, before all else.
     pub survey: bool,
     edition: u32,
@@ -30,7 +33,8 @@ pub struct Asked {
 impl Asked {
     pub fn read(words: Vec<OsString>) -> Result<Asked, Stop> {
         let usage = |text: &str| Err(Stop::Usage(text.into()));
-        let words = Words::part(words, &["-o", "--size", "--time", "--rate", "--pid", "--edition"], &[])?;
+        let options = ["-o", "--size", "--time", "--rate", "--pid", "--edition", "--passage"];
+        let words = Words::part(words, &options, &[])?;
         let mut plain = words.plain(&["CAPTURE", "PICTURES"], 1)?;
         let size = words.read("--size", size, "WIDTHxHEIGHT, as 1920x1080")?;
         let time = words.read("--time", number, "a number of microseconds")?.map(Time::Microseconds);
@@ -38,6 +42,7 @@ impl Asked {
         let pid = words.read("--pid", number, "a packet identifier")?;
         let (pid, survey) = (pid.unwrap_or_default(), pid.is_none());
         let edition = words.read("--edition", number, "an edition of the rules")?.unwrap_or(NEWEST_EDITION);
+        let passage = words.read("--passage", passage, "two picture numbers, as 0-250")?;
         let Some(record) = words.value("-o") else {
             return usage("-o RECORD is missing");
         };
@@ -52,7 +57,7 @@ impl Asked {
             return usage("-: CAPTURE and PICTURES cannot both be standard input");
         }
         let (record, time) = (record.into(), time.or(rate));
-        Ok(Asked { capture, pictures, record, pid, survey, edition, size, time })
+        Ok(Asked { capture, pictures, record, pid, passage, survey, edition, size, time })
     }
 
     /// The opening for pictures that say nothing of themselves.
@@ -93,6 +98,12 @@ impl Asked {
 fn size(text: &str) -> Option<(u32, u32)> {
     let parts = text.match_indices(['x', 'X']).map(|(at, _)| (number(&text[..at]), number(&text[at + 1..])));
     parts.filter_map(|(width, height)| Some((width?, height?))).next()
+}
+
+/// `A-B`: the pictures from A up to but without B.
+fn passage(text: &str) -> Option<Range<u32>> {
+    let (start, end) = text.split_once('-')?;
+    Some(number(start)?..number(end)?)
 }
 
 /// `N` or `N/D`, both above 0.

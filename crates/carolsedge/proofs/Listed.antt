@@ -16,8 +16,11 @@ use Rattle.rules.specs.Reading.{orScene, headerAnswer, unitAnswer, sceneAnswer}
 use Rattle.rules.specs.Sheet.{sheetLength, sheetAnswer}
 use Rattle.rules.specs.declared.Index.{Index}
 use Rattle.rules.specs.Capture.{formatFault}
-use Rattle.rules.specs.Seal.{index}
 use Rattle.rules.specs.Survey.{goodPackets, identifiers, withMost, surveyFeedAnswer, surveyFault, orMost, surveyAnswer}
+use Rattle.rules.specs.Seal.{index, reduced}
+use Rattle.rules.specs.Changes.{repeats}
+use Rattle.rules.specs.Passage.{repeatedIn, repeatsFault, repeatsAnswer}
+use Rattle.rules.proofs.Laws.Passage.{repeats-numbered}
 use Rattle.rules.specs.WhileFeeding.{indexFault, orIndex, indexAnswer}
 use Rattle.rules.proofs.Laws.Listed.{Numbered, of-either, opening, capture, luma, seal, reading, unit, scene, room}
 use Rattle.rules.proofs.Laws.Listed.{format, survey}
@@ -61,6 +64,12 @@ of-index-answer (fault k p) i x = x
 pub index-number : (o : Opening) (c l : List ℕ) → indexNumber (indexAnswer o c l) ≡ numberIn (indexFault o c l)
 unfolding indexAnswer
 index-number o c l = of-index-answer (indexFault o c l) (index o c l) (index-numbered o c l)
+
+pub repeats-number : (o : Opening) (l : List ℕ) (a b : ℕ) →
+    numberOf (repeatsAnswer o l a b) ≡ numberIn (repeatsFault o l a b)
+unfolding repeatsAnswer
+repeats-number o l a b =
+    of-answer (repeatsFault o l a b) (repeatedIn a b (repeats (reduced o l))) (repeats-numbered o l a b)
 
 of-header-answer : (f : Fault) (h : Header) → Numbered f → headerNumber (orHeader f h) ≡ numberIn f
 of-header-answer none h x = refl

@@ -1,5 +1,5 @@
 -- What the C functions promise: there is an answer of which the crate below promises what document 01 says, and the number and the value are that answer's.
-use Prim.Native.Nat.{ℕ}
+use Prim.Native.Nat.{ℕ, _-_, _≤_}
 use mathlib.Core.Path.{_≡_}
 use mathlib.Core.List.{List, []}
 use lib.ListN.{length}
@@ -10,7 +10,7 @@ use Rattle.rules.specs.declared.IndexAnswer.{IndexAnswer}
 use Rattle.rules.specs.declared.SurveyAnswer.{SurveyAnswer}
 use Rattle.rules.specs.Reading.{headerAnswer, unitAnswer, sceneAnswer}
 use Rattle.rules.specs.Sheet.{sheetAnswer, sheetBuffer}
-use Rattle.rules.specs.Calls.{Question, index, Reply, indexed, lentAfter}
+use Rattle.rules.specs.Calls.{Question, index, repeats, Reply, indexed, lentAfter}
 use Rattle.capture.specs.State.{Arrays}
 use Rattle.capture.specs.Contract as side-capture
 use Rattle.luma.specs.Contract as side-luma
@@ -63,6 +63,13 @@ pub record IndexTold (numbers luma : List ℕ) (before : List Float) (number pla
   pub numbered : number ≡ indexNumber answer
   pub placed : place ≡ indexPlace answer
   pub given : after ≡ indexInto answer before
+
+-- of a count of repeats: the luma words, a and b, the number, the value
+pub record CountTold (luma : List ℕ) (a b number value : ℕ) : Type 0 where
+  -- whatever stands in the capture side's arrays
+  pub told : (capture : Arrays) → Told (record { capture = capture; luma = luma }) (repeats a b) number value []
+  -- of every state: no more is counted than the passage has pictures
+  pub most : number ≡ 0 → value ≤ b - a
 
 -- the record's bytes, the lent array before, the number, the lent array after
 pub record HeaderRead (bytes before : List ℕ) (number : ℕ) (after : List ℕ) : Type 0 where

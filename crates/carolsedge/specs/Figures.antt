@@ -15,7 +15,7 @@ use Rattle.rules.specs.declared.HeaderAnswer.the-variants as of-header
 use Rattle.rules.specs.declared.IndexAnswer.the-variants as of-index
 use Rattle.rules.specs.declared.UnitAnswer.the-variants as of-unit
 use Rattle.rules.specs.declared.SceneAnswer.the-variants as of-scene
-use Rattle.rules.specs.Calls.{Reply, sealedInto, indexed}
+use Rattle.rules.specs.Calls.{Reply, sealedInto, indexed, counted}
 
 abbrev pub figuresOf : Header → List ℕ
 figuresOf h =
@@ -39,6 +39,7 @@ indexInto (of-index.Refused k p) old = old
 abbrev pub threeOf : Reply → List Float
 threeOf (sealedInto a buffer) = []
 threeOf (indexed a) = indexInto a []
+threeOf (counted a) = []
 
 abbrev pub headerInto : HeaderAnswer → List ℕ → List ℕ
 headerInto (of-header.Given h) old = figuresOf h

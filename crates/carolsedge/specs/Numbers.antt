@@ -13,7 +13,7 @@ use Rattle.rules.specs.declared.UnitAnswer.the-variants as of-unit
 use Rattle.rules.specs.declared.SceneAnswer.the-variants as of-scene
 use Rattle.rules.specs.declared.SurveyAnswer.the-variants as of-survey
 use Rattle.rules.specs.Refusals.{listed}
-use Rattle.rules.specs.Calls.{Reply, sealedInto, indexed}
+use Rattle.rules.specs.Calls.{Reply, sealedInto, indexed, counted}
 
 abbrev pub numberOf : Answer → ℕ
 numberOf (Done n) = 0
@@ -36,10 +36,12 @@ indexPlace (of-index.Refused k p) = p
 abbrev pub replyNumber : Reply → ℕ
 replyNumber (sealedInto a buffer) = numberOf a
 replyNumber (indexed a) = indexNumber a
+replyNumber (counted a) = numberOf a
 
 abbrev pub replyValue : Reply → ℕ
 replyValue (sealedInto a buffer) = valueOf a
 replyValue (indexed a) = indexPlace a
+replyValue (counted a) = valueOf a
 
 -- of a reading, whose refusals all stand at 0
 abbrev pub headerNumber : HeaderAnswer → ℕ

@@ -9,7 +9,7 @@ ghost use Rattle.carolsedge.specs.Numbers.{numberOf, valueOf};
 ghost use Rattle.carolsedge.specs.Figures.{figuresOf, unitFigures, sceneFigures};
 ghost use Rattle.carolsedge.specs.Contract.{Opened, FedCapture, FedLuma, Told, HeaderRead, UnitRead, SceneRead};
 ghost use Rattle.carolsedge.specs.Figures.{indexFigures};
-ghost use Rattle.carolsedge.specs.Contract.{SheetPrinted, IndexTold, SurveyFed, SurveyTold};
+ghost use Rattle.carolsedge.specs.Contract.{SheetPrinted, IndexTold, CountTold, SurveyFed, SurveyTold};
 ghost use Rattle.survey.specs.State.{stateOf};
 ghost use Rattle.survey.specs.Contract as of-survey;
 ghost use Rattle.carolsedge.specs.Numbers.{mostNumber, mostValue, mostCount};
@@ -178,6 +178,16 @@ pub extern "C" fn carolsedge_index(
             listed_number(number)
         }
     }
+}
+
+// Counts the repeated pictures from a up to but without b. The value is the count, or the refusal's place.
+#[no_mangle]
+pub extern "C" fn carolsedge_repeats(luma: &[u64; 1600], a: u32, b: u32, value: &mut u64) -> u32
+    ensures { λ r. ⌜ CountTold (now (luma .entry)) a b r (now (value .exit)) ⌝ }
+{
+    let answer = sample::repeats(luma, a, b);
+    *value = value_of(answer);
+    number_of(answer)
 }
 
 // Opens, feeds and seals as a script says (include/carolsedge.h has its form), and writes what every call comes to. False, and out stands as it was, where there is no

@@ -8,7 +8,7 @@ use lib.Dec.{leb, ltb, eqb}
 use lib.ListN.{length, take, drop, length-append, length-drop, length-replicate, drop-of-length-le, take-append-drop}
 use lib.ListN.{List·getD-eq-default}
 use lib.Seq.{take-all, append-snoc, take-at, drop-at, drop-drop, length-take-le}
-use borrow.Author.Tests.{le-leb, lt-leb, leb-true, ltb-false, lt-ltb, ne-eqb}
+use borrow.Author.Tests.{le-leb, lt-leb, leb-true, ltb-false, lt-ltb, eq-eqb, ne-eqb}
 use borrow.Rule.Slice.PartMut.{midOf, putMid, post-is}
 use Rattle.rules.specs.declared.Answer.{Answer}
 use Rattle.rules.specs.Bytes.{pick, byte, word32}
@@ -19,8 +19,8 @@ use Rattle.sample.specs.Contract.{OpenPost}
 use Rattle.sample.specs.Calls.{Runs, done, next}
 use Rattle.sample.proofs.Lists.{every-list}
 use Rattle.replay.specs.declared.reading.Head.{Head}
-use Rattle.replay.specs.declared.reading.Head.the-variants.{Stop, Capture, Luma, Seal, Index}
-use Rattle.replay.specs.Script.{openingOf, headBy, headAt, callsWith, callsBy, callsOf, code, codeOf, codes, room, roomFor, replayed, Replayed, nextOf, sizeOf, CallPost, Played, All}
+use Rattle.replay.specs.declared.reading.Head.the-variants.{Stop, Capture, Luma, Seal, Index, Repeats}
+use Rattle.replay.specs.Script.{openingOf, headBy, passageBy, headAt, callsWith, callsBy, callsOf, code, codeOf, codes, room, roomFor, replayed, Replayed, nextOf, sizeOf, CallPost, Played, All}
 
 -- ---- heads
 
@@ -28,11 +28,16 @@ pub short : (left kind n : ℕ) → left < 5 → Stop ≡ headBy left kind n
 unfolding headBy
 short left kind n h = rw (lt-ltb left 5 h)
 
--- another byte than I
-pub other-head : (script : List ℕ) (at : ℕ) {h : Head} → (byte script at ≡ 73 → ⊥) →
+-- R, and another byte than I and R
+pub passage-head : (script : List ℕ) (at : ℕ) {h : Head} → (byte script at ≡ 73 → ⊥) → byte script at ≡ 82 →
+    h ≡ passageBy (length script - at) (word32 script (at + 1)) (word32 script (at + 5)) →
+    h ≡ headAt script at
+passage-head script at i r e = rw (ne-eqb (byte script at) 73 i, eq-eqb (byte script at) 82 r) e
+
+pub other-head : (script : List ℕ) (at : ℕ) {h : Head} → (byte script at ≡ 73 → ⊥) → (byte script at ≡ 82 → ⊥) →
     h ≡ headBy (length script - at) (byte script at) (word32 script (at + 1)) →
     h ≡ headAt script at
-other-head script at i e = rw (ne-eqb (byte script at) 73 i) e
+other-head script at i r e = rw (ne-eqb (byte script at) 73 i, ne-eqb (byte script at) 82 r) e
 
 -- a call's bytes are there
 unfoldable pub bytesOfHead : Head → ℕ
@@ -41,6 +46,7 @@ bytesOfHead (Capture n) = 5 + n
 bytesOfHead (Luma n) = 5 + n
 bytesOfHead (Seal n) = 5
 bytesOfHead Index = 0
+bytesOfHead (Repeats a b) = 0
 
 fits : (left kind n : ℕ) → bytesOfHead (headBy left kind n) ≤ left
 unfolding headBy bytesOfHead
@@ -67,14 +73,32 @@ fits left kind n = a (ltb left 5) refl
     a false g = s (eqb kind 83) (ltb-false left 5 g)
 
 fits-at : (script : List ℕ) (at : ℕ) (h : Head) → h ≡ headAt script at → bytesOfHead h ≤ length script - at
-unfolding bytesOfHead
-fits-at script at h e = rw e (go (eqb (byte script at) 73))
+unfolding bytesOfHead passageBy
+fits-at script at h e = rw e (first (eqb (byte script at) 73))
   where
-    go : (b : Bool) →
-        bytesOfHead (pick b Index (headBy (length script - at) (byte script at) (word32 script (at + 1)))) ≤
-        length script - at
-    go true = omega arith
-    go false = fits (length script - at) _ _
+    left : ℕ
+    left = length script - at
+
+    short-or : (b : Bool) (m n : ℕ) → bytesOfHead (pick b Stop (Repeats m n)) ≤ left
+    short-or true m n = omega arith
+    short-or false m n = omega arith
+
+    second : (b : Bool) →
+        bytesOfHead
+        (pick b (passageBy left (word32 script (at + 1)) (word32 script (at + 5)))
+        (headBy left (byte script at) (word32 script (at + 1)))) ≤
+        left
+    second true = short-or (ltb left 9) _ _
+    second false = fits left _ _
+
+    first : (b : Bool) →
+        bytesOfHead
+        (pick b Index
+        (pick (eqb (byte script at) 82) (passageBy left (word32 script (at + 1)) (word32 script (at + 5)))
+        (headBy left (byte script at) (word32 script (at + 1))))) ≤
+        left
+    first true = omega arith
+    first false = second (eqb (byte script at) 82)
 
 pub fits-capture : (script : List ℕ) (at n : ℕ) → Capture n ≡ headAt script at → 5 + n ≤ length script - at
 unfolding bytesOfHead
@@ -98,7 +122,7 @@ calls-end zero script at h = refl
 calls-end (suc f) script at h =
     let none : byte script at ≡ 0 = List·getD-eq-default script 0 h in
     let s = short (length script - at) (byte script at) (word32 script (at + 1)) (omega arith) in
-    let z = other-head script at (λ e. omega arith) s in
+    let z = other-head script at (λ e. omega arith) (λ e. omega arith) s in
     rw (← z)
 
 -- ---- codes and their room
@@ -123,6 +147,7 @@ no-call (Capture n) script at more z = absurd (omega arith)
 no-call (Luma n) script at more z = absurd (omega arith)
 no-call (Seal n) script at more z = absurd (omega arith)
 no-call Index script at more z = absurd (omega arith)
+no-call (Repeats a b) script at more z = absurd (omega arith)
 
 takes : (h : Head) (script : List ℕ) (at : ℕ) (more : ℕ → List Call) → sizeOf h ≤ room (callsWith h script at more)
 unfolding room
@@ -131,6 +156,7 @@ takes (Capture n) script at more = omega arith
 takes (Luma n) script at more = omega arith
 takes (Seal n) script at more = rw length-replicate (omega arith)
 takes Index script at more = omega arith
+takes (Repeats a b) script at more = omega arith
 
 pub next-on : (h : Head) (at : ℕ) → at < nextOf h at
 next-on Stop at = omega arith
@@ -138,6 +164,7 @@ next-on (Capture n) at = omega arith
 next-on (Luma n) at = omega arith
 next-on (Seal n) at = omega arith
 next-on Index at = omega arith
+next-on (Repeats a b) at = omega arith
 
 takes-on : (h : Head) (script : List ℕ) (at : ℕ) (more : ℕ → List Call) → 0 < sizeOf h → room (callsWith h script at more) ≡ sizeOf h + room (more (nextOf h at))
 unfolding room
@@ -146,6 +173,7 @@ takes-on (Capture n) script at more z = refl
 takes-on (Luma n) script at more z = refl
 takes-on (Seal n) script at more z = rw length-replicate
 takes-on Index script at more z = refl
+takes-on (Repeats a b) script at more z = refl
 
 -- ---- room so far: the opening's answer and the calls before `at` take `to` bytes
 pub record Taken (script : List ℕ) (at to : ℕ) : Type 0 where

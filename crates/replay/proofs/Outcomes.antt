@@ -9,7 +9,8 @@ use lib.Seq.{take-all, drop-at, length-take-le, take-suc-set}
 use borrow.Rule.Slice.PartMut.{midOf, postOf, putMid}
 use Rattle.rules.specs.declared.Answer.{Answer}
 use Rattle.rules.specs.Bytes.{bytesOf}
-use Rattle.rules.specs.Calls.{Question, seal, index, sealedInto, Call, feedCapture, feedLuma, ask, fed, replied}
+use Rattle.rules.specs.Calls.{Question, seal, index, repeats, sealedInto, Call, feedCapture, feedLuma, ask, fed}
+use Rattle.rules.specs.Calls.{replied}
 use Rattle.words.specs.Written.{written}
 use Rattle.words.proofs.Laws.{written-sets, written-append}
 use Rattle.capture.specs.State.{Arrays}
@@ -17,7 +18,7 @@ use Rattle.sample.specs.State.{State, Words, wordsOf}
 use Rattle.sample.specs.Contract.{SealPost}
 use Rattle.sample.specs.Calls.{feedsCapture, feedsLuma, asks}
 use Rattle.replay.specs.declared.reading.Head.{Head}
-use Rattle.replay.specs.declared.reading.Head.the-variants.{Capture, Luma, Seal, Index}
+use Rattle.replay.specs.declared.reading.Head.the-variants.{Capture, Luma, Seal, Index, Repeats}
 use Rattle.replay.specs.Script.{kindOf, firstOf, secondOf, code, threeWords, callsWith, replyRoom, sizeOf}
 use Rattle.replay.specs.Script.{FedCapture, FedLuma, Replied, CallPost}
 
@@ -157,3 +158,8 @@ pub after-index : (st : State) (script out′ : List ℕ) (at from : ℕ) (h : H
     Replied (wordsOf st) index out′ → CallPost st script at h from st out′
 after-index st script out′ at from h e f p =
     after-question st script out′ at from h index (λ more. rw (e, f)) (rw e) (omega arith) p
+
+pub after-repeats : (st : State) (script out′ : List ℕ) (at from a b : ℕ) (h : Head) → h ≡ Repeats a b →
+    from ≡ at + 9 → Replied (wordsOf st) (repeats a b) out′ → CallPost st script at h from st out′
+after-repeats st script out′ at from a b h e f p =
+    after-question st script out′ at from h (repeats a b) (λ more. rw (e, f)) (rw e) (omega arith) p

@@ -15,8 +15,8 @@ use Rattle.rules.specs.declared.Index as of-rules
 use Rattle.index.specs.Counts.{NoNan}
 use Rattle.rules.specs.Bytes.{pick, byte, word32, bytesOf}
 use Rattle.rules.specs.Opening.{openAnswer}
-use Rattle.rules.specs.Calls.{Question, seal, index, Reply, sealedInto, indexed, Call, feedCapture, feedLuma, ask}
-use Rattle.rules.specs.Calls.{Outcome, fed, replied, expected}
+use Rattle.rules.specs.Calls.{Question, seal, index, repeats, Reply, sealedInto, indexed, counted, Call, feedCapture}
+use Rattle.rules.specs.Calls.{feedLuma, ask, Outcome, fed, replied, expected}
 use Rattle.capture.specs.State.{Arrays}
 use Rattle.capture.specs.Contract as side-capture
 use Rattle.luma.specs.Contract as side-luma
@@ -24,7 +24,7 @@ use Rattle.sample.specs.State.{State, Words}
 use Rattle.sample.specs.Contract.{Asked}
 use Rattle.sample.specs.Calls.{Ran, Runs}
 use Rattle.replay.specs.declared.reading.Head.{Head}
-use Rattle.replay.specs.declared.reading.Head.the-variants.{Stop, Capture, Luma, Seal, Index}
+use Rattle.replay.specs.declared.reading.Head.the-variants.{Stop, Capture, Luma, Seal, Index, Repeats}
 
 -- ---- what a script says
 
@@ -42,10 +42,16 @@ unfoldable pub headBy : ℕ → ℕ → ℕ → Head
 headBy left kind n =
     pick (ltb left 5) Stop (pick (eqb kind 83) (Seal n) (pick (ltb (left - 5) n) Stop (pick (eqb kind 67) (Capture n) (pick (eqb kind 76) (Luma n) Stop))))
 
--- the head that the script has at a place: I is a call by itself
+-- the call that begins with R and the words a and b, where `left` bytes of the script are left, those nine among them
+unfoldable pub passageBy : ℕ → ℕ → ℕ → Head
+passageBy left a b = pick (ltb left 9) Stop (Repeats a b)
+
+-- the head that the script has at a place: I is a call by itself, R has two words
 abbrev pub headAt : List ℕ → ℕ → Head
 headAt script at =
-    pick (eqb (byte script at) 73) Index (headBy (length script - at) (byte script at) (word32 script (at + 1)))
+    pick (eqb (byte script at) 73) Index
+    (pick (eqb (byte script at) 82) (passageBy (length script - at) (word32 script (at + 1)) (word32 script (at + 5)))
+    (headBy (length script - at) (byte script at) (word32 script (at + 1))))
 
 -- the calls from a place on, of which the first has this head
 abbrev pub callsWith : Head → List ℕ → ℕ → (ℕ → List Call) → List Call
@@ -54,6 +60,7 @@ callsWith (Capture n) script at more = feedCapture (take n (drop (at + 5) script
 callsWith (Luma n) script at more = feedLuma (take n (drop (at + 5) script)) ∷ more (at + 5 + n)
 callsWith (Seal n) script at more = ask (seal (replicate n 0xA5)) ∷ more (at + 5)
 callsWith Index script at more = ask index ∷ more (at + 1)
+callsWith (Repeats a b) script at more = ask (repeats a b) ∷ more (at + 9)
 
 -- at most as many calls as the first number says
 unfoldable pub callsBy : ℕ → List ℕ → ℕ → List Call
@@ -99,6 +106,7 @@ indexCode (of-index.Refused number place) = threeWords 1 number place 0
 abbrev pub replyCode : Reply → List ℕ
 replyCode (sealedInto a buffer) = code a ++ buffer
 replyCode (indexed a) = indexCode a
+replyCode (counted a) = code a
 
 -- a call's outcome
 abbrev pub codeOf : Outcome → List ℕ
@@ -114,6 +122,7 @@ codes (o ∷ os) = codeOf o ++ codes os
 abbrev pub replyRoom : Question → ℕ
 replyRoom (seal buffer) = 17 + length buffer
 replyRoom index = 25
+replyRoom (repeats a b) = 17
 
 abbrev pub roomOf : Call → ℕ
 roomOf (feedCapture piece) = 17
@@ -132,6 +141,7 @@ nextOf (Capture n) at = at + 5 + n
 nextOf (Luma n) at = at + 5 + n
 nextOf (Seal n) at = at + 5
 nextOf Index at = at + 1
+nextOf (Repeats a b) at = at + 9
 
 -- the bytes that the opening's answer and the outcomes of all calls take
 abbrev pub roomFor : List ℕ → ℕ
@@ -156,6 +166,7 @@ sizeOf (Capture n) = 17
 sizeOf (Luma n) = 17
 sizeOf (Seal n) = 17 + n
 sizeOf Index = 25
+sizeOf (Repeats a b) = 17
 
 -- a feed of the capture side, and its code
 pub record FedCapture (capture : Arrays) (piece : List ℕ) (capture′ : Arrays) (out′ : List ℕ) : Type 0 where
@@ -181,6 +192,11 @@ IndexReplied numbers luma out′ =
     (walk kept table : List ℕ) →
     Replied (record { capture = record { walk = walk; kept = kept; numbers = numbers; table = table }; luma = luma })
     index out′
+
+-- a count of repeats that is asked for, whatever stands in the capture side's arrays, and the code of its answer
+abbrev pub CountReplied : List ℕ → ℕ → ℕ → List ℕ → Type 0
+CountReplied luma a b out′ =
+    (capture : Arrays) → Replied (record { capture = capture; luma = luma }) (repeats a b) out′
 
 -- the three of an index that is given have bits
 abbrev pub HasBits : IndexAnswer → Type 0

@@ -1,13 +1,14 @@
 // Runs a whole list of calls that a script of bytes holds, all after one opening, and writes what they come to. A
 // script: the 32-bit little-endian words W, H, d, PID and the rule edition; then calls. A call: byte C or L, a 32-bit
-// length n and n bytes, a feed of that side; byte S and a 32-bit length n, a seal into n bytes of 0xA5; or byte I, the
-// index. Where the script ends inside a call, or where another byte stands, the list ends.
+// length n and n bytes, a feed of that side; byte S and a 32-bit length n, a seal into n bytes of 0xA5; byte I, the
+// index; or byte R and 32-bit words a and b, the repeats of a passage. Where the script ends inside a call, or where
+// another byte stands, the list ends.
 ghost use mathlib.Core.Path.{_≡_};
 ghost use Prim.Native.Nat.{_-_, _≤_};
 ghost use lib.ListN.{length, replicate};
 ghost use Rattle.rules.specs.Calls.{seal};
-ghost use Rattle.replay.specs.Script.{FedCapture, FedLuma, Replied, IndexReplied, Called, CallPost};
-ghost use Rattle.replay.specs.Script.{All, Replayed};
+ghost use Rattle.replay.specs.Script.{FedCapture, FedLuma, Replied, IndexReplied, CountReplied};
+ghost use Rattle.replay.specs.Script.{Called, CallPost, All, Replayed};
 
 mod reading;
 mod writing;
@@ -83,6 +84,14 @@ fn call_index(numbers: &Numbers, luma: &[u64; 1600], out: &mut [u8])
     put_index(out, a);
 }
 
+fn call_repeats(luma: &[u64; 1600], a: u32, b: u32, out: &mut [u8])
+    requires { ⌜ length (now out) ≡ 17 ⌝ }
+    ensures { λ _. ⌜ CountReplied (now (luma .entry)) a b (now (out .exit)) ⌝ }
+{
+    let r = sample::repeats(luma, a, b);
+    put(out, r);
+}
+
 // The call whose head h stands at `at`: where the next one stands.
 fn call(
     walk: &mut WalkWords,
@@ -107,6 +116,10 @@ fn call(
         Head::Index => {
             call_index(numbers, luma, out);
             at + 1
+        }
+        Head::Repeats(a, b) => {
+            call_repeats(luma, a, b, out);
+            at + 9
         }
         Head::Seal(_) => {
             call_seal(walk, kept, numbers, table, luma, out);

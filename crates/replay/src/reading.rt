@@ -1,9 +1,11 @@
 // Reading a script: its opening, the calls that stand in it, and the room that they take.
 ghost use mathlib.Core.Path.{_≡_};
-ghost use Prim.Native.Nat.{_<_, _^_};
+ghost use Prim.Native.Nat.{_+_, _-_, _<_, _^_};
 ghost use lib.ListN.{length};
 ghost use lib.Dec.{leb};
 ghost use Rattle.replay.specs.Script.{wordAt, nextOf, roomFor, openingOf, headBy, headAt, sizeOf};
+ghost use Rattle.rules.specs.Bytes.{word32};
+ghost use Rattle.replay.specs.Script.{passageBy};
 use rules::Opening;
 
 // What stands where a call should begin: the call's kind and its length, or no call.
@@ -13,6 +15,7 @@ pub enum Head {
     Luma(u32),
     Seal(u32),
     Index,
+    Repeats(u32, u32),
 }
 
 pub fn wide(n: u32) -> usize
@@ -71,6 +74,20 @@ fn head_by(left: usize, kind: u8, n: u32) -> Head
     Head::Stop
 }
 
+// The head of a passage, behind its R.
+fn passage_at(script: &[u8], at: usize) -> Head
+    requires { ⌜ at < length (now script) ⌝ }
+    ensures { λ r. ⌜ r ≡ passageBy (length (now (script .entry)) - at) (word32 (now (script .entry)) (at + 1))
+        (word32 (now (script .entry)) (at + 5)) ⌝ }
+{
+    if script.len() - at < 9 {
+        return Head::Stop;
+    }
+    let a = words::word32(script, at + 1);
+    let b = words::word32(script, at + 5);
+    Head::Repeats(a, b)
+}
+
 pub fn head_at(script: &[u8], at: usize) -> Head
     requires { ⌜ at < length (now script) ⌝ }
     ensures { λ r. ⌜ r ≡ headAt (now (script .entry)) at ⌝ }
@@ -78,6 +95,9 @@ pub fn head_at(script: &[u8], at: usize) -> Head
     let kind = script[at];
     if kind == 73 {
         return Head::Index;
+    }
+    if kind == 82 {
+        return passage_at(script, at);
     }
     let left = script.len() - at;
     if left < 5 {
@@ -97,6 +117,7 @@ pub fn size(h: Head) -> usize
         Head::Luma(_) => 17,
         Head::Seal(n) => 17 + wide(n),
         Head::Index => 25,
+        Head::Repeats(_, _) => 17,
     }
 }
 
@@ -109,6 +130,7 @@ fn next_at(at: usize, h: Head) -> usize
     match h {
         Head::Stop => from,
         Head::Index => at + 1,
+        Head::Repeats(_, _) => at + 9,
         Head::Seal(_) => from,
         Head::Capture(n) => from + wide(n),
         Head::Luma(n) => from + wide(n),

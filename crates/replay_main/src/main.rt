@@ -2,8 +2,8 @@
 //
 // The script: five 32-bit little-endian words W, H, d, PID and the rule edition, then calls. `C` or `L`, a 32-bit
 // length and as many bytes: a feed of that side. `S` and a 32-bit length: a seal into a buffer of so many bytes, each
-// 0xA5 before. `I`: the index, whose bits are printed. Anything else, or the end of the script inside a call, ends the
-// run.
+// 0xA5 before. `I`: the index, whose bits are printed. `R` and 32-bit numbers a and b: the repeats of a passage.
+// Anything else, or the end of the script inside a call, ends the run.
 use capture::Numbers;
 use capture_units::Table;
 use capture_walk::Collected;
@@ -79,6 +79,18 @@ fn run_index(numbers: &Numbers, luma: &[u64; 1600]) -> bool {
     true
 }
 
+fn run_repeats(luma: &[u64; 1600]) -> bool {
+    let mut ends = [0u8; 8];
+    if io::read_full(STDIN_FILENO, &mut ends) < 8 {
+        return false;
+    }
+    let a = words::word32(&ends, 0);
+    let b = words::word32(&ends, 4);
+    let answer = sample::repeats(luma, a, b);
+    program_text::print_answer(b"repeats", b"repeats refused", answer, b"\n");
+    true
+}
+
 // Reads a piece of so many bytes; answers whether it is not too long and was there.
 fn read_piece(piece: &mut [u8], length: u32) -> bool {
     if 1048576 < length {
@@ -140,6 +152,9 @@ fn run_call(
     }
     if kind[0] == 73 {
         return run_index(numbers, luma);
+    }
+    if kind[0] == 82 {
+        return run_repeats(luma);
     }
     let mut word = [0u8; 4];
     if io::read_full(STDIN_FILENO, &mut word) < 4 {

@@ -34,7 +34,7 @@ use Rattle.rules.specs.Record.{le32, recordLength, sceneOffset, headerBy
 use Rattle.rules.specs.Reading.{scenePlace, unitPlace, allowedHeader, allowedUnit, allowedUnits, allowedScene, allowedScenes, allowedRows, allowed, readingFault, rowFault, unitFault, sceneFault}
 use Rattle.rules.specs.Seal.{reduced, scenesIn, scenes, unrepeated, indexFrom, index, header, sealed, sealedLength, captureUnfinished, noPacket, lumaUnfinished, noPicture, noRoom, sealFault, captureAnswer, lumaAnswer, sealAnswer, over, sealedBuffer}
 use Rattle.rules.specs.Calls.{Call, feedCapture, feedLuma, ask, seal, Outcome, fed, replied, Reply, sealedInto}
-use Rattle.rules.specs.Calls.{indexed, expected}
+use Rattle.rules.specs.Calls.{indexed, counted, expected}
 use Rattle.rules.proofs.Worked.{Case}
 
 -- ---- the parts that samples are made of
@@ -104,6 +104,7 @@ toldIndex (of-index.Refused k p) = k ∷ p ∷ []
 abbrev toldIn : Reply → List ℕ
 toldIn (sealedInto a buffer) = told a ++ buffer
 toldIn (indexed a) = toldIndex a
+toldIn (counted a) = told a
 
 abbrev toldOf : Outcome → List ℕ
 toldOf (fed a) = told a

@@ -19,6 +19,7 @@ pub mod Record
 pub mod Reading
 pub mod Seal
 pub mod WhileFeeding
+pub mod Passage
 pub mod Calls
 pub mod Digits
 pub mod Sheet

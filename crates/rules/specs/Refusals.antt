@@ -4,6 +4,7 @@
 --   luma     10 Pictures.lumaFault
 --   seal     11 Seal.captureUnfinished, 12 Seal.noPacket, 13 Seal.lumaUnfinished, 14 Seal.noPicture, 15 Seal.noRoom
 --   index    the opening's, 4 to 10, 12, 14: WhileFeeding.indexFault
+--   passage  the opening's, then 26: Passage.repeatsFault
 --   reading  16, 17, 18 Reading.readingFault, 19 Reading.rowFault
 --   sheet    16, 17, 18, then 15: Sheet.sheetAnswer
 --   survey   4 to 8, then 11, then 21: Survey.surveyFault (21 Survey.noGood)
@@ -42,7 +43,7 @@ answer (fault k p) n = Refused k p
 -- ---- the table's numbers, from 1 on
 
 -- the last of them: 20 joined with document 02, R-2, 21 with R-4, 22 and 23 with R-8, 24 with R-10, 25 with
--- R-11, 27 and 28 with R-13
+-- R-11, 26 with R-12, 27 and 28 with R-13
 abbrev pub lastNumber : ℕ
 lastNumber = 28
 

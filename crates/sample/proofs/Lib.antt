@@ -3,4 +3,5 @@ pub mod Opened
 pub mod Sealing
 pub mod Writing
 pub mod WhileFeeding
+pub mod Passages
 pub mod ReadBack

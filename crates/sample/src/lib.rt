@@ -12,6 +12,7 @@ ghost use Rattle.luma.specs.Contract as side-luma;
 ghost use Rattle.index.specs.Counts.{IndexFrom};
 ghost use Rattle.sample.specs.Contract.{OpenPost, SealPost, headerBy, WritePost};
 
+mod passage;
 mod while_feeding;
 
 use capture::Numbers;
@@ -19,6 +20,7 @@ use capture::Summary;
 use capture_units::Table;
 use capture_walk::Collected;
 use capture_walk::WalkWords;
+pub use passage::repeats;
 use rules::Answer;
 use rules::Header;
 use rules::Index;

@@ -172,6 +172,11 @@ impl Film {
         self.repeated.iter().filter(|&&repeated| !repeated).count() as u32
     }
 
+    /// Repeated pictures from `first` up to but without `end`, which is at most the number of pictures.
+    pub fn repeated_in(&self, first: usize, end: usize) -> u32 {
+        self.repeated[first..end].iter().filter(|&&repeated| repeated).count() as u32
+    }
+
     /// Adds the next picture; it completes the window of the picture two before it.
     pub fn add(&mut self, picture: &[u8]) {
         let i = self.repeated.len();
@@ -217,7 +222,7 @@ impl Film {
         Scene {
             first: first as u32,
             pictures: (end - first) as u32,
-            repeated: repeated.iter().filter(|&&repeated| repeated).count() as u32,
+            repeated: self.repeated_in(first, end),
             longest_run: runs.max().unwrap_or(0) as u32,
             strength_sum: strengths.iter().sum(),
             strength_most: strengths.iter().copied().max().unwrap_or(0),
@@ -260,6 +265,28 @@ mod tests {
             for place in 0..length {
                 let third = 3 * place / length;
                 assert!((bounds[third]..bounds[third + 1]).contains(&place));
+            }
+        }
+    }
+
+    /// Request R-3, and the bounds that the tiles have here.
+    #[test]
+    fn two_boundaries_count_the_tile_column_for_every_allowed_width() {
+        let mut allowed = [false; 1921];
+        for (width, height) in (15..=1920).flat_map(|width| (30..=1088).map(move |height| (width, height))) {
+            if height <= 2 * width && width <= 4 * height {
+                allowed[crate::luma::Grid::new(width, height).reduced_width] = true;
+            }
+        }
+        let widths: Vec<usize> = (0..=1920).filter(|&w| allowed[w]).collect();
+        assert_eq!((widths[0], widths[widths.len() - 1]), (15, 239));
+        for w in widths {
+            let least = |numerator: usize| (0..).find(|c| 3 * c >= numerator).unwrap();
+            let boundaries = [least(w), least(2 * w)];
+            assert_eq!(thirds(w)[1..3], boundaries);
+            for c in 0..w {
+                let at_or_below = boundaries.iter().filter(|&&boundary| boundary <= c).count();
+                assert_eq!(at_or_below, 3 * c / w);
             }
         }
     }

@@ -22,7 +22,7 @@ pub fn recut(seed: u64, mut script: impl Read, mut out: impl Write) -> io::Resul
         match call {
             Call::Capture(piece) => waiting.capture.extend(piece),
             Call::Luma(piece) => waiting.luma.extend(piece),
-            Call::Seal(_) | Call::Index => {
+            Call::Seal(_) | Call::Index | Call::Repeats(..) => {
                 waiting.feed(&mut random, &mut out)?;
                 write_call(&mut out, &call)?;
             }

@@ -22,6 +22,7 @@ pub fn replay(mut script: impl Read, mut out: impl Write) -> io::Result<()> {
             Call::Capture(piece) => print_feed(&mut out, "capture", sample.feed_capture(&piece))?,
             Call::Luma(piece) => print_feed(&mut out, "luma", sample.feed_luma(&piece))?,
             Call::Index => print_index(&mut out, sample.index())?,
+            Call::Repeats(first, end) => print_repeats(&mut out, sample.repeats(first, end))?,
             Call::Seal(room) => print_call(&mut out, "seal", room, |buffer| sample.seal(buffer))?,
         }
     }
@@ -46,6 +47,13 @@ fn print_index(out: &mut impl Write, answer: Result<Index, Refusal>) -> io::Resu
     match answer {
         Ok(index) => writeln!(out, "index {:016X}", index.index.to_bits()),
         Err(Refusal { number, place }) => writeln!(out, "index refused {number} {place}"),
+    }
+}
+
+fn print_repeats(out: &mut impl Write, answer: Result<u32, Refusal>) -> io::Result<()> {
+    match answer {
+        Ok(count) => writeln!(out, "repeats {count}"),
+        Err(Refusal { number, place }) => writeln!(out, "repeats refused {number} {place}"),
     }
 }
 

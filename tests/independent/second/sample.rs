@@ -56,6 +56,20 @@ impl Sample {
         Ok(Index::new(luma.film.unrepeated(), luma.film.pictures(), cells, lost))
     }
 
+    /// Repeated pictures of a passage: the opening's refusal, then 26.
+    pub fn repeats(&self, first: u32, end: u32) -> Result<u32, Refusal> {
+        let film = &self.sides.as_ref().map_err(|&refusal| refusal)?.luma.film;
+        if first > end || end > film.pictures() {
+            return Err(Refusal::unplaced(26));
+        }
+        Ok(film.repeated_in(first as usize, end as usize))
+    }
+
+    /// Whole pictures fed; none after a refused opening.
+    pub fn pictures(&self) -> u32 {
+        self.sides.as_ref().map_or(0, |sides| sides.luma.film.pictures())
+    }
+
     /// Seals into a buffer: the record's length, or the first of all refusals that hold.
     pub fn seal(&self, buffer: &mut [u8]) -> Result<usize, Refusal> {
         lent::fill(buffer, &self.record()?)
@@ -289,6 +303,43 @@ mod tests {
         assert_eq!(sample.index(), Err(Refusal::at(10, 337_500)));
         let _ = sample.feed_capture(&[0; 24]);
         assert_eq!(sample.index(), Err(Refusal::at(5, 3)));
+    }
+
+    #[test]
+    fn repeats_of_every_passage_are_counted_over_the_pictures() {
+        let mut random = crate::prng::Prng::new(12);
+        let mut sample = Sample::open(Opening { width: 15, ..OPENING });
+        let mut repeated = Vec::new();
+        let mut values = vec![0u8];
+        for i in 0..200 {
+            let before = values[values.len() - 1];
+            let value = if random.once_in(3) { before.wrapping_add(1) } else { before };
+            repeated.push(i > 0 && value == before);
+            values.push(value);
+            sample.feed_luma(&[value; 450]).unwrap();
+        }
+        sample.feed_luma(&[0; 449]).unwrap();
+        let _ = sample.feed_capture(&[0; 4]);
+        for first in 0..=200 {
+            for end in first..=200 {
+                let count = repeated[first..end].iter().filter(|&&repeated| repeated).count();
+                assert_eq!(sample.repeats(first as u32, end as u32), Ok(count as u32));
+            }
+        }
+        for (first, end) in [(1, 0), (0, 201), (201, 201), (200, 199), (u32::MAX, u32::MAX)] {
+            assert_eq!(sample.repeats(first, end), Err(Refusal::unplaced(26)));
+        }
+        let refused = Sample::open(Opening { edition: 0, ..OPENING });
+        assert_eq!(refused.repeats(1, 0), Err(Refusal::unplaced(20)));
+    }
+
+    #[test]
+    fn refusal_10_does_not_stop_the_count_of_repeats() {
+        let mut sample = Sample::open(Opening { width: 15, ..OPENING });
+        let _ = sample.feed_luma(&vec![0; 450 * 752]);
+        assert_eq!(sample.index(), Err(Refusal::at(10, 337_500)));
+        assert_eq!(sample.repeats(0, 750), Ok(749));
+        assert_eq!(sample.repeats(1, 751), Err(Refusal::unplaced(26)));
     }
 
     #[test]

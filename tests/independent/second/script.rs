@@ -15,6 +15,8 @@ pub enum Call {
     Seal(usize),
     /// The index of what was fed so far.
     Index,
+    /// Repeated pictures from the first number up to but without the second.
+    Repeats(u32, u32),
 }
 
 /// The opening's values; nothing if the script ends within the five words.
@@ -35,6 +37,7 @@ pub fn read_call(script: &mut impl Read) -> Option<Call> {
         b'L' => read_piece(script).map(Call::Luma),
         b'S' => read_length(script, LONGEST_BUFFER).map(Call::Seal),
         b'I' => Some(Call::Index),
+        b'R' => Some(Call::Repeats(read_word(script)?, read_word(script)?)),
         _ => None,
     }
 }
@@ -78,15 +81,16 @@ pub fn write_opening(script: &mut impl Write, opening: &Opening) -> io::Result<(
 }
 
 pub fn write_call(script: &mut impl Write, call: &Call) -> io::Result<()> {
-    let (letter, length, piece) = match call {
-        Call::Capture(piece) => (b'C', piece.len(), &piece[..]),
-        Call::Luma(piece) => (b'L', piece.len(), &piece[..]),
-        Call::Seal(length) => (b'S', *length, &[][..]),
+    let (letter, number, rest) = match call {
+        Call::Capture(piece) => (b'C', piece.len() as u32, &piece[..]),
+        Call::Luma(piece) => (b'L', piece.len() as u32, &piece[..]),
+        Call::Seal(length) => (b'S', *length as u32, &[][..]),
         Call::Index => return script.write_all(b"I"),
+        Call::Repeats(first, end) => (b'R', *first, &end.to_le_bytes()[..]),
     };
     script.write_all(&[letter])?;
-    script.write_all(&(length as u32).to_le_bytes())?;
-    script.write_all(piece)
+    script.write_all(&number.to_le_bytes())?;
+    script.write_all(rest)
 }
 
 /// A survey's question.

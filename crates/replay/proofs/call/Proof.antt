@@ -5,6 +5,7 @@ use borrow.Author.Needs.{needs}
 use Rattle.replay.specs.Script.{sizeOf}
 use Rattle.replay.proofs.Laws.{fits-capture, fits-luma}
 use Rattle.replay.proofs.Outcomes.{after-capture, after-luma, after-seal, after-index}
+use Rattle.replay.proofs.Outcomes.{after-repeats}
 use Rattle.replay.proofs.call.Statement.{statement}
 use Rattle.replay.proofs.call.Tie as tie
 
@@ -25,6 +26,17 @@ call-index-requires c κs =
 add-result : tie.Need-add-result
 add-result c = search needs
 
+enum-known-h : tie.Need-enum-known-h
+enum-known-h c = search needs
+
+call-repeats-requires : tie.Need-call-repeats-requires
+call-repeats-requires c κs =
+    let known = c .before .before .before in
+    known .before .before .before .before .pre .size ∙ ap sizeOf (known .h .given .1)
+
+add-result-2 : tie.Need-add-result-2
+add-result-2 c = search needs
+
 enum-told-3 : tie.Need-enum-told-3
 enum-told-3 c = search needs
 
@@ -33,8 +45,8 @@ call-seal-requires c κs =
     let told = c .before .before .before .before .before .before in
     omega (arith, told .before .before .before .before .pre .size ∙ ap sizeOf (told .enum-told3 .given .1))
 
-enum-known-h : tie.Need-enum-known-h
-enum-known-h c = search needs
+enum-known-h-2 : tie.Need-enum-known-h-2
+enum-known-h-2 c = search needs
 
 wide-requires : tie.Need-wide-requires
 wide-requires c κs = search needs
@@ -49,13 +61,13 @@ part-call-capture-start : tie.Need-part-call-capture-start
 part-call-capture-start c = search needs
 
 part-call-capture-end : tie.Need-part-call-capture-end
-part-call-capture-end c = omega (arith, fits-capture (c .before .before .before .before .before .before .before .before .before .before .args .script .now) (c .before .before .before .before .before .before .before .before .before .before .args .at) _ (sym (c .before .before .before .before .before .before .h .given .1) ∙ c .before .before .before .before .before .before .before .before .before .before .pre .here))
+part-call-capture-end c = omega (arith, fits-capture (c .before .before .before .before .before .before .before .before .before .before .args .script .now) (c .before .before .before .before .before .before .before .before .before .before .args .at) _ (sym (c .before .before .before .before .before .before .h2 .given .1) ∙ c .before .before .before .before .before .before .before .before .before .before .pre .here))
 
 call-capture-requires : tie.Need-call-capture-requires
-call-capture-requires c κs = c .before .before .before .before .before .before .before .before .before .before .before .before .pre .size ∙ ap sizeOf (c .before .before .before .before .before .before .before .before .h .given .1)
+call-capture-requires c κs = c .before .before .before .before .before .before .before .before .before .before .before .before .pre .size ∙ ap sizeOf (c .before .before .before .before .before .before .before .before .h2 .given .1)
 
-enum-known-h-2 : tie.Need-enum-known-h-2
-enum-known-h-2 c = search needs
+enum-known-h-3 : tie.Need-enum-known-h-3
+enum-known-h-3 c = search needs
 
 wide-requires-2 : tie.Need-wide-requires-2
 wide-requires-2 c κs = search needs
@@ -70,10 +82,10 @@ part-call-luma-start : tie.Need-part-call-luma-start
 part-call-luma-start c = search needs
 
 part-call-luma-end : tie.Need-part-call-luma-end
-part-call-luma-end c = omega (arith, fits-luma (c .before .before .before .before .before .before .before .before .before .before .args .script .now) (c .before .before .before .before .before .before .before .before .before .before .args .at) _ (sym (c .before .before .before .before .before .before .h2 .given .1) ∙ c .before .before .before .before .before .before .before .before .before .before .pre .here))
+part-call-luma-end c = omega (arith, fits-luma (c .before .before .before .before .before .before .before .before .before .before .args .script .now) (c .before .before .before .before .before .before .before .before .before .before .args .at) _ (sym (c .before .before .before .before .before .before .h3 .given .1) ∙ c .before .before .before .before .before .before .before .before .before .before .pre .here))
 
 call-luma-requires : tie.Need-call-luma-requires
-call-luma-requires c κs = c .before .before .before .before .before .before .before .before .before .before .before .before .pre .size ∙ ap sizeOf (c .before .before .before .before .before .before .before .before .h2 .given .1)
+call-luma-requires c κs = c .before .before .before .before .before .before .before .before .before .before .before .before .pre .size ∙ ap sizeOf (c .before .before .before .before .before .before .before .before .h3 .given .1)
 
 returns : tie.Need-returns
 returns c = absurd (omega (arith, c .before .before .before .before .pre .some, c .before .before .before .before .pre .size ∙ ap sizeOf (c .enum-told .given .1)))
@@ -91,19 +103,18 @@ same-length-2 c = search needs
 
 returns-3 : tie.Need-returns-3
 returns-3 c =
-    let told = c .before .before .before .before .before .before .before .before .before in
-    let is = told .enum-told3 .given .1 in
-    after-seal _ _ _ _ _ _ _ _ is refl (told .before .before .before .before .pre .size ∙ ap sizeOf is)
-    (c .before .before .call-seal .ensures)
+    let known = c .before .before .before .before .before .before in
+    after-repeats _ _ _ _ _ _ _ _ (known .h .given .1) refl (c .before .before .call-repeats .ensures _)
 
 same-length-3 : tie.Need-same-length-3
 same-length-3 c = search needs
 
 returns-4 : tie.Need-returns-4
 returns-4 c =
-    let wide = c .before .before .before .before .before .before .before .before .before in
-    after-capture _ _ _ _ _ _ _ _ _ _ _ _ _ (wide .before .before .h .given .1) refl (rw (wide .wide .ensures))
-    (c .before .before .call-capture .ensures)
+    let told = c .before .before .before .before .before .before .before .before .before in
+    let is = told .enum-told3 .given .1 in
+    after-seal _ _ _ _ _ _ _ _ is refl (told .before .before .before .before .pre .size ∙ ap sizeOf is)
+    (c .before .before .call-seal .ensures)
 
 same-length-4 : tie.Need-same-length-4
 same-length-4 c = search needs
@@ -111,7 +122,16 @@ same-length-4 c = search needs
 returns-5 : tie.Need-returns-5
 returns-5 c =
     let wide = c .before .before .before .before .before .before .before .before .before in
-    after-luma _ _ _ _ _ _ _ _ _ _ _ _ _ _ _ _ (wide .before .before .h2 .given .1) refl (rw (wide .wide2 .ensures))
+    after-capture _ _ _ _ _ _ _ _ _ _ _ _ _ (wide .before .before .h2 .given .1) refl (rw (wide .wide .ensures))
+    (c .before .before .call-capture .ensures)
+
+same-length-5 : tie.Need-same-length-5
+same-length-5 c = search needs
+
+returns-6 : tie.Need-returns-6
+returns-6 c =
+    let wide = c .before .before .before .before .before .before .before .before .before in
+    after-luma _ _ _ _ _ _ _ _ _ _ _ _ _ _ _ _ (wide .before .before .h3 .given .1) refl (rw (wide .wide2 .ensures))
     (c .before .before .call-luma .ensures)
 
 pub call-spec : {M : Type 1} → statement M
@@ -123,16 +143,19 @@ call-spec =
     enum-told-2
     call-index-requires
     add-result
+    enum-known-h
+    call-repeats-requires
+    add-result-2
     enum-told-3
     call-seal-requires
-    enum-known-h
+    enum-known-h-2
     wide-requires
     add-next
     sub-call-capture
     part-call-capture-start
     part-call-capture-end
     call-capture-requires
-    enum-known-h-2
+    enum-known-h-3
     wide-requires-2
     add-next-2
     sub-call-luma
@@ -147,4 +170,6 @@ call-spec =
     same-length-3
     returns-4
     same-length-4
-    returns-5)
+    returns-5
+    same-length-5
+    returns-6)

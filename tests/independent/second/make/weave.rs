@@ -158,14 +158,36 @@ impl<W: Write> Weaver<'_, W> {
         let _ = match &call {
             Call::Capture(piece) => self.sample.feed_capture(piece),
             Call::Luma(piece) => self.sample.feed_luma(piece),
-            Call::Seal(_) | Call::Index => Ok(0),
+            Call::Seal(_) | Call::Index | Call::Repeats(..) => Ok(0),
         };
         Ok(())
     }
 
     /// A call that neither feeds nor seals.
     fn ask(&mut self) -> io::Result<()> {
-        self.call(Call::Index)
+        if self.random.once_in(2) {
+            return self.call(Call::Index);
+        }
+        let (first, end) = self.passage();
+        self.call(Call::Repeats(first, end))
+    }
+
+    /// A passage, mostly within the pictures: anywhere, at the ends of 64-bit words, at its bounds or past them.
+    fn passage(&mut self) -> (u32, u32) {
+        let pictures = self.sample.pictures();
+        let mut place = || {
+            let any = self.random.below(pictures as usize + 1) as u32;
+            let word = 64 * self.random.below(pictures as usize / 64 + 1) as u32;
+            let near = (word + self.random.pick(&[0, 0, 1, 63])).min(pictures);
+            self.random.pick(&[any, any, near, near, 0, pictures, pictures])
+        };
+        let (one, other) = (place(), place());
+        match self.random.below(12) {
+            0 => (one.max(other) + 1, one.min(other)),
+            1 => (one, pictures + 1),
+            2 => self.random.pick(&[(u32::MAX, u32::MAX), (0, u32::MAX), (750, 751), (0, 768), (u32::MAX, 0)]),
+            _ => (one.min(other), one.max(other)),
+        }
     }
 
     /// A seal into no buffer, a buffer of one byte, one too short, one that fits, a longer one.

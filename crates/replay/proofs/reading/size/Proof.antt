@@ -26,6 +26,9 @@ add-result c = search needs
 enum-told-4 : tie.Need-enum-told-4
 enum-told-4 c = search needs
 
+enum-told-5 : tie.Need-enum-told-5
+enum-told-5 c = search needs
+
 returns : tie.Need-returns
 returns c = sym (ap sizeOf (c .enum-told .given .1))
 
@@ -41,6 +44,9 @@ returns-4 c = rw (c .wide .ensures) (sym (ap sizeOf (c .before .before .h .given
 returns-5 : tie.Need-returns-5
 returns-5 c = sym (ap sizeOf (c .enum-told4 .given .1))
 
+returns-6 : tie.Need-returns-6
+returns-6 c = sym (ap sizeOf (c .enum-told5 .given .1))
+
 pub size-spec : {M : Type 1} → statement M
 size-spec =
     tie.close
@@ -52,8 +58,10 @@ size-spec =
     wide-requires
     add-result
     enum-told-4
+    enum-told-5
     returns
     returns-2
     returns-3
     returns-4
-    returns-5)
+    returns-5
+    returns-6)
