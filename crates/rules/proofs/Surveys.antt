@@ -17,7 +17,8 @@ use Rattle.rules.specs.Survey.{goodOf, goodPackets, withMost, surveyFeed
 use Rattle.rules.specs.Survey.{surveyAnswer, SurveyCall, feedSurvey, askSurvey, SurveyOutcome, fedSurvey, found}
 use Rattle.rules.specs.Survey.{surveyExpected}
 use Rattle.rules.proofs.Worked.{Case}
-use Rattle.rules.proofs.Samples.{told, fileHeader, goodHeader, frameHeader, frameWith, packetOf}
+use Rattle.rules.proofs.Samples.{told, toldFault, fileHeader, goodHeader}
+use Rattle.rules.proofs.Samples.{frameHeader, frameWith, packetOf}
 
 -- 0, identifier and count; or a refusal's number and place
 abbrev toldMost : SurveyAnswer → List ℕ
@@ -46,39 +47,44 @@ abbrev with3 : List ℕ → List ℕ → List ℕ → List ℕ
 with3 a b c = goodHeader ++ frameWith 0 0 3 (a ++ b ++ c)
 
 onlyBad : List ℕ
-onlyBad = goodHeader ++ frameWith 0 0 1 (bad 256)
+onlyBad = goodHeader ++ frameWith 0 0 1 (bad 3)
 
--- identifiers 0 and 8191, one packet each
+-- identifier 8191 twice, and 0 between
 ends : List ℕ
-ends = goodHeader ++ frameWith 1 2 2 (good 8191 ++ good 0)
+ends = goodHeader ++ frameWith 1 2 3 (good 8191 ++ good 0 ++ good 8191)
 
--- one packet of 300, and two of 200 in a frame that is passed over: a fragment
+-- one packet of 3, and two of 2 in a frame that is passed over: a fragment
 passed : List ℕ
-passed = goodHeader ++ frameWith 0 0 1 (good 300) ++ set (frameWith 0 0 2 (good 200 ++ good 200)) 36 0x20
+passed = goodHeader ++ frameWith 0 0 1 (good 3) ++ set (frameWith 0 0 2 (good 2 ++ good 2)) 36 0x20
+
+-- the one with most of the identifiers below n, and its count: most cases need no more of them than they name
+among : ℕ → List ℕ → List ℕ
+among n capture =
+    let counts = goodPackets capture in
+    let best = withMost counts n in
+    best ∷ counts best ∷ []
 
 pub surveys : List Case
 surveys =
-    -- most wins: 257 twice, 256 once
-    record { rule = survey (with3 (good 257) (good 256) (good 257)); paper = 0 ∷ 257 ∷ 2 ∷ [] }
-    -- the lowest among equals, whichever comes first; 0 and 8191 compete
-    ∷ record { rule = survey ends; paper = 0 ∷ 0 ∷ 1 ∷ [] }
-    ∷ record { rule = survey (goodHeader ++ frameWith 0 0 1 (good 8191)); paper = 0 ∷ 8191 ∷ 1 ∷ [] }
-    ∷ record { rule = survey (with3 (good 8191) (good 8191) (good 0)); paper = 0 ∷ 8191 ∷ 2 ∷ [] }
+    -- most wins: 7 twice, 6 once; the lowest among equals, whichever comes first
+    record { rule = among 9 (with3 (good 7) (good 6) (good 7)); paper = 7 ∷ 2 ∷ [] }
+    ∷ record { rule = among 9 (with3 (good 8) (good 6) (bad 6)); paper = 6 ∷ 1 ∷ [] }
     -- what does not start with 0x47 is not good
-    ∷ record { rule = survey (with3 (bad 5) (bad 5) (good 6)); paper = 0 ∷ 6 ∷ 1 ∷ [] }
+    ∷ record { rule = among 7 (with3 (bad 5) (bad 5) (good 6)); paper = 6 ∷ 1 ∷ [] }
     -- a frame that is passed over brings nothing
-    ∷ record { rule = survey passed; paper = 0 ∷ 300 ∷ 1 ∷ [] }
-    -- 21: a header alone, and bad packets alone; of a complete capture, so 11 comes first
-    ∷ record { rule = survey goodHeader ++ survey onlyBad; paper = 21 ∷ 0 ∷ 21 ∷ 0 ∷ [] }
-    ∷ record { rule = survey [] ++ survey (take 23 goodHeader); paper = 11 ∷ 0 ∷ 11 ∷ 23 ∷ [] }
-    ∷ record { rule = survey (onlyBad ++ 0 ∷ []); paper = 11 ∷ 271 ∷ [] }
+    ∷ record { rule = among 4 passed; paper = 3 ∷ 1 ∷ [] }
+    -- 21: no good packet, of a complete capture: 11 comes first
+    ∷ record { rule = among 4 onlyBad ++ toldFault (surveyFault onlyBad 0); paper = 0 ∷ 0 ∷ 21 ∷ 0 ∷ [] }
+    ∷ record { rule = toldFault (surveyFault goodHeader 0) ++ survey []; paper = 21 ∷ 0 ∷ 11 ∷ 0 ∷ [] }
+    ∷ record { rule = survey (take 23 goodHeader) ++ survey (onlyBad ++ 0 ∷ []); paper = 11 ∷ 23 ∷ 11 ∷ 271 ∷ [] }
     -- 4 to 8 come first of all: 5, 6, 7 and 8
     ∷ record { rule = survey (0 ∷ 0 ∷ 0 ∷ 0 ∷ []) ++ survey (fileHeader 0xA1B2C3D4 101); paper = 5 ∷ 3 ∷ 6 ∷ 23 ∷ [] }
     ∷ record {
       rule = survey (ends ++ frameHeader 0 1000000 65536) ++ survey (ends ++ frameHeader 0 999999 65536);
-      paper = 7 ∷ 465 ∷ 8 ∷ 469 ∷ [];
+      paper = 7 ∷ 653 ∷ 8 ∷ 657 ∷ [];
     }
-    -- a list of calls: a question between the pieces changes nothing, and a refused feed ends it
+    -- all identifiers, of which the last wins, in a list of calls: a question between the pieces changes nothing, and a
+    -- refused feed ends it
     ∷ record {
       rule =
           endToEnd
@@ -88,13 +94,13 @@ surveys =
           ∷ feedSurvey (frameHeader 0 1000000 0)
           ∷ askSurvey
           ∷ [])));
-      paper = 11 ∷ 0 ∷ 0 ∷ 300 ∷ 11 ∷ 300 ∷ 0 ∷ 158 ∷ 0 ∷ 0 ∷ 1 ∷ 7 ∷ 465 ∷ 7 ∷ 465 ∷ [];
+      paper = 11 ∷ 0 ∷ 0 ∷ 300 ∷ 11 ∷ 300 ∷ 0 ∷ 346 ∷ 0 ∷ 8191 ∷ 2 ∷ 7 ∷ 653 ∷ 7 ∷ 653 ∷ [];
     }
     ∷ []
 
 -- the theorem: the rules give what the paper says
 pub surveyed : map (λ (c : Case). c .rule) surveys ≡ map (λ (c : Case). c .paper) surveys
-unfolding surveys survey onlyBad ends passed word32 network16 bytesOf count only endToEnd seconds microseconds
+unfolding surveys among survey onlyBad ends passed word32 network16 bytesOf count only endToEnd seconds microseconds
     storedLength frameTime body frameSize framesUpTo restUpTo frames rest behindHeader ipLength udpLength carries
     packetsFrom packetsIn packetsOf packets whole startsCell damageMark condition identifier wholeFrames unfinished
     allFrames showing tooLong
@@ -105,12 +111,12 @@ surveyed = refl
 -- what is marked as damaged is not good (R-6)
 pub damagedSurveys : List Case
 damagedSurveys =
-    record { rule = survey (with3 (damaged 256) (damaged 256) (good 257)); paper = 0 ∷ 257 ∷ 1 ∷ [] }
-    ∷ record { rule = survey (with3 (damaged 5) (bad 5) (damaged 5)); paper = 21 ∷ 0 ∷ [] }
+    record { rule = among 8 (with3 (damaged 6) (damaged 6) (good 7)); paper = 7 ∷ 1 ∷ [] }
+    ∷ record { rule = among 8 (with3 (damaged 5) (bad 5) (damaged 5)); paper = 0 ∷ 0 ∷ [] }
     ∷ []
 
 pub surveyed-damaged : map (λ (c : Case). c .rule) damagedSurveys ≡ map (λ (c : Case). c .paper) damagedSurveys
-unfolding damagedSurveys survey onlyBad ends passed word32 network16 bytesOf count only endToEnd seconds microseconds
+unfolding damagedSurveys among survey onlyBad ends passed word32 network16 bytesOf count only endToEnd seconds microseconds
     storedLength frameTime body frameSize framesUpTo restUpTo frames rest behindHeader ipLength udpLength carries
     packetsFrom packetsIn packetsOf packets whole startsCell damageMark condition identifier wholeFrames unfinished
     allFrames showing tooLong
