@@ -5,6 +5,7 @@
 #![deny(unsafe_code)]
 
 mod explain;
+mod frames;
 mod gaps;
 mod input;
 mod loss;

@@ -1,8 +1,10 @@
 //! carolsedge rtp: the units of RTP packets, which come without transport packets.
+mod capture;
+
 use crate::input::Input;
 use crate::output;
 use crate::stop::Stop;
-use crate::words::Words;
+use crate::words::{number as word, Words};
 use crate::Subcommand;
 use carolsedge::Refusal;
 use std::ffi::{OsStr, OsString};
@@ -12,10 +14,9 @@ pub const SUBCOMMAND: Subcommand =
 
 const HELP: &str = "\
 usage: carolsedge rtp < PACKETS
+       carolsedge rtp CAPTURE --port P [--ssrc S]
 
-Reads RTP packets on standard input, in arrival order: a 32-bit count, then 14
-bytes a packet, little-endian: sequence number (16 bits), marker (16 bits, set
-if not 0), time (64 bits), length (16 bits). Prints a line a unit:
+Prints the units of RTP packets, a line each:
 
   LEAST GREATEST SIZE CELLS LOST
 
@@ -24,6 +25,15 @@ the packets that the sequence numbers say are missing. Packets are ordered by
 sequence number, which wraps; of two with one number the first to arrive stays;
 a unit ends at a marker or the last packet. There may be 1 to 4,096 packets.
 
+  PACKETS    in arrival order, little-endian: a 32-bit count, then of each its
+             sequence number (16 bits), marker (16, set if not 0), time (64)
+             and length (16)
+  CAPTURE    a libpcap file of Ethernet frames, or - for standard input, with
+             RTP in plain UDP over IPv4; a packet's time is its frame's, its
+             length the bytes behind the RTP header's first 12
+  --port P   the UDP port that the packets go to
+  --ssrc S   their source; without it the one that has most packets is taken
+
 Exit status: 0 printed, 1 refused, 2 wrong words or a file's error.
 ";
 
@@ -31,7 +41,7 @@ Exit status: 0 printed, 1 refused, 2 wrong words or a file's error.
 const PACKET: usize = 14;
 const ROW: usize = 32;
 
-/// No more packets are allowed; with one more, input is refused.
+/// No more packets are allowed; with one more, input is refused, so that more need not be read.
 const PACKETS_MOST: usize = 4_096;
 
 /// Packets in arrival order, as the lists that the library takes.
@@ -44,29 +54,51 @@ struct Packets {
 }
 
 fn run(words: Vec<OsString>) -> Result<(), Stop> {
-    Words::part(words, &[], &[])?.plain(&[], 0)?;
-    let bytes = read(&mut Input::open(OsStr::new("-"))?)?;
-    let unequal = Refusal { number: 25, place: 0 };
-    let packets = given(&bytes).map_err(|found| Stop::refused(unequal, vec![found]))?;
-    let mut rows = vec![0; ROW * packets.sequences.len()];
-    let Packets { sequences, markers, times, lengths } = &packets;
-    let units = carolsedge::rtp_units(sequences, markers, times, lengths, &mut rows);
-    let units = units.map_err(|refusal| Stop::refused(refusal, Vec::new()))?;
-    output::print(&rows.chunks_exact(ROW).take(units).map(line).collect::<String>())
+    let words = Words::part(words, &["--port", "--ssrc"], &[])?;
+    let capture = words.plain(&["CAPTURE"], 1)?.remove(0);
+    let port = words.read("--port", |text| word(text)?.try_into().ok(), "a port, 0 to 65535")?;
+    let ssrc = words.read("--ssrc", word, "a source's identifier of 32 bits")?;
+    let rows = match (capture, port) {
+        (Some(capture), Some(port)) => captured(&capture, port, ssrc)?,
+        (Some(_), None) => return Err(Stop::Usage("--port P is missing".into())),
+        (None, None) if ssrc.is_none() => listed()?,
+        (None, _) => return Err(Stop::Usage("CAPTURE is missing".into())),
+    };
+    output::print(&rows.chunks_exact(ROW).map(line).collect::<String>())
 }
 
-/// All bytes, but no more than it takes to see that they are too many.
-fn read(input: &mut Input) -> Result<Vec<u8>, Stop> {
-    let mut bytes = vec![0; 4 + PACKET * (PACKETS_MOST + 1) + 1];
-    let mut length = 0;
-    while length < bytes.len() {
-        match input.read(&mut bytes[length..])? {
-            0 => break,
-            n => length += n,
-        }
+/// The unit rows of the packets on standard input.
+fn listed() -> Result<Vec<u8>, Stop> {
+    let bytes = Input::open(OsStr::new("-"))?.up_to(4 + PACKET * (PACKETS_MOST + 1) + 1)?;
+    let unequal = Refusal { number: 25, place: 0 };
+    let packets = given(&bytes).map_err(|found| Stop::refused(unequal, vec![found]))?;
+    packets.units().map_err(|refusal| Stop::refused(refusal, Vec::new()))
+}
+
+/// The unit rows of one source's packets to a port, and says on standard error what was taken and what was left out.
+fn captured(capture: &OsStr, port: u16, ssrc: Option<u32>) -> Result<Vec<u8>, Stop> {
+    let found = capture::find(&mut Input::open(capture)?, port, ssrc)?;
+    let rows = found.packets().units().map_err(|refusal| Stop::refused(refusal, found.refused()))?;
+    found.tell();
+    Ok(rows)
+}
+
+impl Packets {
+    fn push(&mut self, sequence: u16, marker: bool, time: u64, length: u16) {
+        self.sequences.push(sequence);
+        self.markers.push(marker);
+        self.times.push(time);
+        self.lengths.push(length);
     }
-    bytes.truncate(length);
-    Ok(bytes)
+
+    /// The rows of their units.
+    fn units(&self) -> Result<Vec<u8>, Refusal> {
+        let Packets { sequences, markers, times, lengths } = self;
+        let mut rows = vec![0; ROW * sequences.len()];
+        let units = carolsedge::rtp_units(sequences, markers, times, lengths, &mut rows)?;
+        rows.truncate(ROW * units);
+        Ok(rows)
+    }
 }
 
 /// The packets of the input, or what is wrong with its length.
@@ -81,10 +113,8 @@ fn given(bytes: &[u8]) -> Result<Packets, String> {
     }
     let mut packets = Packets::default();
     for packet in rest.chunks_exact(PACKET) {
-        packets.sequences.push(number(&packet[..2]) as u16);
-        packets.markers.push(number(&packet[2..4]) != 0);
-        packets.times.push(number(&packet[4..12]));
-        packets.lengths.push(number(&packet[12..]) as u16);
+        let [sequence, marker, time, length] = [0..2, 2..4, 4..12, 12..14].map(|part| number(&packet[part]));
+        packets.push(sequence as u16, marker != 0, time, length as u16);
     }
     Ok(packets)
 }

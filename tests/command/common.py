@@ -124,8 +124,8 @@ def ipv4(payload, protocol=17, fragment=0, first=0x45):
     return struct.pack(">BBHHHBBHQ", first, 0, 20 + len(payload), 0, fragment, 64, protocol, 0, 0) + payload
 
 
-def udp(payload):
-    return struct.pack(">HHHH", 5004, 5004, 8 + len(payload), 0) + payload
+def udp(payload, port=5004):
+    return struct.pack(">HHHH", 5004, port, 8 + len(payload), 0) + payload
 
 
 def carrying(payload):

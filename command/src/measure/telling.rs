@@ -61,14 +61,14 @@ fn differ(pictures: u64, units: u64, raw: bool) -> &'static str {
 
 /// The skipped frames by reason: `2 not IPv4, 1 RTP`.
 fn reasons(walk: &Walk) -> String {
-    let all = walk.skipped().map(|(frames, _, words, _)| format!("{} {words}", grouped(frames)));
+    let all = walk.skipped().reasons().map(|(frames, words, _)| format!("{} {words}", grouped(frames)));
     all.collect::<Vec<_>>().join(", ")
 }
 
 /// What mends each reason that may have cost packets.
 fn mends(walk: &Walk) -> Vec<String> {
-    let all = walk.skipped().filter(|reason| !reason.3.is_empty());
-    all.map(|(_, _, words, mends)| format!("{words}: {mends}")).collect()
+    let all = walk.skipped().reasons().filter(|reason| !reason.2.is_empty());
+    all.map(|(_, words, mends)| format!("{words}: {mends}")).collect()
 }
 
 /// What was found about a refused seal; nothing where the table says it all.
@@ -82,7 +82,7 @@ pub fn refused(refusal: &Refusal, pid: u32, measured: &Measured) -> Vec<String> 
 
 /// Why there is no packet of the identifier.
 fn no_packet(pid: u32, walk: &Walk) -> Vec<String> {
-    let skipped: u64 = walk.skipped().map(|reason| reason.0).sum();
+    let skipped: u64 = walk.skipped().reasons().map(|reason| reason.0).sum();
     let identifiers = walk.identifiers();
     if walk.carrying() == 0 {
         if skipped == 0 {
