@@ -86,12 +86,17 @@ fn needs_pid(name: &str) -> Stop {
     Stop::Usage(format!("--pid PID is missing: {why}\nof a stored copy, carolsedge survey FILE names the PID"))
 }
 
-/// The identifier with most good packets, and says that it is taken. The capture is then at its beginning again.
+/// The identifier with most good packets; says that it is taken, and what comes next to it. The capture is then at its
+/// beginning again.
 fn surveyed(capture: &mut Input) -> Result<u32, Stop> {
-    let most = survey::most(capture)?;
+    let (most, next) = survey::most(capture)?;
     capture.rewind()?;
     let packets = output::count(most.packets, "good packet");
-    output::say(&format!("--pid {} is taken: a survey found {packets} of it, and of no other more\n", most.pid));
+    let next = match next {
+        Some(next) => format!("the next, {}, has {}", next.pid, output::grouped(next.packets)),
+        None => "no other has any".into(),
+    };
+    output::say(&format!("--pid {} is taken: a survey found {packets} of it; {next}\n", most.pid));
     Ok(most.pid)
 }
 

@@ -5,6 +5,7 @@ use crate::stop::Stop;
 use crate::words::Words;
 use crate::Subcommand;
 use carolsedge::{Most, Survey};
+use std::cmp::Reverse;
 use std::ffi::OsString;
 
 pub const SUBCOMMAND: Subcommand =
@@ -32,12 +33,13 @@ fn run(words: Vec<OsString>) -> Result<(), Stop> {
     let words = Words::part(words, &[], &[])?;
     let plain = words.plain(&["CAPTURE"], 0)?;
     let mut input = Input::open(plain[0].as_deref().unwrap_or_default())?;
-    let most = most(&mut input)?;
+    let (most, _) = most(&mut input)?;
     output::print(&format!("survey {} {}\n", most.pid, most.packets))
 }
 
-/// The identifier with most good packets of a capture, which is read to its end.
-pub fn most(input: &mut Input) -> Result<Most, Stop> {
+/// The identifier with most good packets of a capture, which is read to its end, and the next: of the others that have
+/// any the one with most, the lowest among equals.
+pub fn most(input: &mut Input) -> Result<(Most, Option<Most>), Stop> {
     let mut survey = Survey::open();
     let mut piece = vec![0; PIECE];
     loop {
@@ -46,5 +48,8 @@ pub fn most(input: &mut Input) -> Result<Most, Stop> {
             break;
         }
     }
-    survey.ask().map_err(|refusal| Stop::refused(refusal, Vec::new()))
+    let most = survey.ask().map_err(|refusal| Stop::refused(refusal, Vec::new()))?;
+    let others = (0..8192).filter(|&pid| pid != most.pid).map(|pid| Most { pid, packets: survey.packets(pid) });
+    let next = others.filter(|other| other.packets > 0).min_by_key(|other| Reverse(other.packets));
+    Ok((most, next))
 }

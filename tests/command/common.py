@@ -83,6 +83,16 @@ def stream(name, ending):
     return os.path.join(STREAMS, name + ending)
 
 
+def identifiers():
+    """Of each stored stream the identifier with most good packets and the next, with counts, as tshark counts."""
+    found = {}
+    for line in open(stream("identifiers", ".txt")):
+        if not line.startswith("#"):
+            name, pid, all, marked = line.split()
+            found.setdefault(name, []).append((int(pid), int(all) - int(marked)))
+    return {name: sorted(pids, key=lambda pid: (-pid[1], pid[0]))[:2] for name, pids in found.items()}
+
+
 NEWEST = 4  # edition of the rules
 
 

@@ -2,25 +2,29 @@
 # only once needs --pid; a refused survey makes no record.
 import os
 import subprocess
-from common import PROGRAMS, capture, carrying, check, counted, expect, good, packets, proved
+from common import PROGRAMS, capture, carrying, check, counted, expect, good, identifiers, packets, proved
 from common import read, same_record, stream, write, y4m
 
 OUT = ["-o", "record"]
-TAKEN = "--pid %d is taken: a survey found %s of it, and of no other more\n"
 
 
-def told(pid, count):
-    return TAKEN % (pid, "1 good packet" if count == 1 else "%d good packets" % count)
+def told(most, next):
+    """The line behind a survey: an identifier and its count, and the next one, if there is."""
+    packets = "1 good packet" if most[1] == 1 else "%d good packets" % most[1]
+    behind = "the next, %d, has %d" % next if next else "no other has any"
+    return "--pid %d is taken: a survey found %s of it; %s\n" % (most[0], packets, behind)
 
 
 def stored():
-    """Every stored stream: the record is the proved program's with the surveyed identifier."""
+    """Every stored stream: the record is the proved program's with the identifier that tshark finds most often."""
+    surveyed = identifiers()
     for line in open(stream("counts", ".txt")):
         if line.startswith("#") or not line.strip():
             continue
         name, width, height, time = line.split()[:4]
         cap, luma, size = stream(name, ".pcap"), stream(name, ".y"), "%sx%s" % (width, height)
-        pid, count = map(int, expect(name, 0, None, [], "survey", cap)[1].split()[1:])
+        most, next = surveyed[name]
+        pid = most[0]
         record, sealed = proved(width, height, time, pid, cap, luma)
         file = write("pictures.y4m", y4m(read(luma), int(width), int(height), rate="1000000:" + time))
         raw = ["--size", size, "--time", time]
@@ -34,7 +38,7 @@ def stored():
             check("is taken" not in given[2], name + ": a survey beside --pid")
             got = expect(name, 0, sealed, None, "measure", *words, *OUT, stdin=stdin)
             same_record(name + ", " + how, record)
-            check(got[2] == told(pid, count) + given[2], name + ": said " + got[2])
+            check(got[2] == told(most, next) + given[2], name + ": said " + got[2])
 
 
 def decoded():
@@ -50,21 +54,24 @@ def decoded():
     expect("with --pid", 0, sealed, None, "measure", cap, *OUT, "--pid", "257", **how)
     words, got = read("words"), read("got")
     same_record("with --pid", record)
-    expect("decoded", 0, sealed, [told(257, 191)], "measure", cap, *OUT, **how)
+    expect("decoded", 0, sealed, [told((257, 191), (0, 26))], "measure", cap, *OUT, **how)
     same_record("decoded", record)
     check((read("words"), read("got")) == (words, got), "ffmpeg was asked for or given something else")
 
 
 def made(raw):
-    for name, frames, pid, count in (
-        ("most", [carrying(packets(2, pid=200)), carrying(packets(3, pid=300))], 300, 3),
-        ("lowest among equals", [carrying(packets(2, pid=8191)), carrying(packets(2, pid=0))], 0, 2),
-        ("one", [carrying(packets(1, pid=8191))], 8191, 1),
-        ("bad packets do not count", [carrying(packets(5, pid=7, sync=0x46)), carrying(packets(2))], 256, 2),
+    few, bad = carrying(packets(2, pid=200)), carrying(packets(5, pid=7, sync=0x46))
+    damaged = carrying(packets(5, pid=8, damaged=True))
+    for name, frames, most, next in (
+        ("most", [few, carrying(packets(3, pid=300))], (300, 3), (200, 2)),
+        ("lowest among equals", [carrying(packets(2, pid=8191)), carrying(packets(2, pid=0))], (0, 2), (8191, 2)),
+        ("the lowest next", [carrying(packets(1, pid=pid)) for pid in (9, 5, 6, 5)], (5, 2), (6, 1)),
+        ("one", [carrying(packets(1, pid=8191))], (8191, 1), None),
+        ("bad and damaged packets do not count", [bad, damaged, few], (200, 2), None),
     ):
         write("capture", capture(frames))
-        record, sealed = proved(30, 30, 40000, pid, "capture", "luma")
-        expect(name, 0, sealed, [told(pid, count)], "measure", "capture", "luma", *OUT, *raw)
+        record, sealed = proved(30, 30, 40000, most[0], "capture", "luma")
+        expect(name, 0, sealed, [told(most, next)], "measure", "capture", "luma", *OUT, *raw)
         same_record(name, record)
 
 

@@ -1,6 +1,7 @@
-# survey: the identifier with most good packets, the lowest among equals; refusals with their exit status.
+# survey: the identifier with most good packets, the lowest among equals, of the stored streams as tshark counts them;
+# refusals with their exit status.
 import os
-from common import capture, carrying, counted, ethernet, expect, packets, stream, write
+from common import capture, carrying, counted, ethernet, expect, identifiers, packets, stream, write
 
 
 def found(name, data, pid, count):
@@ -26,7 +27,8 @@ def test():
     found("damaged packets do not count", capture([carrying(packets(5, pid=7, damaged=True)), two]), 200, 2)
     found("frames that do not carry", capture([three, ethernet(0x86DD, three), ethernet(0x0806, bytes(28))]), 300, 3)
     found("many starts", capture([carrying(packets(1, pid=256))] * 2000), 256, 2000)
-    expect("a stream", 0, None, [], "survey", stream("clip", ".pcap"))
+    for name, (most, _) in identifiers().items():
+        expect(name, 0, b"survey %d %d\n" % most, [], "survey", stream(name, ".pcap"))
     whole = capture([two])
     refused("empty", b"", 11, 0)
     refused("no frame", whole[:24], 21, 0)

@@ -302,6 +302,11 @@ impl SurveyState {
             unsafe { carolsedge_ask_survey(&self.walk, &self.counts, &mut value, &mut count) };
         (number, value, count)
     }
+
+    /// The table: good packets by identifier.
+    pub fn counts(&self) -> &[u32; 8192] {
+        &self.counts
+    }
 }
 
 /// The header's figures, or the refusal's number.

@@ -668,3 +668,19 @@ fn surveys() {
     );
     assert_eq!(other.feed(&[]), Ok(0));
 }
+
+#[test]
+fn packets_of_each_identifier() {
+    let good = |pid| packet(pid, false, 0);
+    let packets = [good(0), good(8191), good(256), broken(256, false, 0), good(8191)];
+    let capture = [file_header(), frame(1, 2, &carrying(&packets))].concat();
+    let mut survey = Survey::open();
+    for byte in &capture[..capture.len() - 1] {
+        survey.feed(&[*byte]).unwrap();
+    }
+    let counts = |survey: &Survey| [0, 255, 256, 8191, 8192, u32::MAX].map(|pid| survey.packets(pid));
+    assert_eq!(counts(&survey), [1, 0, 1, 1, 0, 0]);
+    survey.feed(&capture[capture.len() - 1..]).unwrap();
+    assert_eq!(counts(&survey), [1, 0, 1, 2, 0, 0]);
+    assert_eq!(counts(&Survey::open()), [0; 6]);
+}
