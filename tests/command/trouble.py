@@ -1,7 +1,9 @@
 # Trouble: full disks, closed pipes, interrupts while reading and while writing; and how far a run is.
 import os
 import pty
+import re
 import signal
+import struct
 import subprocess
 import time
 from common import PROGRAMS, check, counted, expect, fail, proved, read, same_record, stream, write
@@ -111,7 +113,7 @@ def interrupted_writing(cap, luma):
 
 
 def progress(cap, luma):
-    """On a terminal, behind the first second, a line; otherwise none."""
+    """On a terminal, behind the first second, a line, with the index that the pictures so far have; otherwise none."""
     data = read(luma)
     for terminal in (True, False):
         main, side = pty.openpty()
@@ -129,6 +131,13 @@ def progress(cap, luma):
         os.close(main)
         check((b" MB, " in said) == terminal, "progress on a terminal %s: %r" % (terminal, said))
         check((b"\r" in said.replace(b"\r\n", b"")) == terminal, "progress: %r" % said)
+        shown = re.findall(rb" (\d+) pictures, index (\d\.\d\d) so far", said)
+        check(bool(shown) == terminal, "no index so far: %r" % said)
+        for pictures, index in shown:
+            write("front.y", data[: int(pictures) * 64 * 48])
+            record = proved(64, 48, 40000, 256, cap, "front.y")[0]
+            now = "%.2f" % struct.unpack_from("<d", record, 56)
+            check(index.decode() == now, "after %s pictures the index is %s, not %s" % (pictures, now, index))
         expect.count += 1
 
 
@@ -138,5 +147,5 @@ def test():
     unwritable(cap, luma)
     interrupted_reading(cap, luma)
     interrupted_writing(cap, luma)
-    progress(cap, luma)
+    progress(stream("dropped", ".pcap"), stream("dropped", ".y"))
     return "trouble: %d runs: %s, closed pipes, interrupts while reading and writing, progress" % (counted(), disk)

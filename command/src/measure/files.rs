@@ -31,10 +31,10 @@ struct Far {
 }
 
 impl Far {
-    fn on(&mut self, bytes: usize, luma: usize) {
+    fn on(&mut self, bytes: usize, luma: usize, sample: &Sample) {
         self.bytes += bytes as u64;
         self.luma += luma as u64;
-        self.progress.at(self.bytes, self.luma / self.picture);
+        self.progress.at(self.bytes, self.luma / self.picture, Some(sample));
     }
 }
 
@@ -64,7 +64,7 @@ fn feed_capture(input: &mut Input, sample: &mut Sample, walk: &mut Walk, far: &m
             return Ok(false);
         }
         walk.take(&piece[..n], |_| {});
-        far.on(n, 0);
+        far.on(n, 0, sample);
     }
 }
 
@@ -142,7 +142,7 @@ impl Pictures {
                 done.map_err(|why| Stop::Failed(format!("{}: {why}", self.input.name())))?;
             }
         }
-        far.on(piece.len(), fed);
+        far.on(piece.len(), fed, sample);
         Ok(taken)
     }
 

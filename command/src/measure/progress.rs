@@ -1,5 +1,6 @@
 //! A line on standard error that says how far a run is: only on a terminal, and only behind the first second.
 use crate::output::{grouped, say};
+use carolsedge::Sample;
 use std::io::{self, IsTerminal};
 use std::time::{Duration, Instant};
 
@@ -20,8 +21,8 @@ impl Progress {
         Progress { terminal, begun: Instant::now(), shown: None, total }
     }
 
-    /// Says how far it is, where it is time to.
-    pub fn at(&mut self, bytes: u64, pictures: u64) {
+    /// Says how far it is and the index so far, where it is time to.
+    pub fn at(&mut self, bytes: u64, pictures: u64, sample: Option<&Sample>) {
         if !self.terminal || self.begun.elapsed() < FIRST {
             return;
         }
@@ -29,7 +30,10 @@ impl Progress {
             return;
         }
         self.shown = Some(Instant::now());
-        say(&format!("\r\x1b[K{}", self.line(bytes, pictures)));
+        // There is none yet before the first packet and the first picture.
+        let index = sample.and_then(|sample| sample.index().ok());
+        let index = index.map(|index| format!(", index {:.2} so far", index.value)).unwrap_or_default();
+        say(&format!("\r\x1b[K{}{index}", self.line(bytes, pictures)));
     }
 
     fn line(&self, bytes: u64, pictures: u64) -> String {

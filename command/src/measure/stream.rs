@@ -151,7 +151,7 @@ fn draw(asked: &Asked, from: ChildStdout, shared: &Shared, mut progress: Progres
             taken = taken && feeding.sample.as_mut().is_some_and(|sample| sample.feed_luma(part).is_ok());
         };
         pictures.take(piece, feed).map_err(failed)?;
-        progress.at(feeding.bytes, luma / picture);
+        progress.at(feeding.bytes, luma / picture, feeding.sample.as_ref());
         if !taken {
             return Ok(Drawn::Refused);
         }
