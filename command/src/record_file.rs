@@ -13,14 +13,23 @@ use std::path::{Path, PathBuf};
 pub struct RecordFile {
     path: PathBuf,
     inputs: Vec<(Identity, String)>,
+    /// The file that has to stand there, where there is one that it replaces.
+    old: Option<Identity>,
 }
 
 impl RecordFile {
     /// Sees that a record may be put there, before any work is done for it.
     pub fn new(word: &OsStr, inputs: Vec<(Identity, String)>) -> Result<RecordFile, Stop> {
-        let file = RecordFile { path: PathBuf::from(word), inputs };
+        let file = RecordFile { path: PathBuf::from(word), inputs, old: None };
         file.replaced()?;
         fs::metadata(file.folder()).map_err(|error| file.failed(&error))?;
+        Ok(file)
+    }
+
+    /// The same, to stand in the place of this file and of no other, as what somebody else wrote there meanwhile.
+    pub fn in_place_of(self, old: Identity) -> Result<RecordFile, Stop> {
+        let file = RecordFile { old: Some(old), ..self };
+        file.replaced()?;
         Ok(file)
     }
 
@@ -39,7 +48,7 @@ impl RecordFile {
     fn replaced(&self) -> Result<Option<Permissions>, Stop> {
         let about = match fs::symlink_metadata(&self.path) {
             Ok(about) => about,
-            Err(error) if error.kind() == ErrorKind::NotFound => return Ok(None),
+            Err(error) if error.kind() == ErrorKind::NotFound && self.old.is_none() => return Ok(None),
             Err(error) => return Err(self.failed(&error)),
         };
         let left = |what: &str| {
@@ -48,6 +57,9 @@ impl RecordFile {
         };
         if !about.is_file() {
             return left(named(about.file_type()));
+        }
+        if self.old.is_some_and(|old| old != Identity::of(&about)) {
+            return left("another file than the one that was read");
         }
         match self.inputs.iter().find(|(input, _)| *input == Identity::of(&about)) {
             Some((_, name)) => left(&format!("the same file as {name}, which is read")),

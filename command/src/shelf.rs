@@ -1,5 +1,5 @@
 //! carolsedge shelf: many records in one file.
-use crate::input::Input;
+use crate::input::{Identity, Input};
 use crate::output;
 use crate::record_file::RecordFile;
 use crate::show;
@@ -15,6 +15,7 @@ pub const SUBCOMMAND: Subcommand =
 const HELP: &str = "\
 usage: carolsedge shelf check FILE
        carolsedge shelf make OUT RECORD..
+       carolsedge shelf add FILE RECORD..
        carolsedge shelf take FILE J
        carolsedge shelf list FILE
 
@@ -25,6 +26,8 @@ of these tests the whole shelf and every record of it. FILE, or a RECORD, may be
   check    prints how many records it holds and how many packets they lost:
            records N lost TOTAL
   make     makes the shelf OUT of the records, in this order; prints the same
+  add      puts the records behind those that the shelf FILE holds; prints the
+           same. The new shelf takes FILE's place once it is whole and checked
   take     writes record J, from 0, to standard output
   list     prints a line for each record
 
@@ -39,19 +42,20 @@ const SHELF_MOST: usize = 8 + SHELF_RECORDS_MOST * (4 + RECORD_MOST);
 fn run(words: Vec<OsString>) -> Result<(), Stop> {
     let words = Words::part(words, &[], &[])?;
     let Some(what) = words.all().first() else {
-        return Err(Stop::Usage("check, make, take or list is missing".into()));
+        return Err(Stop::Usage("check, make, add, take or list is missing".into()));
     };
     match what.to_str() {
         Some("check") => check(&words.plain(&["", "FILE"], 0)?),
         Some("make") => make(words.all()),
+        Some("add") => add(words.all()),
         Some("take") => take(&words.plain(&["", "FILE", "J"], 0)?),
         Some("list") => list(&words.plain(&["", "FILE"], 0)?),
-        _ => Err(Stop::Usage(format!("{}: not check, make, take or list", what.to_string_lossy()))),
+        _ => Err(Stop::Usage(format!("{}: not check, make, add, take or list", what.to_string_lossy()))),
     }
 }
 
 fn check(words: &[Option<OsString>]) -> Result<(), Stop> {
-    let bytes = read(words)?;
+    let bytes = read_word(words)?;
     print_totals(&Shelf::read(&bytes).map_err(refused)?)
 }
 
@@ -60,54 +64,91 @@ fn take(words: &[Option<OsString>]) -> Result<(), Stop> {
     let Some(j) = word.to_str().and_then(number) else {
         return Err(Stop::Usage(format!("{}: not the number of a record", word.to_string_lossy())));
     };
-    let bytes = read(words)?;
+    let bytes = read_word(words)?;
     output::write(&bytes[shelf_part(&bytes, j as usize).map_err(refused)?])
 }
 
 fn list(words: &[Option<OsString>]) -> Result<(), Stop> {
-    let bytes = read(words)?;
+    let bytes = read_word(words)?;
     let shelf = Shelf::read(&bytes).map_err(refused)?;
-    let mut text = String::from("  No.    offset  length  edition  units  scenes  pictures          lost  index\n");
+    let names = "  No.    offset  length  edition  width  height  pictures  units  scenes          lost  index\n";
+    let mut text = String::from(names);
     let mut at = bytes.len() - shelf.records().map(<[u8]>::len).sum::<usize>();
     for (j, record) in shelf.records().enumerate() {
         let h = Record::read(record).map_err(refused)?.header();
         // What one record lost is what the shelf of it alone lost.
         let lost = Shelf::read(&shelf_of(&[record]).map_err(refused)?).map_err(refused)?.lost();
-        let (edition, units, scenes, pictures) = (h.edition, h.units, h.scenes, h.pictures);
-        text += &format!("{j:5} {at:9} {:7} {edition:8} {units:6} {scenes:7} {pictures:9} {lost:13}", record.len());
-        text += &format!("  {:?}\n", h.index);
+        text += &format!("{j:5} {at:9} {:7} {:8} {:6} {:7}", record.len(), h.edition, h.width, h.height);
+        text += &format!(" {:9} {:6} {:7} {lost:13}  {:?}\n", h.pictures, h.units, h.scenes, h.index);
         at += record.len();
     }
     output::print(&text)
 }
 
 fn make(words: &[OsString]) -> Result<(), Stop> {
-    let out = words.get(1).ok_or_else(|| Stop::Usage("OUT is missing".into()))?;
+    let (out, words) = named(words, "OUT")?;
+    let given = Given::read(words)?;
+    let file = RecordFile::new(out, given.inputs.clone())?;
+    put(&file, Vec::new(), given)
+}
+
+fn add(words: &[OsString]) -> Result<(), Stop> {
+    let (out, words) = named(words, "FILE")?;
+    // It stays open, so that no other file gets its number before it is replaced.
+    let mut input = Input::open(out)?;
+    let bytes = read(&mut input)?;
+    let shelf = Shelf::read(&bytes).map_err(refused)?;
+    let given = Given::read(words)?;
+    let file = RecordFile::new(out, given.inputs.clone())?.in_place_of(input.identity())?;
+    put(&file, shelf.records().map(<[u8]>::to_vec).collect(), given)
+}
+
+/// The shelf that is to be written, and the words for records behind it.
+fn named<'a>(words: &'a [OsString], name: &str) -> Result<(&'a OsStr, &'a [OsString]), Stop> {
+    let out = words.get(1).ok_or_else(|| Stop::Usage(format!("{name} is missing")))?;
     if out == "-" || out.is_empty() {
-        return Err(Stop::Usage(format!("OUT {}: not the name of a file", out.to_string_lossy())));
+        return Err(Stop::Usage(format!("{name} {}: not the name of a file", out.to_string_lossy())));
     }
-    if words[2..].iter().filter(|word| *word == "-").count() > 1 {
-        return Err(Stop::Usage("-: standard input is one RECORD".into()));
+    Ok((out, &words[2..]))
+}
+
+/// Records that are read from files, with what each file is.
+struct Given {
+    records: Vec<Vec<u8>>,
+    inputs: Vec<(Identity, String)>,
+}
+
+impl Given {
+    fn read(words: &[OsString]) -> Result<Given, Stop> {
+        if words.iter().filter(|word| *word == "-").count() > 1 {
+            return Err(Stop::Usage("-: standard input is one RECORD".into()));
+        }
+        let (mut inputs, mut records) = (Vec::new(), Vec::new());
+        for word in words {
+            let mut input = Input::open(word)?;
+            records.push(show::read(&mut input)?);
+            inputs.push((input.identity(), input.name().to_string()));
+        }
+        Ok(Given { records, inputs })
     }
-    let (mut inputs, mut records) = (Vec::new(), Vec::new());
-    for word in &words[2..] {
-        let mut input = Input::open(word)?;
-        records.push(show::read(&mut input)?);
-        inputs.push((input.identity(), input.name().to_string()));
-    }
-    let names: Vec<String> = inputs.iter().map(|(_, name)| name.clone()).collect();
-    let file = RecordFile::new(out, inputs)?;
-    let bytes = shelf_of(&records).map_err(|refusal| not_made(refusal, &names, &records))?;
+}
+
+/// Puts a shelf of the old records and of the given ones behind them in its place, and prints its totals.
+fn put(file: &RecordFile, mut records: Vec<Vec<u8>>, given: Given) -> Result<(), Stop> {
+    let first = records.len();
+    records.extend(given.records);
+    let bytes = shelf_of(&records).map_err(|refusal| not_made(refusal, first, &given.inputs, &records))?;
     let shelf = Shelf::read(&bytes).map_err(refused)?;
     file.write(&bytes)?;
     print_totals(&shelf)
 }
 
-/// A refusal of making, with the file of the record that is refused and why it is.
-fn not_made(refusal: Refusal, names: &[String], records: &[Vec<u8>]) -> Stop {
+/// A refusal of making, with the file of the record that is refused and why it is. The inputs are the records from
+/// `first` on.
+fn not_made(refusal: Refusal, first: usize, inputs: &[(Identity, String)], records: &[Vec<u8>]) -> Stop {
     let j = refusal.place as usize;
     let found = match records.get(j).map(|record| Record::read(record)) {
-        Some(Err(why)) if refusal.number == 28 => vec![format!("record {j} is {}: {why}", names[j])],
+        Some(Err(why)) if refusal.number == 28 => vec![format!("record {j} is {}: {why}", inputs[j - first].1)],
         _ => Vec::new(),
     };
     Stop::refused(refusal, found)
@@ -121,9 +162,13 @@ fn refused(refusal: Refusal) -> Stop {
     Stop::refused(refusal, Vec::new())
 }
 
-/// All bytes of FILE, but no more than it takes to see that they are too many for a shelf.
-fn read(words: &[Option<OsString>]) -> Result<Vec<u8>, Stop> {
-    let mut input = Input::open(words[1].as_deref().unwrap_or(OsStr::new("")))?;
+/// All bytes of the word FILE.
+fn read_word(words: &[Option<OsString>]) -> Result<Vec<u8>, Stop> {
+    read(&mut Input::open(words[1].as_deref().unwrap_or(OsStr::new("")))?)
+}
+
+/// All bytes, but no more than it takes to see that they are too many for a shelf.
+fn read(input: &mut Input) -> Result<Vec<u8>, Stop> {
     let known = input.length().unwrap_or(0).min(SHELF_MOST as u64) as usize;
     let mut bytes = vec![0; known + 1];
     let mut length = 0;

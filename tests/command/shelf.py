@@ -1,9 +1,11 @@
-# shelf: what is made is checked, listed and taken out again byte for byte; refusals stand with their place, and no
-# record is lost under the shelf's name.
+# shelf: what is made is checked, listed and taken out again byte for byte, and more is put behind it; refusals stand
+# with their place, and no record is lost under the shelf's name.
 import os
 import random
 import struct
-from common import NEWEST, check, counted, expect, read, write
+import subprocess
+import time
+from common import NEWEST, PROGRAMS, check, counted, expect, read, write
 from show import made
 
 
@@ -38,10 +40,10 @@ def whole(records):
     check(len(lines) == 1 + len(records), "list: %s" % lines)
     place = 8 + 4 * len(records)
     for i, (line, record) in enumerate(zip(lines[1:], records)):
-        edition, _, units, _, scenes = struct.unpack_from("<5I", record)
-        pictures = struct.unpack_from("<I", record, 40)[0]
-        told = [i, place, len(record), edition, units, scenes, pictures, lost_of(record)]
-        check(line.split()[:8] == list(map(str, told)), "list: %s: %s" % (told, line))
+        edition, _, units, _, scenes, _, width, height, _, _, pictures = struct.unpack_from("<11I", record)
+        told = [i, place, len(record), edition, width, height, pictures, units, scenes, lost_of(record)]
+        check(line.split()[:10] == list(map(str, told)), "list: %s: %s" % (told, line))
+        check(float(line.split()[10]) == struct.unpack_from("<d", record, 56)[0], "list: the index: " + line)
         place += len(record)
     for name in names:
         os.remove(name)
@@ -78,16 +80,75 @@ def refused(records):
     expect("4,096 records", 0, lost, [], "shelf", "check", "shelf")
 
 
+def added(records):
+    """Records behind those of a shelf; where that is refused the shelf stays, and nothing else is left."""
+    names = [write("%d.record" % i, record) for i, record in enumerate(records)]
+    write("bad", b"\x09" + records[0][1:])
+    for old in range(len(records) + 1):
+        for new in (names[old:], [*names[old:], *names[:2]], []):
+            write("shelf", laid_out(records[:old]))
+            os.chmod("shelf", 0o640)
+            all = records[:old] + [read(name) for name in new]
+            totals = b"records %d lost %d\n" % (len(all), sum(map(lost_of, all)))
+            expect("add", 0, totals, [], "shelf", "add", "shelf", *new)
+            check(read("shelf") == laid_out(all), "%d records and %d more are laid out otherwise" % (old, len(new)))
+            check(os.stat("shelf").st_mode & 0o777 == 0o640, "add: another mode")
+    expect("from standard input", 0, None, [], "shelf", "add", "shelf", "-", stdin=records[3])
+    check(read("shelf") == laid_out(records + [records[3]]), "add: a record from standard input")
+    two = laid_out(records[:2])
+    before = sorted(os.listdir("."))
+    for name, shelf, status, line, said, words in (
+        ("a bad record", two, 1, b"refused 28 3\n", "record 3 is bad: refused 17: ", ["0.record", "bad"]),
+        ("no shelf", two + b"\0", 1, b"refused 27 0\n", "refused 27: ", ["0.record"]),
+        ("a bad one in it", laid_out([records[0], read("bad")]), 1, b"refused 28 1\n", "refused 28: ", ["0.record"]),
+        ("4,097 records", two, 1, b"refused 27 0\n", "at most 4,096", ["0.record"] * 4095),
+        ("no record", two, 2, b"", "nowhere: No such file or directory", ["0.record", "nowhere"]),
+        ("itself", two, 2, b"", "shelf: it is the same file as shelf, which is read", ["shelf"]),
+        ("standard input twice", two, 2, b"", "-: standard input is one RECORD", ["-", "-"]),
+    ):
+        write("shelf", shelf)
+        expect(name, status, line, [said], "shelf", "add", "shelf", *words)
+        check(read("shelf") == shelf, name + ": the shelf has changed")
+        check(sorted(os.listdir(".")) == before, name + ": something was left")
+    expect("4,096 records", 0, None, [], "shelf", "make", "shelf", *["0.record"] * 4095)
+    totals = b"records 4096 lost %d\n" % (4096 * lost_of(records[0]))
+    expect("4,096 records", 0, totals, [], "shelf", "add", "shelf", "0.record")
+    os.symlink("shelf", "link")
+    expect("a link", 2, b"", ["it is a symbolic link, and is left alone"], "shelf", "add", "link", "0.record")
+    expect("nothing there", 2, b"", ["new: No such file or directory"], "shelf", "add", "new", "0.record")
+    meanwhile(records)
+    for name in [*names, "bad", "link", "shelf"]:
+        os.remove(name)
+
+
+def meanwhile(records):
+    """A shelf that somebody else replaced while it was added to is left as it then is."""
+    for name, other in (("another shelf", laid_out(records[:3])), ("nothing", None)):
+        write("shelf", laid_out(records[:1]))
+        words = [PROGRAMS["carolsedge"], "shelf", "add", "shelf", "-"]
+        run = subprocess.Popen(words, stdin=subprocess.PIPE, stdout=subprocess.PIPE, stderr=subprocess.PIPE)
+        time.sleep(0.3)
+        os.remove("shelf") if other is None else os.replace(write("other", other), "shelf")
+        out, err = run.communicate(records[1], timeout=20)
+        said = b"another file than the one that was read" if other else b"No such file"
+        check((run.returncode, out) == (2, b"") and said in err, "%s: %d %r %r" % (name, run.returncode, out, err))
+        check((read("shelf") if other else os.path.lexists("shelf")) == (other or False), name + ": it was replaced")
+        expect.count += 1
+    write("shelf", b"")
+
+
 def wrong_words():
     for name, said, *words in (
-        ("no word", "check, make, take or list is missing"),
-        ("another word", "open: not check, make, take or list", "open", "shelf"),
+        ("no word", "check, make, add, take or list is missing"),
+        ("another word", "open: not check, make, add, take or list", "open", "shelf"),
         ("no shelf", "FILE is missing", "check"),
         ("no record number", "J is missing", "take", "shelf"),
         ("no such number", "x: not the number of a record", "take", "shelf", "x"),
         ("a word too many", "more: a word too many", "list", "shelf", "more"),
         ("no name", "OUT is missing", "make"),
         ("standard output", "OUT -: not the name of a file", "make", "-", "good"),
+        ("no name to add to", "FILE is missing", "add"),
+        ("standard input to add to", "FILE -: not the name of a file", "add", "-", "good"),
         ("standard input twice", "-: standard input is one RECORD", "make", "new", "-", "-"),
         ("no file", "nowhere: No such file or directory", "check", "nowhere"),
         ("no record", "nowhere: No such file or directory", "make", "new", "good", "nowhere"),
@@ -103,8 +164,9 @@ def test():
     whole(records)
     whole(records[:1] * 3)
     whole([])
+    added(records)
     refused(records)
     wrong_words()
     expect("from standard input", 0, None, [], "shelf", "make", "new", "-", "good", stdin=records[1])
     check(read("new") == laid_out([records[1], records[0]]), "a record from standard input")
-    return "shelf: %d runs: made, checked, listed and taken out again byte for byte" % counted()
+    return "shelf: %d runs: made, added to, checked, listed and taken out again byte for byte" % counted()
