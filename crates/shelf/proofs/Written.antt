@@ -36,7 +36,7 @@ some-bytes : {rs : List (List ℕ)} → All (λ (r : List ℕ). readingFault r �
 some-bytes empty = empty
 some-bytes (and {x = r} h hs) = and {x = length r} (omega (arith, taken-length r h .0)) (some-bytes hs)
 
-few-bytes : {rs : List (List ℕ)} → All (λ (r : List ℕ). readingFault r ≡ none) rs →
+pub few-bytes : {rs : List (List ℕ)} → All (λ (r : List ℕ). readingFault r ≡ none) rs →
     total (map length rs) ≤ length rs * 32064
 unfolding total
 few-bytes empty = omega arith
@@ -57,7 +57,7 @@ grows (l ∷ ls) (and f fs) (suc k) h = omega (arith, grows ls fs k (omega arith
 
 -- ---- offsets
 
-offset-is : (at : ℕ) (ls : List ℕ) (k : ℕ) → k < length ls → getD (offsetsFrom at ls) k 0 ≡ at + total (take k ls)
+pub offset-is : (at : ℕ) (ls : List ℕ) (k : ℕ) → k < length ls → getD (offsetsFrom at ls) k 0 ≡ at + total (take k ls)
 unfolding offsetsFrom total
 offset-is at [] k h = absurd (omega arith)
 offset-is at (l ∷ ls) zero h = omega arith
@@ -73,7 +73,7 @@ unfolding offsetsFrom
 offsets-count at [] = refl
 offsets-count at (l ∷ ls) = ap suc (offsets-count (at + l) ls)
 
-words-length : (xs : List ℕ) → length (endToEnd (map (bytesOf 4) xs)) ≡ 4 * length xs
+pub words-length : (xs : List ℕ) → length (endToEnd (map (bytesOf 4) xs)) ≡ 4 * length xs
 unfolding endToEnd
 words-length [] = refl
 words-length (x ∷ xs) =
@@ -143,7 +143,8 @@ rises s zero j h = refl
 rises s (suc n) j h =
     rw (lt-ltb (edge s j) (edge s (j + 1)) (h j (omega arith)), rises s n (j + 1) (λ k l. h k (omega arith)))
 
-none-refused : (j : ℕ) {rs : List (List ℕ)} → All (λ (r : List ℕ). readingFault r ≡ none) rs → firstRefused j rs ≡ none
+pub none-refused : (j : ℕ) {rs : List (List ℕ)} → All (λ (r : List ℕ). readingFault r ≡ none) rs →
+    firstRefused j rs ≡ none
 unfolding firstRefused
 none-refused j empty = refl
 none-refused j (and h hs) = rw (h, none-refused (j + 1) hs)
