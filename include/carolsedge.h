@@ -57,7 +57,8 @@ enum {
     CAROLSEDGE_REFUSED_GAPS = 24,           /* gap runs: above 15 gaps */
     CAROLSEDGE_REFUSED_ROWS = 25,           /* RTP: no rows, above 4,096, or unequal lists */
     CAROLSEDGE_REFUSED_PASSAGE = 26,        /* repeats: a above b, or b above the whole pictures fed */
-    CAROLSEDGE_REFUSED_SHELF = 27,          /* shelf: not laid out as one */
+    CAROLSEDGE_REFUSED_SHELF = 27,          /* shelf: not laid out as one; writing: above 4,096 records, or lengths
+                                             * that do not add up */
     CAROLSEDGE_REFUSED_SHELF_RECORD = 28    /* shelf: a record is refused by the reader; place: its number */
 };
 
@@ -310,6 +311,15 @@ uint32_t carolsedge_shelf_open(const uint8_t *shelf, size_t length, struct carol
  * past the number of records, and *part stands. Proved of every slice: a part that is given lies within it. */
 uint32_t carolsedge_shelf_part(const uint8_t *shelf, size_t length, size_t j, struct carolsedge_part *part,
                                uint64_t *place);
+
+/* Writes the shelf of some records to the front of the buffer (docs/RULE.md, The shelf, 6). The records lie end to end,
+ * without gaps; `lengths` has the length of each. *value is the shelf's length, 8 + 4 * count + size; bytes behind it
+ * stand. Refused: 27 where there are more than 4,096 records or their lengths do not add up to size, then 28, with the
+ * number of the first record that the reader refuses in *value, then 15 for a buffer that is too short, with the length
+ * needed in *value; the buffer stands. Proved: what is written is accepted by carolsedge_shelf_open, and its parts are
+ * the records, byte by byte. */
+uint32_t carolsedge_shelf_write(const uint8_t *records, size_t size, const uint32_t *lengths, size_t count,
+                                uint8_t *buffer, size_t length, uint64_t *value);
 
 /* ---- small-screen streams */
 

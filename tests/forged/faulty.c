@@ -1,4 +1,4 @@
-/* Functions with one fault each (FAULT, 1 to 25) in the place of the library's own, by the linker's --wrap: the forged
+/* Functions with one fault each (FAULT, 1 to 27) in the place of the library's own, by the linker's --wrap: the forged
  * calls have to notice every one. */
 #include <stddef.h>
 #include <stdint.h>
@@ -24,6 +24,8 @@ uint32_t __real_carolsedge_busiest_luma(uint32_t, uint32_t, uint32_t, uint32_t, 
                                         uint64_t *);
 uint32_t __real_carolsedge_shelf_open(const uint8_t *, size_t, struct carolsedge_shelf *, uint64_t *);
 uint32_t __real_carolsedge_shelf_part(const uint8_t *, size_t, size_t, uint64_t *, uint64_t *);
+uint32_t __real_carolsedge_shelf_write(const uint8_t *, size_t, const uint32_t *, size_t, uint8_t *, size_t,
+                                       uint64_t *);
 uint32_t __real_carolsedge_rtp_units(const uint16_t *, size_t, const uint8_t *, size_t, const uint64_t *, size_t,
                                      const uint16_t *, size_t, uint8_t *, size_t, uint64_t *);
 
@@ -156,6 +158,17 @@ uint32_t __wrap_carolsedge_shelf_part(const uint8_t *shelf, size_t length, size_
     uint32_t k = __real_carolsedge_shelf_part(shelf, length, j, part, place);
     if (FAULT == 21 && !k) /* a part that ends behind the shelf */
         part[1] = length + 1;
+    return k;
+}
+
+uint32_t __wrap_carolsedge_shelf_write(const uint8_t *records, size_t size, const uint32_t *lengths, size_t count,
+                                       uint8_t *buffer, size_t room, uint64_t *value)
+{
+    uint32_t k = __real_carolsedge_shelf_write(records, size, lengths, count, buffer, room, value);
+    if (FAULT == 26 && !k && *value < room) /* writes behind the shelf */
+        buffer[*value] = 0;
+    if (FAULT == 27 && k == 15 && room) /* writes to a buffer that is too short */
+        buffer[0] = 0;
     return k;
 }
 

@@ -26,11 +26,12 @@
 
 enum { OPEN, FEED_CAPTURE, FEED_LUMA, SEAL, INDEX, REPEATS, READ_HEADER, READ_UNIT, READ_SCENE, SHEET, REPLAY,
        OPEN_SURVEY, FEED_SURVEY, ASK_SURVEY, EFFECTIVE_LOSS, MOST_SCENES, BUSIEST_LUMA, GAP_RUNS, RTP_UNITS,
-       SHELF_OPEN, SHELF_PART, FUNCTIONS };
+       SHELF_OPEN, SHELF_PART, SHELF_WRITE, FUNCTIONS };
 static const char *const name[FUNCTIONS] = {"open", "feed_capture", "feed_luma", "seal", "index", "repeats",
                                              "read_header", "read_unit", "read_scene", "sheet", "replay",
-                                             "open_survey", "feed_survey", "ask_survey", "effective_loss", "most_scenes",
-                                             "busiest_luma", "gap_runs", "rtp_units", "shelf_open", "shelf_part"};
+                                             "open_survey", "feed_survey", "ask_survey", "effective_loss",
+                                             "most_scenes", "busiest_luma", "gap_runs", "rtp_units", "shelf_open",
+                                             "shelf_part", "shelf_write"};
 enum { LAST_NUMBER = 28 }; /* of the table of refusals */
 static uint64_t answers[FUNCTIONS][LAST_NUMBER + 1], calls[FUNCTIONS], longest, seed;
 static volatile int under_way;
@@ -741,6 +742,7 @@ static void round_of_surveys(void)
 #include "loss.h"
 #include "busiest.h"
 #include "rtp.h"
+#include "shelf_write.h"
 
 /* A forged state, and a few calls on it. */
 static void round_of_calls(uint64_t most)
@@ -764,6 +766,8 @@ static void round_of_calls(uint64_t most)
         call_gap_runs();
     if (calls[SHELF_OPEN] < most / 10)
         call_shelf();
+    if (calls[SHELF_WRITE] < most / 10)
+        call_shelf_write();
     if (calls[REPLAY] < most / 20)
         call_replay();
     if (calls[FEED_SURVEY] < most / 10)
@@ -794,10 +798,11 @@ int main(int words, char **word)
     make_loss_rooms();
     gap_table = room_of(8 * TABLE_MOST);
     shelves = room_of(SHELF_MOST);
+    make_writing_rooms();
     make_rtp_rooms();
     while (calls[SEAL] < most || calls[OPEN] < most || calls[READ_HEADER] < most || calls[SHEET] < most / 10 ||
            calls[REPLAY] < most / 20 || calls[FEED_SURVEY] < most / 10 || calls[EFFECTIVE_LOSS] < most / 10 ||
-           calls[GAP_RUNS] < most / 10 || calls[SHELF_OPEN] < most / 10)
+           calls[GAP_RUNS] < most / 10 || calls[SHELF_OPEN] < most / 10 || calls[SHELF_WRITE] < most / 10)
         round_of_calls(most);
     for (int f = 0; f < FUNCTIONS; f++) {
         printf("forged: %-14s %" PRIu64 " calls; answers", name[f], calls[f]);

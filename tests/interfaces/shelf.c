@@ -1,7 +1,8 @@
 /* A shelf from standard input through carolsedge_shelf_open and carolsedge_shelf_part, as `carolsedge shelf` has them:
  * without an argument `records N lost TOTAL`, with a number J the bytes of record J, or `refused N P`. All parts, if
  * they are few, have to join without gaps and to be records that the reader takes, whose lost packets make the total;
- * what is refused has to stand. Otherwise the program fails with a message. */
+ * what is refused has to stand. carolsedge_shelf_write has to make the same shelf of its records, or to refuse the same
+ * record. Otherwise the program fails with a message. */
 #include <inttypes.h>
 #include <stdio.h>
 #include <stdlib.h>
@@ -10,7 +11,8 @@
 #include "carolsedge.h"
 
 enum { INPUT = 131400000, TRIED = 12 }; /* more than any shelf */
-static uint8_t shelf[INPUT];
+static uint8_t shelf[INPUT], again[INPUT];
+static uint32_t lengths[CAROLSEDGE_SHELF_RECORDS_MOST];
 
 static void fail(const char *what)
 {
@@ -75,6 +77,47 @@ static void parts(size_t length, const struct carolsedge_shelf *figures)
         fail("the parts do not make the shelf, or their lost packets not the total");
 }
 
+static size_t word(size_t at)
+{
+    return shelf[at] + 256 * (size_t)shelf[at + 1] + 65536 * (size_t)shelf[at + 2] + 16777216 * (size_t)shelf[at + 3];
+}
+
+/* Writes the records of a shelf that is laid out into so many bytes; what is refused has to leave them. */
+static uint32_t write_again(size_t length, size_t room, uint64_t *value)
+{
+    size_t records = word(0), head = 8 + 4 * records;
+    for (size_t j = 0; j < records; j++)
+        lengths[j] = (uint32_t)((j + 1 < records ? word(8 + 4 * (j + 1)) : length) - word(8 + 4 * j));
+    memset(again, 0xA5, room + 1);
+    uint32_t number = carolsedge_shelf_write(shelf + head, length - head, lengths, records, again, room, value);
+    for (size_t i = number == CAROLSEDGE_DONE ? length : 0; i <= room; i++)
+        if (again[i] != 0xA5)
+            fail("a byte behind the shelf, or of a refused buffer, was written");
+    return number;
+}
+
+/* What writing the records of a shelf answers, one byte too short, with just room and with more. */
+static void written(size_t length, uint32_t number, uint64_t place)
+{
+    uint64_t value = 77;
+    if (number == CAROLSEDGE_REFUSED_SHELF_RECORD) {
+        if (write_again(length, length, &value) != number || value != place)
+            fail("a refused record was written");
+        return;
+    }
+    if (write_again(length, length - 1, &value) != CAROLSEDGE_REFUSED_BUFFER || value != length)
+        fail("a buffer one byte too short");
+    for (size_t more = 0; more < 100; more += 99)
+        if (write_again(length, length + more, &value) != CAROLSEDGE_DONE || value != length ||
+            memcmp(again, shelf, length) != 0)
+            fail("the shelf was written otherwise");
+    size_t records = word(0), head = 8 + 4 * records;
+    if (records > 0 && lengths[0]-- > 0)
+        if (carolsedge_shelf_write(shelf + head, length - head, lengths, records, again, length, &value) !=
+                CAROLSEDGE_REFUSED_SHELF || value != 0 || memcmp(again, shelf, length) != 0)
+            fail("lengths that do not add up");
+}
+
 int main(int count, char **words)
 {
     size_t length = fread(shelf, 1, sizeof shelf, stdin);
@@ -91,6 +134,8 @@ int main(int count, char **words)
         fail("the two calls name two places");
     if (number == CAROLSEDGE_DONE && figures.records <= TRIED)
         parts(length, &figures);
+    if (number != CAROLSEDGE_REFUSED_SHELF && length < INPUT - 100)
+        written(length, number, place);
     if (count < 2 && number == CAROLSEDGE_DONE) {
         printf("records %" PRIu64 " lost %" PRIu64 "\n", figures.records, figures.lost);
         return 0;

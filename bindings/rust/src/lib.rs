@@ -57,7 +57,7 @@ pub use record::{sheet, Header, Record, Scene, Unit};
 pub use refusal::Refusal;
 pub use rtp::rtp_units;
 pub use sample::{Index, Opening, Sample};
-pub use shelf::{shelf_of, shelf_part, Shelf, SHELF_RECORDS_MOST};
+pub use shelf::{shelf_of, shelf_part, shelf_write, Shelf, SHELF_RECORDS_MOST};
 pub use survey::{Most, Survey};
 
 /// The version of this crate, and of the library's header (`CAROLSEDGE_VERSION`).

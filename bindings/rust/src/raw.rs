@@ -138,6 +138,15 @@ extern "C" {
         part: &mut [u64; 2],
         place: &mut u64,
     ) -> u32;
+    fn carolsedge_shelf_write(
+        records: *const u8,
+        size: usize,
+        lengths: *const u32,
+        count: usize,
+        buffer: *mut u8,
+        length: usize,
+        value: &mut u64,
+    ) -> u32;
     fn carolsedge_rtp_units(
         sequence: *const u16,
         sequence_length: usize,
@@ -399,6 +408,24 @@ pub fn shelf_part(shelf: &[u8], j: usize) -> Result<[u64; 2], (u32, u64)> {
     let number =
         unsafe { carolsedge_shelf_part(shelf.as_ptr(), shelf.len(), j, &mut part, &mut place) };
     given(number, part).map_err(|number| (number, place))
+}
+
+/// The refusal's number, or 0, and the value.
+pub fn shelf_write(records: &[u8], lengths: &[u32], buffer: &mut [u8]) -> (u32, u64) {
+    let mut value = 0;
+    // SAFETY: pointers and lengths are those of slices, of which the one that is written is borrowed alone.
+    let number = unsafe {
+        carolsedge_shelf_write(
+            records.as_ptr(),
+            records.len(),
+            lengths.as_ptr(),
+            lengths.len(),
+            buffer.as_mut_ptr(),
+            buffer.len(),
+            &mut value,
+        )
+    };
+    (number, value)
 }
 
 /// The refusal's number, or 0, and the value.

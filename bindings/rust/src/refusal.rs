@@ -9,8 +9,8 @@ use std::fmt;
 #[derive(Debug, Clone, Copy, PartialEq, Eq, Hash)]
 pub struct Refusal {
     /// 1 to 3 and 20: opening; 4 to 9: the capture; 10: the luma; 11 to 15: sealing (11: a survey too, 15: a sheet,
-    /// runs of gaps and RTP too); 16 to 19: reading (19: a shelf too); 21: a survey; 22 and 23: losses; 24: runs of
-    /// gaps; 25: RTP; 26: a passage; 27 and 28: a shelf.
+    /// runs of gaps, RTP and writing a shelf too); 16 to 19: reading (19: a shelf too); 21: a survey; 22 and 23:
+    /// losses; 24: runs of gaps; 25: RTP; 26: a passage; 27 and 28: a shelf.
     pub number: u32,
     /// Where, or 0 where no place is named.
     pub place: u64,

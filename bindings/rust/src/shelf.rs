@@ -1,4 +1,4 @@
-use crate::{raw, Record, Refusal};
+use crate::{raw, Refusal, RECORD_MOST};
 use std::ops::Range;
 
 /// No shelf has more records.
@@ -70,31 +70,30 @@ pub fn shelf_part(shelf: &[u8], j: usize) -> Result<Range<usize>, Refusal> {
     Ok(start as usize..end as usize)
 }
 
+/// Writes the shelf of some records to the front of a buffer and gives its length. The records lie end to end, without
+/// gaps, and `lengths` has the length of each. Refused: 27 where they are more than 4,096 or their lengths do not add
+/// up, 28, whose place is the number of the first one that is refused, then 15 with the length needed; the buffer
+/// stands.
+pub fn shelf_write(records: &[u8], lengths: &[u32], buffer: &mut [u8]) -> Result<usize, Refusal> {
+    match raw::shelf_write(records, lengths, buffer) {
+        (0, length) => Ok(length as usize),
+        refused => Err(placed(refused)),
+    }
+}
+
 /// The shelf of these records, in this order. Refused: 27 where they are more than 4,096, then 28, whose place is the
-/// number of the first one that is refused. What is laid out is read once more before it is given.
+/// number of the first one that is refused.
 pub fn shelf_of(records: &[impl AsRef<[u8]>]) -> Result<Vec<u8>, Refusal> {
-    if records.len() > SHELF_RECORDS_MOST {
-        return Err(placed((27, 0)));
+    let (mut all, mut lengths) = (Vec::new(), Vec::new());
+    // One record above the most, or one byte above the longest record, is refused whatever follows.
+    for record in records.iter().take(SHELF_RECORDS_MOST + 1) {
+        let record = record.as_ref();
+        let record = &record[..record.len().min(RECORD_MOST + 1)];
+        all.extend(record);
+        lengths.push(record.len() as u32);
     }
-    let refused = |record: &_| Record::read(AsRef::as_ref(record)).is_err();
-    if let Some(j) = records.iter().position(refused) {
-        return Err(placed((28, j as u64)));
-    }
-    // A record has at most 32,064 bytes: 32 bits hold every sum of so many.
-    let mut at = 8 + 4 * records.len();
-    let lengths = records.iter().map(|record| record.as_ref().len());
-    let all = at + lengths.sum::<usize>();
-    let mut shelf = Vec::with_capacity(all);
-    shelf.extend((records.len() as u32).to_le_bytes());
-    shelf.extend((all as u32).to_le_bytes());
-    for record in records {
-        shelf.extend((at as u32).to_le_bytes());
-        at += record.as_ref().len();
-    }
-    for record in records {
-        shelf.extend(record.as_ref());
-    }
-    Shelf::read(&shelf)?;
+    let mut shelf = vec![0; 8 + 4 * lengths.len() + all.len()];
+    shelf_write(&all, &lengths, &mut shelf)?;
     Ok(shelf)
 }
 

@@ -1,5 +1,5 @@
 //! Shelves from Rust: those that are made are read back record by record, and every refusal stands at its place.
-use carolsedge::{shelf_of, shelf_part, Refusal, Shelf, NEWEST_EDITION, SHELF_RECORDS_MOST};
+use carolsedge::{shelf_of, shelf_part, shelf_write, Refusal, Shelf, NEWEST_EDITION, RECORD_MOST, SHELF_RECORDS_MOST};
 
 fn words(words: &[u32]) -> Vec<u8> {
     words.iter().flat_map(|word| word.to_le_bytes()).collect()
@@ -142,4 +142,62 @@ fn refused_records() {
         refusal(28, 2).to_string(),
         "refused 28: the shelf holds a record that is refused (record 2)"
     );
+}
+
+#[test]
+fn written_into_lent_memory() {
+    let records = [record(1, &[3, 4]), record(2, &[5]), record(4, &[6])];
+    let lengths = records.each_ref().map(|record| record.len() as u32);
+    let all = records.concat();
+    let size = 8 + 4 * 3 + all.len();
+    for room in 0..size + 40 {
+        let mut buffer = vec![0xA5; room];
+        let wrote = shelf_write(&all, &lengths, &mut buffer);
+        if room < size {
+            assert_eq!(wrote, Err(refusal(15, size as u64)), "{room} bytes");
+            assert_eq!(buffer, vec![0xA5; room], "{room} bytes were written");
+        } else {
+            assert_eq!(wrote, Ok(size));
+            assert_eq!(buffer[size..], vec![0xA5; room - size], "behind the shelf");
+            let shelf = Shelf::read(&buffer[..size]).unwrap();
+            assert_eq!((shelf.len(), shelf.lost()), (3, 18));
+            assert_eq!(shelf.records().collect::<Vec<_>>(), records);
+        }
+    }
+}
+
+// Each of these leaves a buffer that has room as it was; 27 comes before 28, 28 before 15.
+#[test]
+fn not_written() {
+    let (good, bad) = (record(1, &[3]), record(NEWEST_EDITION + 1, &[4]));
+    let length = good.len() as u32;
+    let two = [&good[..], &bad].concat();
+    let many = vec![length; SHELF_RECORDS_MOST + 1];
+    let all = good.repeat(SHELF_RECORDS_MOST + 1);
+    for (records, lengths, refused) in [
+        (&two[..], &[length, length + 1][..], refusal(27, 0)),
+        (&two, &[length, length - 1], refusal(27, 0)),
+        (&two, &[length], refusal(27, 0)),
+        (&two, &[], refusal(27, 0)),
+        (&two, &[length, u32::MAX], refusal(27, 0)),
+        (&[], &[1], refusal(27, 0)),
+        (&all, &many, refusal(27, 0)),
+        (&two, &[length, length], refusal(28, 1)),
+        (&two, &[2 * length], refusal(28, 0)),
+        (&two, &[0, length, length], refusal(28, 0)),
+        (&two, &[length, 0, length], refusal(28, 1)),
+        (&[], &[0], refusal(28, 0)),
+    ] {
+        for room in [0, 8, all.len() + 20_000] {
+            let mut buffer = vec![0xA5; room];
+            assert_eq!(shelf_write(records, lengths, &mut buffer), Err(refused));
+            assert_eq!(buffer, vec![0xA5; room]);
+        }
+    }
+    let mut buffer = [0xA5; 9];
+    assert_eq!(shelf_write(&[], &[], &mut buffer[..7]), Err(refusal(15, 8)));
+    assert_eq!(shelf_write(&[], &[], &mut buffer), Ok(8));
+    assert_eq!(buffer[..], [0, 0, 0, 0, 8, 0, 0, 0, 0xA5]);
+    // no copy of a long record is made to see that it is refused
+    assert_eq!(shelf_of(&[&good[..], &vec![1; 2 * RECORD_MOST]]), Err(refusal(28, 1)));
 }

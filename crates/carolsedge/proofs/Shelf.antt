@@ -10,8 +10,11 @@ use Rattle.rules.specs.Refusals.{Fault, none, fault, listed}
 use Rattle.rules.specs.Shelf.{recordCount, edge, shelfLost, shelfFault, partFault, orShelf, orPart, shelfAnswer}
 use Rattle.rules.specs.Shelf.{partAnswer}
 use Rattle.rules.proofs.Laws.Listed.{Numbered, shelf, part}
+use Rattle.shelf_writer.specs.Writing.{shelfLength, writingFault, writingAnswer}
+use Rattle.shelf_writer.proofs.Theorems.{writing-numbered}
+use Rattle.carolsedge.specs.Numbers.{numberOf}
 use Rattle.carolsedge.specs.Shelf.{shelfNumber, partNumber, ShelfOpened, PartTaken}
-use Rattle.carolsedge.proofs.Listed.{numberIn}
+use Rattle.carolsedge.proofs.Listed.{numberIn, of-answer}
 
 module _ (s old : List ℕ) (a : ShelfAnswer) (e : a ≡ shelfAnswer s) where
   pub shelf-done : (n lost : ℕ) → a ≡ of-shelf.Given n lost → ShelfOpened s old 0 0 (n ∷ lost ∷ [])
@@ -44,3 +47,7 @@ shelf-number s = of-shelf-answer (shelfFault s) (recordCount s) (shelfLost s) (s
 pub part-number : (s : List ℕ) (j : ℕ) → partNumber (partAnswer s j) ≡ numberIn (partFault s j)
 unfolding partAnswer
 part-number s j = of-part-answer (partFault s j) _ _ (part s j)
+
+pub writing-number : (s ls : List ℕ) (m : ℕ) → numberOf (writingAnswer s ls m) ≡ numberIn (writingFault s ls m)
+unfolding writingAnswer
+writing-number s ls m = of-answer (writingFault s ls m) (shelfLength ls) (writing-numbered s ls m)

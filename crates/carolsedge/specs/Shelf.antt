@@ -2,12 +2,15 @@
 use Prim.Native.Nat.{ℕ}
 use mathlib.Core.Path.{_≡_}
 use mathlib.Core.List.{List, [], _∷_}
+use lib.ListN.{length}
 use Rattle.rules.specs.declared.ShelfAnswer.{ShelfAnswer}
 use Rattle.rules.specs.declared.PartAnswer.{PartAnswer}
 use Rattle.rules.specs.declared.ShelfAnswer.the-variants as of-shelf
 use Rattle.rules.specs.declared.PartAnswer.the-variants as of-part
 use Rattle.rules.specs.Refusals.{listed}
 use Rattle.rules.specs.Shelf.{shelfAnswer, partAnswer}
+use Rattle.shelf_writer.specs.Writing.{writingAnswer, writtenBuffer}
+use Rattle.carolsedge.specs.Numbers.{numberOf, valueOf}
 
 -- the number, 0 where the shelf or the part is given; the place, 0 there too
 abbrev pub shelfNumber : ShelfAnswer → ℕ
@@ -46,3 +49,9 @@ pub record PartTaken (bytes : List ℕ) (j : ℕ) (before : List ℕ) (number pl
   pub numbered : number ≡ partNumber (partAnswer bytes j)
   pub placed : place ≡ partPlace (partAnswer bytes j)
   pub given : after ≡ partInto (partAnswer bytes j) before
+
+-- the records end to end, their lengths, the buffer before, the number, the value, the buffer after
+pub record ShelfWritten (records lengths before : List ℕ) (number value : ℕ) (after : List ℕ) : Type 0 where
+  pub numbered : number ≡ numberOf (writingAnswer records lengths (length before))
+  pub valued : value ≡ valueOf (writingAnswer records lengths (length before))
+  pub written : after ≡ writtenBuffer records lengths before

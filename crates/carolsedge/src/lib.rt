@@ -37,6 +37,7 @@ use rules::UnitAnswer;
 use rules::UnitRow;
 pub use shelves::carolsedge_shelf_open;
 pub use shelves::carolsedge_shelf_part;
+pub use shelves::carolsedge_shelf_write;
 use survey::Counts;
 
 // A refusal's number.

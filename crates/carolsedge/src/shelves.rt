@@ -1,8 +1,10 @@
 // A shelf (document 02, R-13) as C functions: each hands its memory to the call of `shelf` and splits the answer into
 // numbers.
 ghost use mathlib.Core.Path.{_≡_};
-ghost use Rattle.carolsedge.specs.Shelf.{ShelfOpened, PartTaken};
+ghost use Rattle.carolsedge.specs.Shelf.{ShelfOpened, PartTaken, ShelfWritten};
 use crate::listed_number;
+use crate::number_of;
+use crate::value_of;
 use rules::PartAnswer;
 use rules::ShelfAnswer;
 
@@ -51,4 +53,21 @@ pub extern "C" fn carolsedge_shelf_part(
             listed_number(number)
         }
     }
+}
+
+// Writes a shelf of records that lie end to end, each as long as its number in `lengths` says. The value is the shelf's
+// length, or the refusal's place; of 15 that is the length needed. A refusal leaves the buffer as it was.
+#[no_mangle]
+pub extern "C" fn carolsedge_shelf_write(
+    records: &[u8],
+    lengths: &[u32],
+    buffer: &mut [u8],
+    value: &mut u64,
+) -> u32
+    ensures { λ r. ⌜ ShelfWritten (now (records .entry)) (now (lengths .entry)) (now (buffer .entry)) r
+        (now (value .exit)) (now (buffer .exit)) ⌝ }
+{
+    let a = shelf_writer::write(records, lengths, buffer);
+    *value = value_of(a);
+    number_of(a)
 }

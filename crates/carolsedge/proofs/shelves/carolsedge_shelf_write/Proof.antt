@@ -1,0 +1,24 @@
+-- `carolsedge_shelf_write` meets its contract: number, value and buffer are those of `shelf_writer::write`. Assumes
+-- nothing.
+use borrow.Author.Needs.{needs}
+use Rattle.carolsedge.proofs.shelves.carolsedge_shelf_write.Statement.{statement}
+use Rattle.carolsedge.proofs.shelves.carolsedge_shelf_write.Tie as tie
+
+write-requires : tie.Need-write-requires
+write-requires c κs = search needs
+
+value-of-requires : tie.Need-value-of-requires
+value-of-requires c κs = search needs
+
+number-of-requires : tie.Need-number-of-requires
+number-of-requires c κs = search needs
+
+same-length : tie.Need-same-length
+same-length c = search needs
+
+returns : tie.Need-returns
+returns c = record { numbered = cc; valued = cc; written = search needs }
+
+pub carolsedge-shelf-write-spec : {M : Type 1} → statement M
+carolsedge-shelf-write-spec =
+    tie.close (tie.spec write-requires value-of-requires number-of-requires same-length returns)
