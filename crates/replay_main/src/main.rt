@@ -8,6 +8,7 @@ use capture::Numbers;
 use capture_units::Table;
 use capture_walk::Collected;
 use capture_walk::WalkWords;
+use libc::STDERR_FILENO;
 use libc::STDIN_FILENO;
 use libc::STDOUT_FILENO;
 use rules::Answer;
@@ -56,6 +57,10 @@ fn run_seal(
     length: u32,
 ) -> bool {
     if 65536 < length {
+        io::write_all(
+            STDERR_FILENO,
+            b"replay_main: a buffer above 65,536 bytes ends the run\n",
+        );
         return false;
     }
     let mut space = [0xA5u8; 65536];
@@ -94,6 +99,10 @@ fn run_repeats(luma: &[u64; 1600]) -> bool {
 // Reads a piece of so many bytes; answers whether it is not too long and was there.
 fn read_piece(piece: &mut [u8], length: u32) -> bool {
     if 1048576 < length {
+        io::write_all(
+            STDERR_FILENO,
+            b"replay_main: a piece above 1,048,576 bytes ends the run\n",
+        );
         return false;
     }
     let n = io::count(length as isize, piece);
