@@ -34,12 +34,14 @@ fn loss(random: &mut Prng) -> u32 {
 /// A probability: key frames or not, low ones all over, bounds and their neighbours, or anything.
 fn probability(random: &mut Prng, style: usize) -> f64 {
     let any = (random.next() >> 11) as f64 / (1u64 << 53) as f64;
-    let bounds = [0.0, -0.0, f64::MIN_POSITIVE, 0.01, 0.01f64.next_up(), 0.01f64.next_down(), 0.5, 1.0];
+    let bounds = [0.0, -0.0, 0.01, 0.01f64.next_up(), 0.01f64.next_down(), 0.5, 1.0];
+    let subnormal = [5e-324, f64::MIN_POSITIVE.next_down(), f64::MIN_POSITIVE];
     let near = [0.5f64.next_up(), 0.5f64.next_down(), 1.0f64.next_down(), 0.99, 0.9, 0.98, 0.1];
     match style {
         0 => random.pick(&[0.0, 0.0, 0.0, 0.001, 0.95, 1.0]),
         1 => 0.01 + any / 50.0,
         2 if random.once_in(2) => random.pick(&bounds),
+        2 if random.once_in(6) => random.pick(&subnormal),
         2 => random.pick(&near),
         _ => any,
     }
