@@ -1,5 +1,5 @@
-//! Speed of the library's feeds, beside the independent program's feeds, a wide sum of the same bytes, and memcpy; and the time
-//! that the largest sheet takes.
+//! Speed of the library's feeds, beside the independent program's feeds, a wide sum of the same bytes, and memcpy; the time
+//! that the largest sheet takes; and other calls, each beside one that does the same work (`calls.rs`).
 //!
 //! All four take the same bytes in the same pieces, in turn in every round. A figure is the best of its rounds, by CPU time of this process.
 //! It is linked with libcarolsedge.a, has the calls of bindings/rust, and the independent program's modules as they are. The last lines say which goals hold.
@@ -13,6 +13,8 @@ mod cells;
 mod film;
 #[path = "../independent/second/lent.rs"]
 mod lent;
+#[path = "../independent/second/loss.rs"]
+mod loss;
 #[path = "../independent/second/luma.rs"]
 mod luma;
 #[path = "../independent/second/make"]
@@ -26,15 +28,21 @@ mod opening;
 mod prng;
 #[path = "../independent/second/record.rs"]
 mod record;
+#[path = "../independent/second/rtp.rs"]
+mod rtp;
 #[path = "../independent/second/sample.rs"]
 mod sample;
 #[path = "../independent/second/script.rs"]
 mod script;
+#[path = "../independent/second/shelf.rs"]
+mod shelf;
 #[path = "../independent/second/units.rs"]
 mod units;
 
 #[path = "../../bindings/rust/src/raw.rs"]
 mod ours;
+
+mod calls;
 
 use make::captures::CaptureMaker;
 use opening::Opening;
@@ -115,6 +123,11 @@ fn main() {
     let sheet = sheet_seconds();
     println!("the largest sheet: {:.3} ms", 1e3 * sheet);
     goals.push(("the largest sheet in less than a millisecond".to_string(), sheet < 1e-3));
+    println!("{}", calls::heads());
+    for row in calls::rows(&inputs[2]) {
+        println!("{row}");
+        goals.extend(row.goals);
+    }
     let named = |holds: bool| goals.iter().filter(|goal| goal.1 == holds).map(|goal| goal.0.as_str()).collect::<Vec<_>>().join("; ");
     println!("goals that hold: {}", named(true));
     println!("goals that do not: {}", if goals.iter().all(|goal| goal.1) { "none".to_string() } else { named(false) });
