@@ -291,28 +291,6 @@ mod tests {
         }
     }
 
-    /// Request R-3, and the bounds that the tiles have here.
-    #[test]
-    fn two_boundaries_count_the_tile_column_for_every_allowed_width() {
-        let mut allowed = [false; 1921];
-        for (width, height) in (15..=1920).flat_map(|width| (30..=1088).map(move |height| (width, height))) {
-            if height <= 2 * width && width <= 4 * height {
-                allowed[crate::luma::Grid::new(width, height).reduced_width] = true;
-            }
-        }
-        let widths: Vec<usize> = (0..=1920).filter(|&w| allowed[w]).collect();
-        assert_eq!((widths[0], widths[widths.len() - 1]), (15, 239));
-        for w in widths {
-            let least = |numerator: usize| (0..).find(|c| 3 * c >= numerator).unwrap();
-            let boundaries = [least(w), least(2 * w)];
-            assert_eq!(thirds(w)[1..3], boundaries);
-            for c in 0..w {
-                let at_or_below = boundaries.iter().filter(|&&boundary| boundary <= c).count();
-                assert_eq!(at_or_below, 3 * c / w);
-            }
-        }
-    }
-
     #[test]
     fn one_pixel_of_100_changes_bin() {
         let one = histogram([&[15; 100][..]].into_iter());
