@@ -46,6 +46,10 @@ impl Row {
         (100.0 * self.seconds[1] / self.seconds[0]).round() / 100.0
     }
 
+    fn quick(&self) -> bool {
+        self.seconds.iter().all(|&seconds| seconds < 1e-6)
+    }
+
     fn goal(mut self, text: &str, holds: impl Fn(&Row) -> bool) -> Row {
         self.goals.push((format!("{}: {text}", self.name), holds(&self)));
         self
@@ -65,7 +69,7 @@ pub fn heads() -> String {
 }
 
 pub fn rows(capture: &Input) -> Vec<Row> {
-    let mut rows = vec![survey_feed(capture), index_call(), effective_loss(), rtp_falling()];
+    let mut rows = vec![survey_feed(capture), index_call(), repeats_call(), effective_loss(), rtp_falling()];
     rows.extend(shelf_test());
     rows
 }
@@ -109,8 +113,20 @@ fn index_call() -> Row {
     };
     let seconds = best([&mut || ask(&many), &mut || ask(&one)]);
     let row = Row::new("index call at 750 units", "at 1 unit", Figure::Time, seconds);
-    row.goal("less than a microsecond", |row| row.seconds.iter().all(|&seconds| seconds < 1e-6))
+    row.goal("less than a microsecond", Row::quick)
         .goal("the same as at 1 unit, within a tenth", |row| (0.9..=1.1).contains(&row.ratio()))
+}
+
+/// A question of the repeats of 750 pictures beside one of a single picture's.
+fn repeats_call() -> Row {
+    let state = sample_of(750);
+    let ask = |end: u32| {
+        let calls = || (0..CALLS).for_each(|_| assert_eq!(black_box(&state).repeats(0, black_box(end)), (0, 0)));
+        timed(calls) / CALLS as f64
+    };
+    let seconds = best([&mut || ask(750), &mut || ask(1)]);
+    let row = Row::new("repeats of 750 pictures", "of 1 picture", Figure::Time, seconds);
+    row.goal("less than a microsecond", Row::quick)
 }
 
 /// A sample that was fed so many units and as many pictures.

@@ -19,6 +19,8 @@ static uint8_t capture[MOST], luma[MOST], script[3 * MOST], out[MOST];
 static size_t capture_length, luma_length, script_length, length;
 static const uint8_t *piece;
 static uint8_t record[CAROLSEDGE_RECORD_MOST], sheet[CAROLSEDGE_SHEET_MOST], shelf[16 + 2 * CAROLSEDGE_RECORD_MOST];
+static uint8_t records[2 * CAROLSEDGE_RECORD_MOST];
+static uint32_t lengths[2];
 static size_t record_length, shelf_length;
 static uint64_t value, more, table[211], times[ROWS];
 static uint16_t sequence[ROWS], size[ROWS];
@@ -38,6 +40,7 @@ static void feed_capture(void) { carolsedge_sample_feed_capture(&sample, piece, 
 static void feed_luma(void) { carolsedge_sample_feed_luma(&sample, piece, length, &value); }
 static void seal(void) { carolsedge_sample_seal(&sample, record, sizeof record, &value); }
 static void ask_index(void) { carolsedge_sample_index(&sample, &three, &value); }
+static void ask_repeats(void) { carolsedge_sample_repeats(&sample, 0, 1, &value); }
 static void replay(void) { value = carolsedge_replay(script, script_length, out, sizeof out); }
 static void open_survey(void) { carolsedge_survey_open(&survey); }
 static void feed_survey(void) { carolsedge_survey_feed(&survey, piece, length, &value); }
@@ -50,6 +53,11 @@ static void gap_runs(void) { carolsedge_gap_runs(15, table, 211, &value); }
 static void most_scenes(void) { carolsedge_most_scenes(display, 750, &value); }
 static void shelf_open(void) { carolsedge_shelf_open(shelf, shelf_length, &figures, &value); }
 static void shelf_part(void) { carolsedge_shelf_part(shelf, shelf_length, 1, &part, &value); }
+
+static void shelf_write(void)
+{
+    carolsedge_shelf_write(records, 2 * record_length, lengths, 2, shelf, sizeof shelf, &value);
+}
 
 static void busiest_luma(void)
 {
@@ -78,6 +86,7 @@ static const struct {
     {"feed_luma", feed_luma, 2048},
     {"seal", seal, 2048},
     {"index", ask_index, 2048},
+    {"repeats", ask_repeats, 2048},
     {"replay", replay, 65536},
     {"open_survey", open_survey, 2048},
     {"feed_survey", feed_survey, 2048},
@@ -92,6 +101,7 @@ static const struct {
     {"busiest_luma", busiest_luma, 2048},
     {"shelf_open", shelf_open, 2048},
     {"shelf_part", shelf_part, 2048},
+    {"shelf_write", shelf_write, 2048},
     {"rtp_units", rtp_units, 65536 + 2048},
 };
 enum { FUNCTIONS = sizeof functions / sizeof *functions };
@@ -174,10 +184,10 @@ static uint8_t *put(uint8_t *at, const void *bytes, size_t n)
 static void write_script(void)
 {
     const uint32_t opening[] = {width, height, display, pid, edition}, room = CAROLSEDGE_RECORD_MOST;
-    const uint32_t lengths[] = {(uint32_t)capture_length, (uint32_t)luma_length};
+    const uint32_t fed[] = {(uint32_t)capture_length, (uint32_t)luma_length};
     uint8_t *at = put(script, opening, sizeof opening);
-    at = put(put(put(at, "C", 1), &lengths[0], 4), capture, capture_length);
-    at = put(put(put(at, "L", 1), &lengths[1], 4), luma, luma_length);
+    at = put(put(put(at, "C", 1), &fed[0], 4), capture, capture_length);
+    at = put(put(put(at, "L", 1), &fed[1], 4), luma, luma_length);
     at = put(put(put(at, "I", 1), "S", 1), &room, 4);
     script_length = (size_t)(at - script);
 }
@@ -185,9 +195,10 @@ static void write_script(void)
 /* A shelf of the record, twice. */
 static void write_shelf(void)
 {
-    const uint32_t n = (uint32_t)record_length, head[] = {2, 16 + 2 * n, 16, 16 + n};
-    uint8_t *at = put(put(put(shelf, head, sizeof head), record, n), record, n);
-    shelf_length = (size_t)(at - shelf);
+    put(put(records, record, record_length), record, record_length);
+    lengths[0] = lengths[1] = (uint32_t)record_length;
+    on_stack(shelf_write), done("a shelf");
+    shelf_length = value;
 }
 
 static void read_record(void)
@@ -205,7 +216,7 @@ static void measure(size_t step)
     on_stack(open_sample);
     feed(feed_capture, capture, capture_length, step);
     feed(feed_luma, luma, luma_length, step);
-    on_stack(ask_index);
+    on_stack(ask_index), on_stack(ask_repeats);
     on_stack(seal), done("a seal");
     record_length = value;
     read_record();
