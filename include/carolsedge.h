@@ -113,7 +113,7 @@ uint32_t carolsedge_index(const uint64_t *numbers, const uint64_t *luma, struct 
                           uint64_t *place);
 
 /* Opens a sample: width W and height H of a picture, its display time d in microseconds, packet identifier PID, and
- * the edition of the rules, 1 to 4, that it is measured by. Refused: 1, 2, 3 or 20, which its feeds and seals then
+ * the edition of the rules, 1 to 4, that it is measured by. Refused: 1, 2, 3 or 20, which all its other calls then
  * repeat. */
 static inline uint32_t carolsedge_sample_open(struct carolsedge_sample *s, uint32_t width, uint32_t height, uint32_t time,
                                               uint32_t pid, uint32_t edition)
@@ -224,7 +224,7 @@ struct carolsedge_header {
     uint64_t width, height, time, pid; /* of the opening */
     uint64_t pictures;
     uint64_t frames, skipped;         /* of the capture; skipped: those that carry nothing */
-    uint64_t bad;                     /* packets that do not begin with 0x47 */
+    uint64_t bad;                     /* packets without 0x47; by edition 4 also damaged ones before any unit */
     uint64_t index;                   /* the bits of a binary64 */
 };
 
@@ -260,7 +260,7 @@ uint32_t carolsedge_sheet(const uint8_t *record, size_t length, uint8_t *buffer,
 
 /* ---- beside the sample */
 
-/* How far losses spread, for streams without B frames (document 02, R-8; docs/RULE.md): from the loss of each of so
+/* How far losses spread, for streams without B frames (docs/RULE.md, 22): from the loss of each of so
  * many units, 1 to 750, and the probability that it is a key frame, each unit of the two lists gets what reaches it of
  * key-frame losses and of plain ones. Lengths count elements. Refused: 22, then 23; both leave the lists. Otherwise no
  * element is a NaN, negative or infinite. */
@@ -268,7 +268,7 @@ uint32_t carolsedge_effective_loss(uint32_t units, const uint32_t *losses, size_
                                    const double *probabilities, size_t probabilities_length,
                                    double *keys, size_t keys_length, double *plain, size_t plain_length);
 
-/* How many runs of n gaps of the counter, each 0 to 15, have one lost total (document 02, R-10; docs/RULE.md): entry L
+/* How many runs of n gaps of the counter, each 0 to 15, have one lost total (docs/RULE.md, 24): entry L
  * of the table gets the number of those that lose L, for each L from 0 to 14 n, and *value is the number of entries,
  * 14 n + 1; entries behind them stand. Refused: 24 for n above 15, then 15 for a table of fewer entries, *value being
  * the number needed; the table stands. Length and value count entries. Proved: together the entries are 16 to the
@@ -287,7 +287,7 @@ uint32_t carolsedge_most_scenes(uint32_t time, uint32_t pictures, uint64_t *valu
 uint32_t carolsedge_busiest_luma(uint32_t width, uint32_t height, uint32_t time, uint32_t pictures, uint64_t at,
                                  uint8_t *piece, size_t length, uint64_t *value);
 
-/* ---- a shelf: at most 4,096 records of any editions behind a head of offsets (docs/RULE.md, The shelf) */
+/* ---- a shelf: at most 4,096 records of any editions behind a head of offsets (docs/RULE.md, 25) */
 
 enum { CAROLSEDGE_SHELF_RECORDS_MOST = 4096 };
 

@@ -17,8 +17,8 @@ NUMBER, of all refusals.
 
 A refused run prints `refused NUMBER PLACE` on standard output. The place counts
 bytes from 0: of 4 to 10 it is where the refusal shows, of 11 and 13 how many
-bytes that side has, of 15 how long a buffer the record needs, of 28 it is the
-number of a record; otherwise 0.
+bytes that side has, of 15 how long the buffer has to be, of 28 it is the number
+of a record; otherwise 0.
 
 Exit status: 0 done, 2 wrong words, or standard output cannot be written.
 ";

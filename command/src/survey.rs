@@ -14,8 +14,9 @@ pub const SUBCOMMAND: Subcommand =
 const HELP: &str = "\
 usage: carolsedge survey CAPTURE
 
-Counts the good packets (those that start with 0x47) of every identifier in a
-capture, a file or - for standard input, and prints
+Counts the good packets (those that start with 0x47 and are not marked as
+damaged) of every identifier in a capture, a file or - for standard input, and
+prints
 
   survey PID COUNT
 

@@ -39,9 +39,9 @@
 //! otherwise in `target/staticlib` at the top of the repository, where `rt staticlib carolsedge` writes it.
 #![deny(missing_docs)]
 
+mod busiest;
 mod gaps;
 mod loss;
-mod busiest;
 mod raw;
 mod record;
 mod refusal;
@@ -50,9 +50,9 @@ mod sample;
 mod shelf;
 mod survey;
 
+pub use busiest::{busiest_luma, most_scenes};
 pub use gaps::gap_runs;
 pub use loss::effective_loss;
-pub use busiest::{busiest_luma, most_scenes};
 pub use record::{sheet, Header, Record, Scene, Unit};
 pub use refusal::Refusal;
 pub use rtp::rtp_units;

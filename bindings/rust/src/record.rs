@@ -24,7 +24,7 @@ pub struct Header {
     pub frames: u32,
     /// Frames that carry no packets.
     pub skipped: u32,
-    /// Packets that do not begin with 0x47.
+    /// Packets that do not begin with 0x47; by edition 4 also damaged ones before the first unit.
     pub bad: u32,
     /// The index, as the record's bits give it: of a sealed record 1 + Ic × Ip, from 1 to 5. The reader tests no bits of it. It is no MOS.
     pub index: f64,
@@ -66,7 +66,7 @@ pub struct Scene {
     pub change: u32,
 }
 
-/// A record that document 01 allows, over bytes that it borrows.
+/// A record that the rule allows, over bytes that it borrows.
 #[derive(Debug, Clone, Copy)]
 pub struct Record<'a> {
     bytes: &'a [u8],

@@ -8,9 +8,10 @@ use std::fmt;
 /// is refused, and of all others 0.
 #[derive(Debug, Clone, Copy, PartialEq, Eq, Hash)]
 pub struct Refusal {
-    /// 1 to 3 and 20: opening; 4 to 9: the capture; 10: the luma; 11 to 15: sealing (11: a survey too, 15: a sheet,
-    /// runs of gaps, RTP and writing a shelf too); 16 to 19: reading (19: a shelf too); 21: a survey; 22 and 23:
-    /// losses; 24: runs of gaps; 25: RTP; 26: a passage; 27 and 28: a shelf.
+    /// 1 to 3 and 20: opening; 4 to 9: the capture; 10: the luma; 11 to 15: sealing (11: a survey too, 12 and 14: the
+    /// index too, 15: a sheet, runs of gaps, RTP and writing a shelf too; 1, 2, 10 and 14: the busiest sample too); 16
+    /// to 19: reading (19: a shelf too); 21: a survey; 22 and 23: losses; 24: runs of gaps; 25: RTP; 26: a passage; 27
+    /// and 28: a shelf.
     pub number: u32,
     /// Where, or 0 where no place is named.
     pub place: u64,

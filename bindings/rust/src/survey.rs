@@ -11,8 +11,8 @@ pub struct Most {
     pub packets: u64,
 }
 
-/// A survey of a capture: which identifier has most good packets, those that start with 0x47. Opened, fed in pieces of
-/// any length, asked as often as wanted.
+/// A survey of a capture: which identifier has most good packets, those that start with 0x47 and are not marked as
+/// damaged. Opened, fed in pieces of any length, asked as often as wanted.
 ///
 /// Its state is 32,960 bytes on the heap; no call allocates. A clone goes on by itself.
 #[derive(Clone)]
