@@ -11,6 +11,7 @@ mod input;
 mod loss;
 mod measure;
 mod output;
+mod page;
 mod record_file;
 mod rtp;
 mod sheet;
@@ -38,6 +39,7 @@ const SUBCOMMANDS: &[Subcommand] = &[
     measure::SUBCOMMAND,
     show::SUBCOMMAND,
     sheet::SUBCOMMAND,
+    page::SUBCOMMAND,
     loss::SUBCOMMAND,
     gaps::SUBCOMMAND,
     rtp::SUBCOMMAND,

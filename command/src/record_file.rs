@@ -1,5 +1,5 @@
-//! Writing a record or a shelf: beside its name first, and put under it only over nothing or a regular file that is no
-//! input.
+//! Writing a record, a shelf or a page: beside its name first, and put under it only over nothing or a regular file
+//! that is no input.
 use crate::input::Identity;
 use crate::signals;
 use crate::stop::Stop;

@@ -6,7 +6,7 @@ use crate::show;
 use crate::stop::Stop;
 use crate::words::{number, Words};
 use crate::Subcommand;
-use carolsedge::{shelf_of, shelf_part, Record, Refusal, Shelf, RECORD_MOST, SHELF_RECORDS_MOST};
+use carolsedge::{shelf_of, shelf_part, Header, Record, Refusal, Shelf, RECORD_MOST, SHELF_RECORDS_MOST};
 use std::ffi::{OsStr, OsString};
 
 pub const SUBCOMMAND: Subcommand =
@@ -73,16 +73,34 @@ fn list(words: &[Option<OsString>]) -> Result<(), Stop> {
     let shelf = Shelf::read(&bytes).map_err(refused)?;
     let names = "  No.    offset  length  edition  width  height  pictures  units  scenes          lost  index\n";
     let mut text = String::from(names);
-    let mut at = bytes.len() - shelf.records().map(<[u8]>::len).sum::<usize>();
-    for (j, record) in shelf.records().enumerate() {
-        let h = Record::read(record).map_err(refused)?.header();
-        // What one record lost is what the shelf of it alone lost.
-        let lost = Shelf::read(&shelf_of(&[record]).map_err(refused)?).map_err(refused)?.lost();
-        text += &format!("{j:5} {at:9} {:7} {:8} {:6} {:7}", record.len(), h.edition, h.width, h.height);
+    for (j, line) in lines(&bytes, &shelf)?.iter().enumerate() {
+        let Line { at, length, header: h, lost } = line;
+        text += &format!("{j:5} {at:9} {length:7} {:8} {:6} {:7}", h.edition, h.width, h.height);
         text += &format!(" {:9} {:6} {:7} {lost:13}  {:?}\n", h.pictures, h.units, h.scenes, h.index);
-        at += record.len();
     }
     output::print(&text)
+}
+
+/// What is told of one record: where it starts, its length, its header, and what its units lost.
+pub struct Line {
+    pub at: usize,
+    pub length: usize,
+    pub header: Header,
+    pub lost: u64,
+}
+
+/// A line for each record.
+pub fn lines(bytes: &[u8], shelf: &Shelf) -> Result<Vec<Line>, Stop> {
+    let mut at = bytes.len() - shelf.records().map(<[u8]>::len).sum::<usize>();
+    let mut lines = Vec::new();
+    for record in shelf.records() {
+        let header = Record::read(record).map_err(refused)?.header();
+        // What one record lost is what the shelf of it alone lost.
+        let lost = Shelf::read(&shelf_of(&[record]).map_err(refused)?).map_err(refused)?.lost();
+        lines.push(Line { at, length: record.len(), header, lost });
+        at += record.len();
+    }
+    Ok(lines)
 }
 
 fn make(words: &[OsString]) -> Result<(), Stop> {
@@ -168,7 +186,7 @@ fn read_word(words: &[Option<OsString>]) -> Result<Vec<u8>, Stop> {
 }
 
 /// All bytes, but no more than it takes to see that they are too many for a shelf.
-fn read(input: &mut Input) -> Result<Vec<u8>, Stop> {
+pub fn read(input: &mut Input) -> Result<Vec<u8>, Stop> {
     let known = input.length().unwrap_or(0).min(SHELF_MOST as u64) as usize;
     let mut bytes = vec![0; known + 1];
     let mut length = 0;

@@ -1,7 +1,7 @@
 //! carolsedge show: a record for people, or every figure of it for programs.
-mod date;
+pub mod date;
 mod page;
-mod tables;
+pub mod tables;
 
 use crate::input::Input;
 use crate::output;

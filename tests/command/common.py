@@ -13,7 +13,7 @@ PROGRAMS = {}
 
 def begin(folder):
     PROGRAMS["carolsedge"] = os.path.join(ROOT, "target", "bin", "carolsedge")
-    for name in ("measure", "show", "sheet"):
+    for name in ("measure", "show", "sheet", "busiest"):
         PROGRAMS[name] = os.path.join(os.path.abspath(folder), name)
 
 

@@ -49,7 +49,7 @@ def unwritable(cap, luma):
     """Standard output that cannot be written."""
     expect("a record", 0, None, None, "measure", cap, luma, "-o", "record", *RAW)
     calls = [["show", "record", *form] for form in ([], ["--lines"], ["--json"], ["--csv"])]
-    calls += [["measure", file, luma, "-o", "record", *RAW] for file in (cap, luma)]
+    calls += [["page", "record"]] + [["measure", file, luma, "-o", "record", *RAW] for file in (cap, luma)]
     calls += [["explain"], ["explain", "3"], ["--help"], ["--version"], ["measure", "--help"], ["show", luma]]
     for words in calls:
         with open("/dev/full", "wb") as out:
