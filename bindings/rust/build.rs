@@ -12,7 +12,11 @@ fn main() {
     let archive = folder.join("libcarolsedge.a");
     println!("cargo:rerun-if-changed={}", archive.display());
     if !archive.is_file() {
-        eprintln!("{} is not there: run `rt staticlib carolsedge` at the top of the repository, or set CAROLSEDGE_LIB_DIR to its folder", archive.display());
+        eprintln!(
+            "{} is not there: run `rt staticlib carolsedge` at the top of the repository, or set CAROLSEDGE_LIB_DIR \
+             to its folder",
+            archive.display()
+        );
         process::exit(1);
     }
     println!("cargo:rustc-link-search=native={}", folder.display());

@@ -1,8 +1,10 @@
 //! Speed of the library's feeds, beside the independent program's feeds, a wide sum of the same bytes, and memcpy; the time
 //! that the largest sheet takes; and other calls, each beside one that does the same work (`calls.rs`).
 //!
-//! All four take the same bytes in the same pieces, in turn in every round. A figure is the best of its rounds, by CPU time of this process.
-//! It is linked with libcarolsedge.a, has the calls of bindings/rust, and the independent program's modules as they are. The last lines say which goals hold.
+//! All four take the same bytes in the same pieces, in turn in every round. A figure is the best of its rounds, by CPU
+//! time of this process.
+//! It is linked with libcarolsedge.a, has the calls of bindings/rust, and the independent program's modules as they
+//! are. The last lines say which goals hold.
 #![allow(dead_code)]
 
 #[path = "../independent/second/capture.rs"]
@@ -50,7 +52,8 @@ use prng::Prng;
 use std::arch::x86_64::{__m128i, _mm_add_epi64, _mm_loadu_si128, _mm_sad_epu8, _mm_setzero_si128};
 use std::hint::black_box;
 
-/// How the bytes are cut: pieces of one size, or a frame's header and its body in turn, as a live capture hands them over.
+/// How the bytes are cut: pieces of one size, or a frame's header and its body in turn, as a
+/// live capture hands them over.
 #[derive(Clone, Copy, PartialEq)]
 enum Cut {
     Every(usize),
@@ -106,7 +109,10 @@ fn main() {
         film("luma 64 x 48", 64, 48, 750),
         stream(),
     ];
-    println!("{:18}{:>10}{:>9}{:>13}{:>11}{:>9}   ours by: independent  wide sum    memcpy", "GB/s", "piece", "ours", "independent", "wide sum", "memcpy");
+    println!(
+        "{:18}{:>10}{:>9}{:>13}{:>11}{:>9}   ours by: independent  wide sum    memcpy",
+        "GB/s", "piece", "ours", "independent", "wide sum", "memcpy"
+    );
     let mut goals = Vec::new();
     for input in &inputs {
         let frames = if input.side == Side::Capture { &[Cut::Frames][..] } else { &[] };
@@ -115,7 +121,8 @@ fn main() {
             let speed = |i: usize| 1e-9 / times.0[i];
             println!(
                 "{:18}{:>10}{:>9.2}{:>13.2}{:>11.2}{:>9.2}{:>23.2}{:>10.2}{:>10.2}",
-                input.name, name_of(cut), speed(0), speed(1), speed(2), speed(3), times.ratio(1), times.ratio(2), times.ratio(3)
+                input.name, name_of(cut), speed(0), speed(1), speed(2), speed(3),
+                times.ratio(1), times.ratio(2), times.ratio(3)
             );
             goals.extend(goals_of(input, cut, &times));
         }
@@ -140,16 +147,23 @@ fn name_of(cut: Cut) -> String {
     }
 }
 
-/// The goals about one line of the table, and whether each holds. Pieces of luma below 65,536 bytes have none, but for small pictures.
+/// The goals about one line of the table, and whether each holds. Pieces of luma below 65,536 bytes have
+/// none, but for small pictures.
 fn goals_of(input: &Input, cut: Cut, times: &Times) -> Vec<(String, bool)> {
     let (alone, sum) = (times.ratio(1), times.ratio(2));
     let goal = |text: &str, holds: bool| (format!("{} at {}: {text}", input.name, name_of(cut)), holds);
     let whole = matches!(cut, Cut::Every(size) if size >= 65_536);
     match input.name {
         "luma 64 x 48" => vec![goal("no slower than the independent program", alone >= 1.0)],
-        "capture" if whole => vec![goal("1.2 of the independent program", alone >= 1.2), goal("faster than the wide sum", sum > 1.0)],
+        "capture" if whole => vec![
+            goal("1.2 of the independent program", alone >= 1.2),
+            goal("faster than the wide sum", sum > 1.0),
+        ],
         "capture" => vec![goal("no slower than the independent program", alone >= 1.0)],
-        _ if whole => vec![goal("no slower than the independent program", alone >= 1.0), goal("0.8 of the wide sum", sum >= 0.8)],
+        _ if whole => vec![
+            goal("no slower than the independent program", alone >= 1.0),
+            goal("0.8 of the wide sum", sum >= 0.8),
+        ],
         _ => Vec::new(),
     }
 }

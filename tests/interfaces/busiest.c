@@ -1,6 +1,6 @@
-/* busiest-c W H D N: what the program `busiest` writes, by carolsedge_busiest_luma in pieces of many lengths, each behind
- * the one before. busiest-c most D N: the greatest number of scenes, or `refused N P`. An argument that is missing, or is
- * not 1 to 9 decimal digits alone, counts as 0. */
+/* busiest-c W H D N: what the program `busiest` writes, by carolsedge_busiest_luma in pieces of many lengths, each
+ * behind the one before. busiest-c most D N: the greatest number of scenes, or `refused N P`. An argument that is
+ * missing, or is not 1 to 9 decimal digits alone, counts as 0. */
 #include <inttypes.h>
 #include <stdio.h>
 #include <string.h>
@@ -29,7 +29,8 @@ int main(int words, char **word)
         printf("%" PRIu64 "\n", value);
         return k != 0;
     }
-    uint32_t w = number(words, word, 1), h = number(words, word, 2), d = number(words, word, 3), n = number(words, word, 4);
+    uint32_t w = number(words, word, 1), h = number(words, word, 2), d = number(words, word, 3),
+             n = number(words, word, 4);
     for (size_t size = 1;; size = size * 7 % 69997 + 1) {
         memset(piece, 0xA5, sizeof piece);
         uint32_t k = carolsedge_busiest_luma(w, h, d, n, at, piece, size, &value);

@@ -14,7 +14,8 @@ int main()
     if (carolsedge_sample_open(&sample, 640, 480, 40000, 256, CAROLSEDGE_NEWEST_EDITION) != CAROLSEDGE_DONE) return 3;
     if (carolsedge_sample_feed_capture(&sample, nullptr, 0, &value) != CAROLSEDGE_DONE || value != 0) return 4;
     if (carolsedge_sample_feed_luma(&sample, nullptr, 0, &value) != CAROLSEDGE_DONE || value != 0) return 5;
-    if (carolsedge_sample_seal(&sample, nullptr, 0, &value) != CAROLSEDGE_REFUSED_CAPTURE_INSIDE || value != 0) return 6;
+    if (carolsedge_sample_seal(&sample, nullptr, 0, &value) != CAROLSEDGE_REFUSED_CAPTURE_INSIDE || value != 0)
+        return 6;
     carolsedge_sample_index(&sample, &index, &value);
     if (index.ic != 7 || index.ip != 8 || index.value != 9 || value != 0) return 7;
     if (carolsedge_sample_index(&sample, &index, &value) != CAROLSEDGE_REFUSED_NO_PACKET) return 8;

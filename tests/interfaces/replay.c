@@ -1,4 +1,5 @@
-/* Runs a script of calls from standard input through carolsedge_replay, and prints what replay_main prints: a line a call (tests/independent/FORMAT.md). */
+/* Runs a script of calls from standard input through carolsedge_replay, and prints what replay_main prints: a line a
+ * call (tests/independent/FORMAT.md). */
 #include <stdio.h>
 #include <stdlib.h>
 #include <string.h>
@@ -81,7 +82,8 @@ int main(void)
         end += taken, room += needed;
     uint8_t *out = larger(NULL, room + 1);
     out[room] = 0xC5;
-    if (carolsedge_replay(script, end, out, room - 1) || !carolsedge_replay(script, end, out, room) || out[room] != 0xC5)
+    if (carolsedge_replay(script, end, out, room - 1) || !carolsedge_replay(script, end, out, room) ||
+        out[room] != 0xC5)
         return 1;
     print("open", out);
     putchar('\n');

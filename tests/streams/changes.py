@@ -1,5 +1,6 @@
 #!/usr/bin/env python3
-"""Compares the changes in our records of one stream with the temporal information that ffmpeg gives of its reduced pictures (ti.txt).
+"""Compares the changes in our records of one stream with the temporal information that ffmpeg gives of its reduced
+pictures (ti.txt).
 Usage: changes.py FOLDER OF PROGRAMS, NAME WIDTH HEIGHT D PID, FOLDER TO WRITE TO, EDITION.
 Prints how many changes it compared."""
 import os
@@ -58,5 +59,8 @@ for picture, row in enumerate(rows):
         fail(f"edition {edition}: the change of picture {picture} is {changes[picture]}, ffmpeg's figure {row[2]}")
 for first, count, total in last:
     if total != sum(changes[first : first + count]):
-        fail(f"the scene from picture {first} has the changes {total}, its pictures {sum(changes[first : first + count])}")
+        fail(
+            f"the scene from picture {first} has the changes {total}, "
+            f"its pictures {sum(changes[first : first + count])}"
+        )
 print(len(rows))

@@ -1,6 +1,7 @@
 #!/usr/bin/env python3
-"""Counts what tshark says of one PID: tshark -r CAPTURE -T pdml | count.py PID. Prints packets, packets with a start mark,
-the skips of its continuity check, and those skips but for the ones before a packet that has the discontinuity indicator."""
+"""Counts what tshark says of one PID: tshark -r CAPTURE -T pdml | count.py PID. Prints packets, packets with a start
+mark, the skips of its continuity check, and those skips but for the ones before a packet that has the discontinuity
+indicator."""
 import sys
 import xml.etree.ElementTree as tree
 

@@ -1,5 +1,6 @@
 #!/usr/bin/env python3
-"""Writes the reduced pictures of a luma file, as the rule makes them: reduce.py WIDTH HEIGHT LUMA REDUCED. Prints their size."""
+"""Writes the reduced pictures of a luma file, as the rule makes them: reduce.py WIDTH HEIGHT LUMA REDUCED. Prints
+their size."""
 import sys
 
 width, height = int(sys.argv[1]), int(sys.argv[2])

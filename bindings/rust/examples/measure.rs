@@ -1,7 +1,8 @@
 //! measure W H D PID CAPTURE LUMA [EDITION]: measures a sample and prints its record, as the programs measure and show
 //! do together.
 //!
-//! Exit status: 0 printed, 1 refused (`refused NUMBER PLACE` on standard output), 2 usage, or a file or standard output that fails.
+//! Exit status: 0 printed, 1 refused (`refused NUMBER PLACE` on standard output), 2 usage, or a file or
+//! standard output that fails.
 use carolsedge::{Opening, Record, Refusal, Sample, RECORD_MOST};
 use std::fs::File;
 use std::io::{self, Read, Write};

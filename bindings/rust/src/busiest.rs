@@ -20,7 +20,8 @@ pub fn most_scenes(time: u32, pictures: u32) -> Result<u32, Refusal> {
 /// Luma that has as many scenes as so many pictures can have: all black and all white in turn.
 ///
 /// Fills the piece with its bytes from byte `at` on and answers how many were written, fewer than the piece holds
-/// where the luma ends. Refusal 1 is given for the size, then those of [`most_scenes`]; the piece then stands as it was.
+/// where the luma ends. Refusal 1 is given for the size, then those of [`most_scenes`]; the
+/// piece then stands as it was.
 ///
 /// ```
 /// let mut piece = [7; 4];

@@ -1,6 +1,7 @@
-//! Measures a streamed seat: a packet capture and up to 750 luma pictures go in, and one small record comes out, 64 bytes and a row of 32 for each unit and
-//! each scene. The work is done by a library in which every call is proved to answer what the written rule (`docs/RULE.md`) says, however the bytes are cut
-//! into pieces; this crate is the thin way to it.
+//! Measures a streamed seat: a packet capture and up to 750 luma pictures go in, and one small record comes out,
+//! 64 bytes and a row of 32 for each unit and each scene. The work is done by a library in which every call is
+//! proved to answer what the written rule (`docs/RULE.md`) says, however the bytes are cut into pieces; this
+//! crate is the thin way to it.
 //!
 //! ```
 //! use carolsedge::{Opening, Record, Sample, NEWEST_EDITION, RECORD_MOST};
@@ -35,8 +36,9 @@
 //! # }
 //! ```
 //!
-//! The archive `libcarolsedge.a` is for x86-64 Linux. The build looks for it in the folder that the environment variable `CAROLSEDGE_LIB_DIR` names, and
-//! otherwise in `target/staticlib` at the top of the repository, where `rt staticlib carolsedge` writes it.
+//! The archive `libcarolsedge.a` is for x86-64 Linux. The build looks for it in the folder that the environment
+//! variable `CAROLSEDGE_LIB_DIR` names, and otherwise in `target/staticlib` at the top of the repository, where
+//! `rt staticlib carolsedge` writes it.
 #![deny(missing_docs)]
 
 mod busiest;

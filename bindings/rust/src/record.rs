@@ -26,7 +26,8 @@ pub struct Header {
     pub skipped: u32,
     /// Packets that do not begin with 0x47; by edition 4 also damaged ones before the first unit.
     pub bad: u32,
-    /// The index, as the record's bits give it: of a sealed record 1 + Ic × Ip, from 1 to 5. The reader tests no bits of it. It is no MOS.
+    /// The index, as the record's bits give it: of a sealed record 1 + Ic × Ip, from 1 to 5. The reader tests no bits
+    /// of it. It is no MOS.
     pub index: f64,
 }
 
@@ -145,8 +146,8 @@ impl<'a> Record<'a> {
     }
 }
 
-/// Prints a record's sheet to the front of the buffer, in lines of 100 columns and a line feed, on pages of 60 lines, and
-/// gives its length. Refused: 16, 17 or 18, then 15, whose place is the length needed; the buffer then stands.
+/// Prints a record's sheet to the front of the buffer, in lines of 100 columns and a line feed, on pages of 60 lines,
+/// and gives its length. Refused: 16, 17 or 18, then 15, whose place is the length needed; the buffer then stands.
 pub fn sheet(record: &[u8], buffer: &mut [u8]) -> Result<usize, Refusal> {
     match raw::sheet(record, buffer) {
         (0, length) => Ok(length as usize),

@@ -21,7 +21,8 @@ impl Refusal {
     /// What the number says, in words.
     pub fn meaning(&self) -> &'static str {
         match self.number {
-            1 => "height outside 30 to 1088, width outside 15 to 1920, height above twice the width, or width above four times the height",
+            1 => "height outside 30 to 1088, width outside 15 to 1920, height above twice the width, or width \
+                  above four times the height",
             2 => "display time outside 10,000 to 200,000 microseconds",
             3 => "packet identifier above 8191",
             4 => "the capture is longer than 268,435,456 bytes",

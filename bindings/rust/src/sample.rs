@@ -57,21 +57,25 @@ impl Sample {
         }
     }
 
-    /// Feeds a piece of the capture, and gives the piece's length, or refusal 4 to 9, which later feeds of this side and seals repeat.
+    /// Feeds a piece of the capture, and gives the piece's length, or refusal 4 to 9, which later feeds of
+    /// this side and seals repeat.
     ///
     /// Bytes before the refusal's place are taken in, and later ones are ignored. The luma side goes on.
     pub fn feed_capture(&mut self, piece: &[u8]) -> Result<usize, Refusal> {
         answer(self.state.feed_capture(piece))
     }
 
-    /// Feeds a piece of the luma, and gives the piece's length, or refusal 10, which later feeds of this side and seals repeat.
+    /// Feeds a piece of the luma, and gives the piece's length, or refusal 10, which later feeds of
+    /// this side and seals repeat.
     pub fn feed_luma(&mut self, piece: &[u8]) -> Result<usize, Refusal> {
         answer(self.state.feed_luma(piece))
     }
 
-    /// Seals what was fed: writes the record to the front of the buffer and gives its length, or gives the refusal (4 to 15) and leaves the buffer as it was.
+    /// Seals what was fed: writes the record to the front of the buffer and gives its length, or gives the refusal (4
+    /// to 15) and leaves the buffer as it was.
     ///
-    /// The sample does not change, so feeding may go on. No record is longer than [`RECORD_MOST`](crate::RECORD_MOST) bytes.
+    /// The sample does not change, so feeding may go on. No record is longer than
+    /// [`RECORD_MOST`](crate::RECORD_MOST) bytes.
     pub fn seal(&self, buffer: &mut [u8]) -> Result<usize, Refusal> {
         answer(self.state.seal(buffer))
     }

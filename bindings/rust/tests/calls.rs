@@ -1,4 +1,5 @@
-//! The calls from Rust: document 01's worked sample, cuts, every refusal with its place, and that a refusal leaves lent memory as it was.
+//! The calls from Rust: document 01's worked sample, cuts, every refusal with its place, and that a refusal leaves
+//! lent memory as it was.
 use carolsedge::{sheet, Index, Most, Opening, Record, Refusal, Sample, Scene, Survey, Unit};
 use carolsedge::{NEWEST_EDITION, RECORD_MOST, SHEET_MOST};
 

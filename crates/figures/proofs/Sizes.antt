@@ -32,6 +32,13 @@ squared (suc k) = rw (pow-suc 2 k, pow-suc 4 k, mul-mul-mul-comm (2 ^ k) 2 (2 ^ 
 
 -- the sizes, from a level and a side
 pub sizes-are : (o : Opening) (k s : ℕ) → k ≡ level o → s ≡ side o →
-    record { level = k; side = s; area = s * s; columns = o .width / s; lines = o .height / s; picture = o .width * o .height } ≡ sizesOf o
+    record {
+      level = k;
+      side = s;
+      area = s * s;
+      columns = o .width / s;
+      lines = o .height / s;
+      picture = o .width * o .height;
+    } ≡ sizesOf o
 unfolding side area columns lines pictureSize
 sizes-are o k s p q = rw (p, q, squared (level o))

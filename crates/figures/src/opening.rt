@@ -47,7 +47,8 @@ pub fn opening_fault(o: Opening) -> u64
     0
 }
 
-// What follows from an opening's width and height: level k, side 2^k of a block, its 4^k bytes, w columns, h lines, and a picture's bytes.
+// What follows from an opening's width and height: level k, side 2^k of a block, its 4^k bytes, w columns, h lines,
+// and a picture's bytes.
 pub struct Sizes {
     pub level: u64,
     pub side: u64,

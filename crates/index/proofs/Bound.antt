@@ -1,7 +1,9 @@
 -- Every index's value lies between 1 and 5, the roundings included, and so is no NaN.
--- `AtMost x n` says that x is finite, not negative, and n at most in size. A rounding keeps it, since it keeps the order and n is a value of the format.
+-- `AtMost x n` says that x is finite, not negative, and n at most in size. A rounding keeps it, since it keeps the
+-- order and n is a value of the format.
 use Prim.Native.Nat.{ℕ, _+_, _*_, _≤_, _<_, _^_}
-use native.Mathlib.Nat.{le-trans, le-of-eq, mul-one, mul-comm, mul-assoc, mul-mul-mul-comm, mul-le-mul, mul-le-mul-right, mul-pos, add-mul, le-of-lt, zero-lt-suc}
+use native.Mathlib.Nat.{le-trans, le-of-eq, mul-one, mul-comm, mul-assoc, mul-mul-mul-comm, mul-le-mul}
+use native.Mathlib.Nat.{mul-le-mul-right, mul-pos, add-mul, le-of-lt, zero-lt-suc}
 use native.Mathlib.Omega.{arith}
 use mathlib.Core.Path.{_≡_, refl, sym, ap, _∙_, subst}
 use mathlib.Core.Bool.{Bool, true, false, not, cond, _&&_, _||_, true≢false}
@@ -72,10 +74,12 @@ pub under : {x y : Float} {n : ℕ} → Plain x → Is y n 1 → T (le x y) → 
 unfolding le
 under infinite (is q) h = absurd h
 under {n = n} (finite {m} {e}) (is {m = k} {e = d} q) h =
-    at-most (rw mul-one at (through (m * up e) (k * up d) n (down e) (down d) 1 (down-pos d) (lt-or-eq (m * up e * down d) (k * up d * down e) h) (le-of-eq q)))
+    at-most (rw mul-one at (through (m * up e) (k * up d) n (down e) (down d) 1 (down-pos d)
+    (lt-or-eq (m * up e * down d) (k * up d * down e) h) (le-of-eq q)))
 
 pub round-at-most : (a b n : ℕ) → 0 < b → n ≤ 2 ^ 53 → a ≤ n * b → AtMost (round binary64 false a b) n
-round-at-most a b n B N h = under (round-plain a b) (whole n N) (round-mono binary64 a b n 1 B (zero-lt-suc 0) (rw mul-one h))
+round-at-most a b n B N h =
+    under (round-plain a b) (whole n N) (round-mono binary64 a b n 1 B (zero-lt-suc 0) (rw mul-one h))
 
 -- ---- the operations
 
@@ -85,13 +89,16 @@ sum-le x y i j c d p q =
     let b : y * c ≤ j * (d * c) = rw mul-assoc at (mul-le-mul-right c q) in
     omega (arith, add-mul i j (c * d), ap (λ (z : ℕ). j * z) (mul-comm d c))
 
-pub add-at-most : {x y : Float} {i j : ℕ} → AtMost x i → AtMost y j → i + j ≤ 2 ^ 53 → AtMost (add binary64 x y) (i + j)
+pub add-at-most : {x y : Float} {i j : ℕ} → AtMost x i → AtMost y j → i + j ≤ 2 ^ 53 →
+    AtMost (add binary64 x y) (i + j)
 unfolding add
 add-at-most {i = i} {j = j} (at-most {m = m} {e = e} p) (at-most {m = k} {e = d} q) N =
-    round-at-most (m * up e * down d + k * up d * down e) (down e * down d) (i + j) (mul-pos (down-pos e) (down-pos d)) N
+    round-at-most (m * up e * down d + k * up d * down e) (down e * down d) (i + j)
+    (mul-pos (down-pos e) (down-pos d)) N
     (sum-le (m * up e) (k * up d) i j (down e) (down d) p q)
 
-pub mul-at-most : {x y : Float} {i j : ℕ} → AtMost x i → AtMost y j → i * j ≤ 2 ^ 53 → AtMost (mul binary64 x y) (i * j)
+pub mul-at-most : {x y : Float} {i j : ℕ} → AtMost x i → AtMost y j → i * j ≤ 2 ^ 53 →
+    AtMost (mul binary64 x y) (i * j)
 unfolding mul
 mul-at-most {i = i} {j = j} (at-most {m = m} {e = e} p) (at-most {m = k} {e = d} q) N =
     round-at-most (m * up e * (k * up d)) (down e * down d) (i * j) (mul-pos (down-pos e) (down-pos d)) N
@@ -137,11 +144,13 @@ ratio a b B h N = div-at-most (whole a (le-trans h N)) (whole b N) B h
 pub upper : {x : Float} (n : ℕ) → n ≤ 2 ^ 53 → AtMost x n → T (le x (float n))
 unfolding ofInt
 upper n N (at-most {m = m} {e = e} p) =
-    le-of-values (fin false m e) (float n) (m * up e) (down e) n 1 (down-pos e) (zero-lt-suc 0) (refl, refl) (round-whole binary64 false n N) (rw mul-one p)
+    le-of-values (fin false m e) (float n) (m * up e) (down e) n 1 (down-pos e) (zero-lt-suc 0) (refl, refl)
+    (round-whole binary64 false n N) (rw mul-one p)
 
 lower : {y : Float} {n : ℕ} → AtMost y n → T (le (float 1) (add binary64 (float 1) y))
 unfolding ofInt add
-lower (at-most {m = k} {e = d} q) = round-mono binary64 1 1 (1 * 1 * down d + k * up d * 1) (1 * down d) (zero-lt-suc 0) (omega (arith, down-pos d)) (omega arith)
+lower (at-most {m = k} {e = d} q) = round-mono binary64 1 1 (1 * 1 * down d + k * up d * 1) (1 * down d)
+    (zero-lt-suc 0) (omega (arith, down-pos d)) (omega arith)
 
 real : {x : Float} {n : ℕ} → AtMost x n → T (not (isNan x))
 unfolding isNan
@@ -150,7 +159,8 @@ real (at-most p) = tt
 module _ {unrepeated pictures packets lost : ℕ} (h : Counts unrepeated pictures packets lost) where
   pub ic-at-most : AtMost (icOf unrepeated pictures) 4
   unfolding icOf ofInt
-  ic-at-most = mul-at-most (small (whole 4 (lit≤ tt))) (ratio unrepeated pictures (h .some-pictures) (h .of-them) (omega arith)) (lit≤ tt)
+  ic-at-most = mul-at-most (small (whole 4 (lit≤ tt)))
+      (ratio unrepeated pictures (h .some-pictures) (h .of-them) (omega arith)) (lit≤ tt)
 
   pub ip-at-most : AtMost (ipOf packets lost) 1
   unfolding ipOf

@@ -24,8 +24,10 @@ use Rattle.luma.specs.Contract.{Finishing, Finished, Passed, Stepped, Ra
 
 -- ---- bytes of the surplus rows
 
-pub passed-live : {g : Grid} {o : Opening} {s : Progress} {luma sums bins picture joined : List ℕ} (chunk : List ℕ) → s .line ≡ g .lines → s .pictures < 750 → Bytes chunk →
-    length chunk ≤ s .left → Live g o s luma sums bins picture joined → Live g o (passedOn s (length chunk)) luma sums bins picture (joined ++ chunk)
+pub passed-live : {g : Grid} {o : Opening} {s : Progress} {luma sums bins picture joined : List ℕ} (chunk : List ℕ) →
+    s .line ≡ g .lines → s .pictures < 750 → Bytes chunk →
+    length chunk ≤ s .left → Live g o s luma sums bins picture joined →
+    Live g o (passedOn s (length chunk)) luma sums bins picture (joined ++ chunk)
 passed-live {g} {o} {s} {luma} {sums} {bins} {picture} {joined} chunk line more small few v =
     let q = at-passing line (v .place) in
     let long = length-append (v .cur) chunk in
@@ -58,7 +60,8 @@ passed-live {g} {o} {s} {luma} {sums} {bins} {picture} {joined} chunk line more 
       place = passing line (omega (arith, long, q .ends)) (omega (arith, long, q .some)) (q .clear);
     }
 
-pub passed : (g : Grid) (s : Progress) {rest : List ℕ} {t : ℕ} {r : Taken} → Taking g s rest → s .line ≡ g .lines → ((i : ℕ) → getD rest i 0 < 256) → 0 < t →
+pub passed : (g : Grid) (s : Progress) {rest : List ℕ} {t : ℕ} {r : Taken} → Taking g s rest → s .line ≡ g .lines →
+    ((i : ℕ) → getD rest i 0 < 256) → 0 < t →
     t ≤ length rest → t ≤ s .left → (r .used ≡ t) × (r .state ≡ passedOn s t) → Passed g s rest r
 passed g s {rest} {t} {r} taking line small some most few e sums bins picture =
     let size : length (take t rest) ≡ t = length-take-le t rest most in
@@ -66,18 +69,26 @@ passed g s {rest} {t} {r} taking line small some most few e sums bins picture =
     (record {
       some = some;
       most = most;
-      loose = record { few = taking .sane .few; line = taking .sane .line; row = taking .sane .row; col = taking .sane .col };
+      loose = record {
+        few = taking .sane .few;
+        line = taking .sane .line;
+        row = taking .sane .row;
+        col = taking .sane .col;
+      };
       same = refl;
       goes = λ luma o joined v.
-          rw size at (passed-live (take t rest) line (taking .more) (bytes-take t rest (bytes-of rest small)) (omega arith) v);
+          rw size at (passed-live (take t rest) line (taking .more) (bytes-take t rest (bytes-of rest small))
+          (omega arith) v);
     })
 
 -- ---- a picture's end, where it is reached
 
-pub goes-none : (g : Grid) (s : Progress) (luma sums bins picture : List ℕ) → Goes g s luma sums bins picture [] s luma sums bins picture
+pub goes-none : (g : Grid) (s : Progress) (luma sums bins picture : List ℕ) →
+    Goes g s luma sums bins picture [] s luma sums bins picture
 goes-none g s luma sums bins picture o joined v = rw append-nil v
 
-pub not-finished : (g : Grid) (t : Taken) {luma bins : List ℕ} → Finishing g t → (t .state .line ≡ g .lines → 0 < t .state .left) → Finished g t luma bins t luma bins
+pub not-finished : (g : Grid) (t : Taken) {luma bins : List ℕ} → Finishing g t →
+    (t .state .line ≡ g .lines → 0 < t .state .left) → Finished g t luma bins t luma bins
 not-finished g t {luma} {bins} f h =
     record {
       used = refl;
@@ -85,7 +96,8 @@ not-finished g t {luma} {bins} f h =
       goes = λ sums picture. goes-none g (t .state) luma sums bins picture;
     }
 
-pub is-finished : (g : Grid) (t : Taken) {luma bins luma′ bins′ : List ℕ} {e : Progress} → Finishing g t → PictureEnded g (t .state) luma bins e luma′ bins′ →
+pub is-finished : (g : Grid) (t : Taken) {luma bins luma′ bins′ : List ℕ} {e : Progress} → Finishing g t →
+    PictureEnded g (t .state) luma bins e luma′ bins′ →
     Finished g t luma bins (record { used = t .used; state = e }) luma′ bins′
 is-finished g t f p =
     record {
@@ -104,8 +116,10 @@ is-finished g t f p =
 
 -- ---- a step
 
-pub stepped : (g : Grid) (s : Progress) {t r : Taken} {luma sums bins picture rest sums′ bins′ picture′ luma″ bins″ : List ℕ} →
-    Took g s sums bins picture rest t sums′ bins′ picture′ → Finished g t luma bins′ r luma″ bins″ → Stepped g s luma sums bins picture rest r luma″ sums′ bins″ picture′
+pub stepped : (g : Grid) (s : Progress) {t r : Taken}
+    {luma sums bins picture rest sums′ bins′ picture′ luma″ bins″ : List ℕ} →
+    Took g s sums bins picture rest t sums′ bins′ picture′ → Finished g t luma bins′ r luma″ bins″ →
+    Stepped g s luma sums bins picture rest r luma″ sums′ bins″ picture′
 stepped g s {t} {r} {luma} {sums} {bins} {picture} {rest} {sums′} {bins′} {picture′} took f =
     record {
       some = rw (f .used) (took .some);
@@ -116,13 +130,16 @@ stepped g s {t} {r} {luma} {sums} {bins} {picture} {rest} {sums′} {bins′} {p
           (rw append-nil at (f .goes sums′ picture′ o (joined ++ take (t .used) rest) (took .goes luma o joined v)));
     }
 
-pub to-finish : (g : Grid) (s : Progress) {t : Taken} {sums bins picture rest sums′ bins′ picture′ : List ℕ} → Taking g s rest →
+pub to-finish : (g : Grid) (s : Progress) {t : Taken} {sums bins picture rest sums′ bins′ picture′ : List ℕ} →
+    Taking g s rest →
     Took g s sums bins picture rest t sums′ bins′ picture′ → Finishing g t
-to-finish g s taking took = record { fits = taking .fits; loose = took .loose; more = omega (arith, took .same, taking .more) }
+to-finish g s taking took =
+    record { fits = taking .fits; loose = took .loose; more = omega (arith, took .same, taking .more) }
 
 -- ---- the loop
 
-pub goes-more : (g : Grid) (s r : Progress) (t : Taken) (piece : List ℕ) (at : ℕ) {luma sums bins picture luma′ sums′ bins′ picture′ luma″ sums″ bins″ picture″ : List ℕ} →
+pub goes-more : (g : Grid) (s r : Progress) (t : Taken) (piece : List ℕ) (at : ℕ)
+    {luma sums bins picture luma′ sums′ bins′ picture′ luma″ sums″ bins″ picture″ : List ℕ} →
     Goes g s luma sums bins picture (take at piece) r luma′ sums′ bins′ picture′ →
     Stepped g r luma′ sums′ bins′ picture′ (drop at piece) t luma″ sums″ bins″ picture″ →
     Goes g s luma sums bins picture (take (at + t .used) piece) (t .state) luma″ sums″ bins″ picture″
@@ -131,39 +148,58 @@ goes-more g s r t piece at f st o joined v =
     (st .goes o (joined ++ take at piece) (f o joined v))
 
 -- all is taken in
-pub ran-all : (g : Grid) (s r : Progress) (piece : List ℕ) (at : ℕ) {luma sums bins picture luma′ sums′ bins′ picture′ : List ℕ} → Sane g r →
-    Goes g s luma sums bins picture (take at piece) r luma′ sums′ bins′ picture′ → length piece ≤ at → Ran g s luma sums bins picture piece r luma′ sums′ bins′ picture′
+pub ran-all : (g : Grid) (s r : Progress) (piece : List ℕ) (at : ℕ)
+    {luma sums bins picture luma′ sums′ bins′ picture′ : List ℕ} → Sane g r →
+    Goes g s luma sums bins picture (take at piece) r luma′ sums′ bins′ picture′ → length piece ≤ at →
+    Ran g s luma sums bins picture piece r luma′ sums′ bins′ picture′
 ran-all g s r piece at sane f h o joined good e v =
     let w = rw (take-all at piece h) at (f o joined v) in
     record { size = w .words .size; opening = w .words .opening; stands = live good (rw e at sane) (rw e at w) }
 
 -- a byte more than 750 pictures
-pub ran-over : (g : Grid) (s r q : Progress) (piece : List ℕ) (at : ℕ) {luma sums bins picture luma′ sums′ bins′ picture′ : List ℕ} →
-    Goes g s luma sums bins picture (take at piece) r luma′ sums′ bins′ picture′ → at < length piece → r .pictures ≡ 750 → q ≡ stoppedAt g r →
+pub ran-over : (g : Grid) (s r q : Progress) (piece : List ℕ) (at : ℕ)
+    {luma sums bins picture luma′ sums′ bins′ picture′ : List ℕ} →
+    Goes g s luma sums bins picture (take at piece) r luma′ sums′ bins′ picture′ → at < length piece →
+    r .pictures ≡ 750 → q ≡ stoppedAt g r →
     Ran g s luma sums bins picture piece q luma′ sums′ bins′ picture′
 unfolding lumaFault
 ran-over g s r q piece at f h n e o joined good same v =
     let w = f o joined v in
     let b : g .bytes ≡ pictureSize o = ap (λ (x : Grid). x .bytes) same in
     let split : joined ++ piece ≡ (joined ++ take at piece) ++ drop at piece =
-    ap (λ (x : List ℕ). joined ++ x) (sym (take-append-drop at piece)) ∙ sym (append-assoc joined (take at piece) (drop at piece)) in
+    ap (λ (x : List ℕ). joined ++ x) (sym (take-append-drop at piece))
+    ∙ sym (append-assoc joined (take at piece) (drop at piece)) in
     let n750 : length (w .pxs) ≡ 750 = sym (w .pictures) ∙ n in
     let full : length (w .whole) ≡ 750 * pictureSize o = w .full ∙ ap (λ (k : ℕ). k * pictureSize o) n750 in
-    let long : length (joined ++ take at piece) ≡ length (w .whole) + length (w .cur) = ap length (w .split) ∙ length-append (w .whole) (w .cur) in
+    let long : length (joined ++ take at piece) ≡ length (w .whole) + length (w .cur) =
+    ap length (w .split) ∙ length-append (w .whole) (w .cur) in
     let past : 750 * pictureSize o < length (joined ++ piece) =
-    omega (arith, ap length split, length-append (joined ++ take at piece) (drop at piece), length-drop at piece, full, long) in
+    omega (
+      arith,
+      ap length split,
+      length-append (joined ++ take at piece) (drop at piece),
+      length-drop at piece,
+      full,
+      long,
+    ) in
     let none-open : w .cur ≡ [] = w .room n750 in
     let short : length (w .cur) < pictureSize o = rw none-open (size-some o good) in
     let there : 750 * pictureSize o ≤ length (joined ++ take at piece) = omega arith in
     let all : w .pxs ≡ reduced o (joined ++ piece) =
-    w .reduced ∙ sym (reduced-whole o (length (w .pxs)) (w .whole) (w .cur) good (w .full) short (w .few)) ∙ ap (reduced o) (sym (w .split))
+    w .reduced ∙ sym (reduced-whole o (length (w .pxs)) (w .whole) (w .cur) good (w .full) short (w .few))
+    ∙ ap (reduced o) (sym (w .split))
     ∙ sym (full-reduced o good (joined ++ take at piece) (drop at piece) there) ∙ ap (reduced o) (sym split) in
     rw e
     (record {
       size = w .words .size;
       opening = w .words .opening;
       stands = refused (rw (good, lt-ltb (750 * pictureSize o) (length (joined ++ piece)) past, b)) (omega arith)
-          (λ g. record { there = omega arith; pictures = n; fresh = rw all at (w .fresh); words = rw all at (w .words) });
+          (λ g. record {
+            there = omega arith;
+            pictures = n;
+            fresh = rw all at (w .fresh);
+            words = rw all at (w .words);
+          });
     })
 
 -- ---- the rest of a piece, as a part of it
@@ -171,12 +207,14 @@ ran-over g s r q piece at f h n e o joined good same v =
 part-rest : (piece : List ℕ) (at : ℕ) → take (length piece - at) (drop at piece) ≡ drop at piece
 part-rest piece at = take-all (length piece - at) (drop at piece) (simp length-drop (omega arith))
 
-pub taking-rest : (g : Grid) (s : Progress) (piece : List ℕ) (at : ℕ) → Fits g → Sane g s → s .pictures < 750 → at < length piece →
+pub taking-rest : (g : Grid) (s : Progress) (piece : List ℕ) (at : ℕ) → Fits g → Sane g s →
+    s .pictures < 750 → at < length piece →
     Taking g s (take (length piece - at) (drop at piece))
 taking-rest g s piece at f sane more h =
     rw (part-rest piece at) (record { fits = f; sane = sane; more = more; some = simp length-drop (omega arith) })
 
-pub on-rest : (piece : List ℕ) (at : ℕ) {g : Grid} {s : Progress} {t : Taken} {luma sums bins picture luma′ sums′ bins′ picture′ : List ℕ} →
+pub on-rest : (piece : List ℕ) (at : ℕ) {g : Grid} {s : Progress} {t : Taken}
+    {luma sums bins picture luma′ sums′ bins′ picture′ : List ℕ} →
     Stepped g s luma sums bins picture (take (length piece - at) (drop at piece)) t luma′ sums′ bins′ picture′ →
     Stepped g s luma sums bins picture (drop at piece) t luma′ sums′ bins′ picture′
 on-rest piece at st = rw (part-rest piece at) at st
@@ -186,8 +224,10 @@ pub record Onward (piece : List ℕ) (at used : ℕ) : Type 0 where
   pub some : 0 < used
   pub most : at + used ≤ length piece
 
-pub onward : (piece : List ℕ) (at : ℕ) {g : Grid} {s : Progress} {t : Taken} {luma sums bins picture luma′ sums′ bins′ picture′ : List ℕ} → at < length piece →
-    Stepped g s luma sums bins picture (take (length piece - at) (drop at piece)) t luma′ sums′ bins′ picture′ → Onward piece at (t .used)
+pub onward : (piece : List ℕ) (at : ℕ) {g : Grid} {s : Progress} {t : Taken}
+    {luma sums bins picture luma′ sums′ bins′ picture′ : List ℕ} → at < length piece →
+    Stepped g s luma sums bins picture (take (length piece - at) (drop at piece)) t luma′ sums′ bins′ picture′ →
+    Onward piece at (t .used)
 onward piece at h st =
     let e = on-rest piece at st in
     record { some = e .some; most = omega (arith, e .most, length-drop at piece) }

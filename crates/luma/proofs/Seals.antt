@@ -43,15 +43,18 @@ within a b n w h k l = mul-pos (some (ℕ-discrete a 0)) l
     some (yes e) = omega arith
     some (no e) = let p : 0 < a = omega (arith, e) in omega (arith, mul-pos p k)
 
-inside-is : {g : Grid} {s : Progress} {cur sums : List ℕ} (f : Fault) → Fits g → Place g s cur sums → pick (eqb (length cur) 0) none f ≡ pick (insideOf s) f none
+inside-is : {g : Grid} {s : Progress} {cur sums : List ℕ} (f : Fault) → Fits g → Place g s cur sums →
+    pick (eqb (length cur) 0) none f ≡ pick (insideOf s) f none
 inside-is {g} {s} {cur} f fits (passing h e k c) =
     rw (ne-eqb (length cur) 0 (λ z. omega arith), ne-eqb (s .line) 0 (λ z. omega (arith, fits .high)))
-inside-is {g} {s} {cur} f fits (drawing h e c) = go (ℕ-discrete (s .line) 0) (ℕ-discrete (s .row) 0) (ℕ-discrete (s .col) 0)
+inside-is {g} {s} {cur} f fits (drawing h e c) =
+    go (ℕ-discrete (s .line) 0) (ℕ-discrete (s .row) 0) (ℕ-discrete (s .col) 0)
   where
     wide : 0 < g .width
     wide = omega (arith, fits .least)
 
-    go : Dec (s .line ≡ 0) → Dec (s .row ≡ 0) → Dec (s .col ≡ 0) → pick (eqb (length cur) 0) none f ≡ pick (insideOf s) f none
+    go : Dec (s .line ≡ 0) → Dec (s .row ≡ 0) → Dec (s .col ≡ 0) →
+        pick (eqb (length cur) 0) none f ≡ pick (insideOf s) f none
     go (no a) b d =
         let p = within (s .line) (s .row) (g .side) (g .width) (omega (arith, a)) (fits .some) wide in
         rw (ne-eqb (length cur) 0 (λ z. omega (arith, e)), ne-eqb (s .line) 0 a)
@@ -60,45 +63,62 @@ inside-is {g} {s} {cur} f fits (drawing h e c) = go (ℕ-discrete (s .line) 0) (
         rw (ne-eqb (length cur) 0 (λ z. omega (arith, e)), eq-eqb (s .line) 0 a, ne-eqb (s .row) 0 b)
     go (yes a) (yes b) (no d) =
         let p = outside (s .line) (s .row) (g .side) (g .width) a b in
-        rw (ne-eqb (length cur) 0 (λ z. d (omega (arith, e))), eq-eqb (s .line) 0 a, eq-eqb (s .row) 0 b, ne-eqb (s .col) 0 d)
+        rw (
+          ne-eqb (length cur) 0 (λ z. d (omega (arith, e))),
+          eq-eqb (s .line) 0 a,
+          eq-eqb (s .row) 0 b,
+          ne-eqb (s .col) 0 d,
+        )
     go (yes a) (yes b) (yes d) =
         let p = outside (s .line) (s .row) (g .side) (g .width) a b in
         rw (eq-eqb (length cur) 0 (omega (arith, e)), eq-eqb (s .line) 0 a, eq-eqb (s .row) 0 b, eq-eqb (s .col) 0 d)
 
 -- ---- the figures of a live state
 
-module _ (o : Opening) (s : Progress) {luma sums bins picture joined : List ℕ} (a : Alive s luma sums bins picture o joined) where
+module _ (o : Opening) (s : Progress) {luma sums bins picture joined : List ℕ}
+    (a : Alive s luma sums bins picture o joined) where
   less : length (a .live .cur) < pictureSize o
   less = short (fits-of o (a .good)) (a .sane) (a .live .place)
 
   pub pictures-are : pictureCount o joined ≡ length (a .live .pxs)
-  pictures-are = rw (a .live .split) (count-whole o (length (a .live .pxs)) (a .live .whole) (a .live .cur) (a .good) (a .live .full) less (a .live .few))
+  pictures-are = rw (a .live .split) (count-whole o (length (a .live .pxs)) (a .live .whole) (a .live .cur) (a .good)
+      (a .live .full) less (a .live .few))
 
   pub reduced-are : reduced o joined ≡ a .live .pxs
   reduced-are =
       ap (reduced o) (a .live .split)
-      ∙ reduced-whole o (length (a .live .pxs)) (a .live .whole) (a .live .cur) (a .good) (a .live .full) less (a .live .few)
+      ∙ reduced-whole o (length (a .live .pxs)) (a .live .whole) (a .live .cur) (a .good) (a .live .full) less
+      (a .live .few)
       ∙ sym (a .live .reduced)
 
   fed-is : s .fed ≡ length joined
-  fed-is = a .live .fed ∙ mod-eq-of-lt (omega (arith, not-past o (a .good) (a .sane) (a .live), fits-of o (a .good) .small))
+  fed-is =
+      a .live .fed ∙ mod-eq-of-lt (omega (arith, not-past o (a .good) (a .sane) (a .live), fits-of o (a .good) .small))
 
   open-is : lumaUnfinished o joined ≡ pick (insideOf s) (fault 13 (length joined)) none
   unfolding lumaUnfinished
   open-is =
       let long : length joined ≡ length (a .live .pxs) * pictureSize o + length (a .live .cur) =
-      ap length (a .live .split) ∙ length-append (a .live .whole) (a .live .cur) ∙ ap (λ (n : ℕ). n + length (a .live .cur)) (a .live .full) in
+      ap length (a .live .split) ∙ length-append (a .live .whole) (a .live .cur)
+      ∙ ap (λ (n : ℕ). n + length (a .live .cur)) (a .live .full) in
       let rest : length joined % pictureSize o ≡ length (a .live .cur) =
-      ap (λ (n : ℕ). n % pictureSize o) long ∙ mul-add-mod-self-right (length (a .live .pxs)) (pictureSize o) (length (a .live .cur)) ∙ mod-eq-of-lt less in
+      ap (λ (n : ℕ). n % pictureSize o) long
+      ∙ mul-add-mod-self-right (length (a .live .pxs)) (pictureSize o) (length (a .live .cur)) ∙ mod-eq-of-lt less in
       rw rest (inside-is (fault 13 (length joined)) (fits-of o (a .good)) (a .live .place))
 
   fresh-is : s .fresh ≡ unrepeated o joined
   unfolding unrepeated
   fresh-is =
       rw reduced-are
-      (a .live .fresh ∙ mod-eq-of-lt (omega (arith, count-few not (repeats (a .live .pxs)), length-repeats (a .live .pxs), a .live .few)))
+      (a .live .fresh ∙ mod-eq-of-lt (omega (
+        arith,
+        count-few not (repeats (a .live .pxs)),
+        length-repeats (a .live .pxs),
+        a .live .few,
+      )))
 
-  pub known : (r : Summary) → r .fed ≡ s .fed → r .inside ≡ insideOf s → r .pictures ≡ s .pictures → r .fresh ≡ s .fresh → Known luma o joined r
+  pub known : (r : Summary) → r .fed ≡ s .fed → r .inside ≡ insideOf s → r .pictures ≡ s .pictures →
+      r .fresh ≡ s .fresh → Known luma o joined r
   known r ef ei ep er =
       record {
         opened = a .good;
@@ -111,8 +131,10 @@ module _ (o : Opening) (s : Progress) {luma sums bins picture joined : List ℕ}
         words = rw reduced-are (a .live .words);
       }
 
-  -- The ring has the rule's own histograms of the last four whole pictures. (Of each, every pixel adds one to one bin of one tile: the rules' laws, Tiles.)
-  pub ring-is : ((i : ℕ) → getD bins i 0 < 2 ^ 32) → (j : ℕ) → j < pictureCount o joined → pictureCount o joined ≤ j + 4 →
+  -- The ring has the rule's own histograms of the last four whole pictures. (Of each, every pixel adds one to one bin
+  -- of one tile: the rules' laws, Tiles.)
+  pub ring-is : ((i : ℕ) → getD bins i 0 < 2 ^ 32) → (j : ℕ) → j < pictureCount o joined →
+      pictureCount o joined ≤ j + 4 →
       tilesAt bins (slot j) ≡ histograms o (getD (reduced o joined) j [])
   ring-is small j h k =
       let v = a .live in
@@ -120,10 +142,12 @@ module _ (o : Opening) (s : Progress) {luma sums bins picture joined : List ℕ}
       let whole = bytes-left (v .whole) (v .cur) (rw (v .split) at (v .bytes)) in
       let e = each-px o (v .pxs) (v .whole) (v .reduced) whole j (omega arith) in
       let z = sizes o (good o (a .good)) in
-      let few : length (getD (v .pxs) j []) < 2 ^ 32 = omega (arith, e .size, native.Mathlib.Nat.mul-le-mul (z .columns-high) (z .lines-high)) in
+      let few : length (getD (v .pxs) j []) < 2 ^ 32 =
+      omega (arith, e .size, native.Mathlib.Nat.mul-le-mul (z .columns-high) (z .lines-high)) in
       rw reduced-are (tiles-are o (slot j) (getD (v .pxs) j []) (v .ring j (omega arith) (omega arith)) few small)
 
-pub summarised : (luma : List ℕ) (s : Progress) (r : Summary) → s ≡ loaded luma → r .status ≡ s .status → r .place ≡ s .place → r .fed ≡ s .fed → r .inside ≡ insideOf s →
+pub summarised : (luma : List ℕ) (s : Progress) (r : Summary) → s ≡ loaded luma → r .status ≡ s .status →
+    r .place ≡ s .place → r .fed ≡ s .fed → r .inside ≡ insideOf s →
     r .pictures ≡ s .pictures → r .fresh ≡ s .fresh → SummaryPost luma r
 summarised luma s r is es el ef ei ep er sums bins picture o joined h =
     record {
@@ -131,6 +155,7 @@ summarised luma s r is es el ef ei ep er sums bins picture o joined h =
       live = λ z. known o s (alive s is (sym es ∙ z) o joined h) r ef ei ep er;
     }
   where
-    stands : 0 < r .status → Stands o (loaded luma) luma sums bins picture joined → openingFault o orElse lumaFault o joined ≡ fault (r .status) (r .place)
+    stands : 0 < r .status → Stands o (loaded luma) luma sums bins picture joined →
+        openingFault o orElse lumaFault o joined ≡ fault (r .status) (r .place)
     stands p (refused e k f) = rw (es, el, is) e
     stands p (live e sane v) = absurd (omega (arith, es, ap (λ (x : Progress). x .status) is, v .status))

@@ -29,9 +29,12 @@ pub record OpenPost (o : Opening) (a : Answer) (luma sums bins picture : List �
   pub means : Means luma sums bins picture o []
 
 -- the arrays before, the piece, the answer, the arrays after
-pub record FeedPost (luma sums bins picture piece : List ℕ) (a : Answer) (luma′ sums′ bins′ picture′ : List ℕ) : Type 0 where
-  pub means : (o : Opening) (joined : List ℕ) → Means luma sums bins picture o joined → Means luma′ sums′ bins′ picture′ o (joined ++ piece)
-  pub answer : (o : Opening) (joined : List ℕ) → Means luma sums bins picture o joined → a ≡ lumaAnswer o (joined ++ piece) (length piece)
+pub record FeedPost (luma sums bins picture piece : List ℕ) (a : Answer)
+    (luma′ sums′ bins′ picture′ : List ℕ) : Type 0 where
+  pub means : (o : Opening) (joined : List ℕ) → Means luma sums bins picture o joined →
+      Means luma′ sums′ bins′ picture′ o (joined ++ piece)
+  pub answer : (o : Opening) (joined : List ℕ) → Means luma sums bins picture o joined →
+      a ≡ lumaAnswer o (joined ++ piece) (length piece)
 
 -- what a seal needs of the luma side, where no refusal stands: every figure is the rule's
 pub record Known (luma : List ℕ) (o : Opening) (joined : List ℕ) (r : Summary) : Type 0 where
@@ -50,7 +53,8 @@ pub record Summarised (luma : List ℕ) (o : Opening) (joined : List ℕ) (r : S
   pub live : r .status ≡ 0 → Known luma o joined r
 
 abbrev pub SummaryPost : List ℕ → Summary → Type 0
-SummaryPost luma r = (sums bins picture : List ℕ) (o : Opening) (joined : List ℕ) → Means luma sums bins picture o joined → Summarised luma o joined r
+SummaryPost luma r = (sums bins picture : List ℕ) (o : Opening) (joined : List ℕ) →
+    Means luma sums bins picture o joined → Summarised luma o joined r
 
 -- `totals_in`
 abbrev pub totalsIn : List ℕ → Totals
@@ -77,21 +81,24 @@ pub record Finished (g : Grid) (t : Taken) (luma bins : List ℕ) (r : Taken) (l
 abbrev pub Passed : Grid → Progress → List ℕ → Taken → Type 0
 Passed g s rest r = (sums bins picture : List ℕ) → Took g s sums bins picture rest r sums bins picture
 
-pub record Stepped (g : Grid) (s : Progress) (luma sums bins picture rest : List ℕ) (r : Taken) (luma′ sums′ bins′ picture′ : List ℕ) : Type 0 where
+pub record Stepped (g : Grid) (s : Progress) (luma sums bins picture rest : List ℕ) (r : Taken)
+    (luma′ sums′ bins′ picture′ : List ℕ) : Type 0 where
   pub some : 0 < r .used
   pub most : r .used ≤ length rest
   pub sane : Sane g (r .state)
   pub goes : Goes g s luma sums bins picture (take (r .used) rest) (r .state) luma′ sums′ bins′ picture′
 
 -- a whole piece
-abbrev pub Ran : Grid → Progress → List ℕ → List ℕ → List ℕ → List ℕ → List ℕ → Progress → List ℕ → List ℕ → List ℕ → List ℕ → Type 0
+abbrev pub Ran : Grid → Progress → List ℕ → List ℕ → List ℕ → List ℕ → List ℕ → Progress → List ℕ → List ℕ → List ℕ →
+    List ℕ → Type 0
 Ran g s luma sums bins picture piece r luma′ sums′ bins′ picture′ =
     (o : Opening) (joined : List ℕ) → openingFault o ≡ none → g ≡ gridOf o → Live g o s luma sums bins picture joined →
     Holding o r luma′ sums′ bins′ picture′ (joined ++ piece)
 
 -- what a feed of n bytes answers
 abbrev pub Replied : Progress → ℕ → Answer → Type 0
-Replied s n a = (o : Opening) (luma sums bins picture joined : List ℕ) → Stands o s luma sums bins picture joined → a ≡ lumaAnswer o joined n
+Replied s n a = (o : Opening) (luma sums bins picture joined : List ℕ) → Stands o s luma sums bins picture joined →
+    a ≡ lumaAnswer o joined n
 
 -- `used` bytes of the surplus rows more
 abbrev pub passedOn : Progress → ℕ → Progress

@@ -1,4 +1,5 @@
-// The luma side: pictures that come in pieces, cut anywhere, over memory that the caller lends. Whatever stands in that memory, every call is safe.
+// The luma side: pictures that come in pieces, cut anywhere, over memory that the caller lends. Whatever stands in
+// that memory, every call is safe.
 ghost use mathlib.Core.Path.{_≡_};
 ghost use Rattle.luma.specs.Contract.{Replied, insideOf, OpenPost, FeedPost, SummaryPost, totalsIn};
 
@@ -19,7 +20,8 @@ use luma_tiles::Bins;
 use rules::Answer;
 use rules::Opening;
 
-// What a seal needs: the refusal that stands, bytes fed, whether they end inside a picture, whole pictures, and those of them that are not repeated.
+// What a seal needs: the refusal that stands, bytes fed, whether they end inside a picture, whole pictures, and those
+// of them that are not repeated.
 pub struct Summary {
     pub status: u64,
     pub place: u64,
@@ -79,7 +81,8 @@ pub fn feed(
     picture: &mut Picture,
     piece: &[u8],
 ) -> Answer
-    ensures { λ r. ⌜ FeedPost (now (luma .entry)) (now (sums .entry)) (now (bins .entry)) (now (picture .entry)) (now (piece .entry)) r (now (luma .exit)) (now (sums .exit)) (now (bins .exit)) (now (picture .exit)) ⌝ }
+    ensures { λ r. ⌜ FeedPost (now (luma .entry)) (now (sums .entry)) (now (bins .entry)) (now (picture .entry))
+        (now (piece .entry)) r (now (luma .exit)) (now (sums .exit)) (now (bins .exit)) (now (picture .exit)) ⌝ }
 {
     let n = piece.len() as u64;
     let s = load(luma);

@@ -67,7 +67,8 @@ fn step(
     rest: &[u8],
 ) -> Taken
     requires { ⌜ Taking g s (now rest) ⌝ }
-    ensures { λ r. ⌜ Stepped g s (now (luma .entry)) (now (sums .entry)) (now (bins .entry)) (now (picture .entry)) (now (rest .entry)) r (now (luma .exit)) (now (sums .exit)) (now (bins .exit)) (now (picture .exit)) ⌝ }
+    ensures { λ r. ⌜ Stepped g s (now (luma .entry)) (now (sums .entry)) (now (bins .entry)) (now (picture .entry))
+        (now (rest .entry)) r (now (luma .exit)) (now (sums .exit)) (now (bins .exit)) (now (picture .exit)) ⌝ }
 {
     if g.lines <= s.line {
         let t = pass(g, s, rest);
@@ -99,7 +100,8 @@ pub fn run(
     piece: &[u8],
 ) -> Progress
     requires { ⌜ (Fits g) × (Sane g start) ⌝ }
-    ensures { λ r. ⌜ Ran g start (now (luma .entry)) (now (sums .entry)) (now (bins .entry)) (now (picture .entry)) (now (piece .entry)) r (now (luma .exit)) (now (sums .exit)) (now (bins .exit)) (now (picture .exit)) ⌝ }
+    ensures { λ r. ⌜ Ran g start (now (luma .entry)) (now (sums .entry)) (now (bins .entry)) (now (picture .entry))
+        (now (piece .entry)) r (now (luma .exit)) (now (sums .exit)) (now (bins .exit)) (now (picture .exit)) ⌝ }
 {
     let mut s = start;
     let mut at: usize = 0;

@@ -11,7 +11,8 @@ use Rattle.rules.proofs.Laws.Lists.{total-append}
 use Rattle.luma_blocks.specs.Sums.{run}
 
 -- one byte more of a run
-pub total-more : (s : List ℕ) (at i : ℕ) → at + i < length s → total (run s at (i + 1)) ≡ total (run s at i) + getD s (at + i) 0
+pub total-more : (s : List ℕ) (at i : ℕ) → at + i < length s →
+    total (run s at (i + 1)) ≡ total (run s at i) + getD s (at + i) 0
 unfolding total
 total-more s at i h =
     let k : i < length (drop at s) = simp length-drop (omega arith) in
@@ -26,5 +27,7 @@ pub summed-none : (s : List ℕ) (at : ℕ) → Summed s at 0 0
 unfolding total
 summed-none s at = record { is = refl; small = omega arith }
 
-pub summed-more : {s : List ℕ} {at i sum b : ℕ} → Summed s at i sum → at + i < length s → (b ≡ getD s (at + i) 0) × (b ≤ 255) → Summed s at (i + 1) (sum + b)
-summed-more {s} {at} {i} m h e = record { is = omega (arith, m .is, total-more s at i h, e .0); small = omega (arith, m .small, e .1) }
+pub summed-more : {s : List ℕ} {at i sum b : ℕ} → Summed s at i sum → at + i < length s →
+    (b ≡ getD s (at + i) 0) × (b ≤ 255) → Summed s at (i + 1) (sum + b)
+summed-more {s} {at} {i} m h e =
+    record { is = omega (arith, m .is, total-more s at i h, e .0); small = omega (arith, m .small, e .1) }

@@ -16,27 +16,37 @@ use Rattle.luma_blocks.specs.Rows.{SumsOf, Advanced, Going}
 use Rattle.luma_blocks.proofs.Runs.{column, run-length}
 
 -- a run within row y of block row b gives to a block what it gives to its block column
-pub bridge : (W n b y x c q : ℕ) (t : List ℕ) → y < n → x + length t ≤ W → q ≡ (b * n + y) * W + x → tally (inBlock W n b c) q t ≡ tally (inColumn n c) x t
+pub bridge : (W n b y x c q : ℕ) (t : List ℕ) → y < n → x + length t ≤ W → q ≡ (b * n + y) * W + x →
+    tally (inBlock W n b c) q t ≡ tally (inColumn n c) x t
 bridge W n b y x c q t h k e =
     tally-shift (inBlock W n b c) (inColumn n c) q x t
     (λ j v l.
     let row : (q + j) / W ≡ b * n + y = column W (b * n + y) (q + j) (omega arith) (omega arith) in
     let here : q + j ≡ (b * n + y) * W + (x + j) = omega arith in
-    let col : (q + j) % W ≡ x + j = ap (λ (z : ℕ). z % W) here ∙ mul-add-mod-self-right (b * n + y) W (x + j) ∙ mod-eq-of-lt (omega arith) in
+    let col : (q + j) % W ≡ x + j =
+    ap (λ (z : ℕ). z % W) here ∙ mul-add-mod-self-right (b * n + y) W (x + j) ∙ mod-eq-of-lt (omega arith) in
     let block : (b * n + y) / n ≡ b = column n b (b * n + y) (omega arith) (omega arith) in
     rw (row, col, block, eq-eqb b b refl))
 
 -- the law of a prefix that goes on by a run of a row
-pub sums-more : {W n w b y x : ℕ} {p t a z : List ℕ} → y < n → x + length t ≤ W → length p ≡ (b * n + y) * W + x → Added n w x t a z →
+pub sums-more : {W n w b y x : ℕ} {p t a z : List ℕ} → y < n → x + length t ≤ W → length p ≡ (b * n + y) * W + x →
+    Added n w x t a z →
     SumsOf W n w b p a → SumsOf W n w b (p ++ t) z
 sums-more {W} {n} {w} {b} {y} {x} {p} {t} {a} {z} h k e f s =
     record {
       size = f .size ∙ s .size;
       each =
-          λ c l. omega (arith, tally-append (inBlock W n b c) 0 p t, bridge W n b y x c (0 + length p) t h k (omega arith), f .grown (s .size) c l, s .each c l);
+          λ c l. omega (
+            arith,
+            tally-append (inBlock W n b c) 0 p t,
+            bridge W n b y x c (0 + length p) t h k (omega arith),
+            f .grown (s .size) c l,
+            s .each c l,
+          );
     }
 
-pub going-none : (W n w row col : ℕ) (piece a : List ℕ) → row < n → col < W → Going W n w row col piece a (record { row = row; col = col; used = 0 }) a
+pub going-none : (W n w row col : ℕ) (piece a : List ℕ) → row < n → col < W →
+    Going W n w row col piece a (record { row = row; col = col; used = 0 }) a
 going-none W n w row col piece a h k =
     record {
       used = omega arith;
@@ -47,8 +57,10 @@ going-none W n w row col piece a h k =
       sums = λ b p e s. rw append-nil s;
     }
 
-pub going-more : {W n w row col : ℕ} {piece before a z : List ℕ} {r q : Spot} (t : ℕ) → Going W n w row col piece before r a → r .row < n → r .col + t ≤ W →
-    r .used + t ≤ length piece → Added n w (r .col) (run piece (r .used) t) a z → Advanced W r t q → Going W n w row col piece before q z
+pub going-more : {W n w row col : ℕ} {piece before a z : List ℕ} {r q : Spot} (t : ℕ) →
+    Going W n w row col piece before r a → r .row < n → r .col + t ≤ W →
+    r .used + t ≤ length piece → Added n w (r .col) (run piece (r .used) t) a z → Advanced W r t q →
+    Going W n w row col piece before q z
 going-more {W} {n} {w} {row} {col} {piece} {before} {a} {z} {r} {q} t g h k l f m =
     record {
       used = omega arith;

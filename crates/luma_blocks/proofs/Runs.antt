@@ -25,11 +25,14 @@ column n c q a b = div-eq-of-lt-le n a (omega (arith, add-mul c 1 n))
 
 -- a run within the block column c gives all to it
 pub own : (n c q : ℕ) (t : List ℕ) → c * n ≤ q → q + length t ≤ c * n + n → tally (inColumn n c) q t ≡ total t
-own n c q t a h = tally-all (inColumn n c) q t (λ j b k. rw (column n c (q + j) (omega arith) (omega arith), eq-eqb c c refl))
+own n c q t a h =
+    tally-all (inColumn n c) q t (λ j b k. rw (column n c (q + j) (omega arith) (omega arith), eq-eqb c c refl))
 
 -- and nothing to another
-pub others : (n c d q : ℕ) (t : List ℕ) → c * n ≤ q → q + length t ≤ c * n + n → (c ≡ d → ⊥) → tally (inColumn n d) q t ≡ 0
-others n c d q t a h e = tally-none (inColumn n d) q t (λ j b k. rw (column n c (q + j) (omega arith) (omega arith), ne-eqb c d e))
+pub others : (n c d q : ℕ) (t : List ℕ) → c * n ≤ q → q + length t ≤ c * n + n → (c ≡ d → ⊥) →
+    tally (inColumn n d) q t ≡ 0
+others n c d q t a h e =
+    tally-none (inColumn n d) q t (λ j b k. rw (column n c (q + j) (omega arith) (omega arith), ne-eqb c d e))
 
 -- a run from the block column c on gives nothing to those before
 pub past : (n c d q : ℕ) (t : List ℕ) → 0 < n → c * n ≤ q → d < c → tally (inColumn n d) q t ≡ 0
@@ -44,7 +47,8 @@ unfolding tally
 added-none n w x b = record { size = refl; grown = λ e c h. rw (add-zero (getD b c 0)) refl; other = λ c h. refl }
 
 -- two runs, one after the other
-pub added-append : {n w x : ℕ} {p t b a z : List ℕ} → Added n w x p b a → Added n w (x + length p) t a z → Added n w x (p ++ t) b z
+pub added-append : {n w x : ℕ} {p t b a z : List ℕ} → Added n w x p b a → Added n w (x + length p) t a z →
+    Added n w x (p ++ t) b z
 added-append {n} {w} {x} {p} {t} {b} {a} {z} f g =
     record {
       size = g .size ∙ f .size;
@@ -58,20 +62,32 @@ added-past n w q c t a p lo h =
     record { size = refl; grown = λ e d y. omega (arith, past n c d q t p lo (omega arith)); other = λ d y. refl }
 
 -- a run within the block column c
-pub added-one : (n w q c v : ℕ) (t a : List ℕ) → c < w → w ≤ 240 → c * n ≤ q → q + length t ≤ c * n + n → v ≡ (getD a c 0 + total t) % 2 ^ 32 →
+pub added-one : (n w q c v : ℕ) (t a : List ℕ) → c < w → w ≤ 240 → c * n ≤ q → q + length t ≤ c * n + n →
+    v ≡ (getD a c 0 + total t) % 2 ^ 32 →
     Added n w q t a (set a c v)
 added-one n w q c v t a h k lo hi e =
-    record { size = length-set a c v; grown = λ z d y. grows z d (eqb c d) refl; other = λ d y. getD-set-other a c d v 0 (λ m. omega arith) }
+    record {
+      size = length-set a c v;
+      grown = λ z d y. grows z d (eqb c d) refl;
+      other = λ d y. getD-set-other a c d v 0 (λ m. omega arith);
+    }
   where
-    grows : length a ≡ 240 → (d : ℕ) (r : Bool) → eqb c d ≡ r → getD (set a c v) d 0 % 2 ^ 32 ≡ (getD a d 0 + tally (inColumn n d) q t) % 2 ^ 32
+    grows : length a ≡ 240 → (d : ℕ) (r : Bool) → eqb c d ≡ r →
+        getD (set a c v) d 0 % 2 ^ 32 ≡ (getD a d 0 + tally (inColumn n d) q t) % 2 ^ 32
     grows z d true y =
         rw (← eqb-true c d y, getD-set-same a c v 0 (omega arith), own n c q t lo hi) (omega arith)
     grows z d false y =
-        rw (getD-set-other a c d v 0 (λ m. eqb-false c d y (sym m)), others n c d q t lo hi (eqb-false c d y), add-zero (getD a d 0)) refl
+        rw (
+          getD-set-other a c d v 0 (λ m. eqb-false c d y (sym m)),
+          others n c d q t lo hi (eqb-false c d y),
+          add-zero (getD a d 0),
+        ) refl
 
 -- t bytes more of the bytes of s from `at` on
-pub added-more : (n w x c v : ℕ) (s : List ℕ) (at i t : ℕ) {b a : List ℕ} → Added n w x (run s at i) b a → c < w → w ≤ 240 → c * n ≤ x + i →
-    x + i + t ≤ c * n + n → at + i + t ≤ length s → v ≡ (getD a c 0 + total (run s (at + i) t)) % 2 ^ 32 → Added n w x (run s at (i + t)) b (set a c v)
+pub added-more : (n w x c v : ℕ) (s : List ℕ) (at i t : ℕ) {b a : List ℕ} → Added n w x (run s at i) b a → c < w →
+    w ≤ 240 → c * n ≤ x + i →
+    x + i + t ≤ c * n + n → at + i + t ≤ length s → v ≡ (getD a c 0 + total (run s (at + i) t)) % 2 ^ 32 →
+    Added n w x (run s at (i + t)) b (set a c v)
 added-more n w x c v s at i t {b} {a} f h k lo hi l e =
     let z : length (run s at i) ≡ i = run-length s at i (omega arith) in
     let y : length (run s (at + i) t) ≡ t = run-length s (at + i) t (omega arith) in
@@ -79,7 +95,8 @@ added-more n w x c v s at i t {b} {a} f h k lo hi l e =
     (added-append f (rw z (added-one n w (x + i) c v (run s (at + i) t) a h k lo (omega arith) e)))
 
 -- t bytes of s within block column c
-pub part-in : {w c v : ℕ} (s : List ℕ) (at t : ℕ) {a : List ℕ} → c < w → w ≤ 240 → at + t ≤ length s → v ≡ (getD a c 0 + total (run s at t)) % 2 ^ 32 →
+pub part-in : {w c v : ℕ} (s : List ℕ) (at t : ℕ) {a : List ℕ} → c < w → w ≤ 240 → at + t ≤ length s →
+    v ≡ (getD a c 0 + total (run s at t)) % 2 ^ 32 →
     Part w c s at t a (set a c v)
 part-in {w} {c} {v} s at t {a} h k l e n q p lo hi =
     let z : length (run s at t) ≡ t = run-length s at t l in
@@ -95,28 +112,34 @@ pub blocks-none : (n c : ℕ) (s : List ℕ) (at : ℕ) (a : List ℕ) → Block
 blocks-none n c s at a w h k = rw (zero-mul n) (added-none n w (c * n) a)
 
 -- one block more
-pub blocks-more : (n c v j : ℕ) (s : List ℕ) (at : ℕ) {b a : List ℕ} → Blocks n c j s at b a → at + (j * n + n) ≤ length s →
+pub blocks-more : (n c v j : ℕ) (s : List ℕ) (at : ℕ) {b a : List ℕ} →
+    Blocks n c j s at b a → at + (j * n + n) ≤ length s →
     v ≡ (getD a (c + j) 0 + total (run s (at + j * n) n)) % 2 ^ 32 → Blocks n c (j + 1) s at b (set a (c + j) v)
 blocks-more n c v j s at {b} {a} f l e w h k =
     let z : (j + 1) * n ≡ j * n + n = omega (arith, add-mul j 1 n) in
     let y : (c + j) * n ≡ c * n + j * n = add-mul c j n in
-    rw z (added-more n w (c * n) (c + j) v s at (j * n) n (f w (omega arith) k) (omega arith) k (omega arith) (omega arith) (omega arith) e)
+    rw z (added-more n w (c * n) (c + j) v s at (j * n) n (f w (omega arith) k) (omega arith) k (omega arith)
+    (omega arith) (omega arith) e)
 
 -- a run from an edge on: whole blocks, what is left
-pub from-edge : (n w c : ℕ) (s : List ℕ) (at m k : ℕ) {a b d : List ℕ} → 0 < n → w ≤ 240 → c + k ≤ w → k * n ≤ m → (c + k < w → m < k * n + n) → at + m ≤ length s →
+pub from-edge : (n w c : ℕ) (s : List ℕ) (at m k : ℕ) {a b d : List ℕ} → 0 < n → w ≤ 240 → c + k ≤ w → k * n ≤ m →
+    (c + k < w → m < k * n + n) → at + m ≤ length s →
     Blocks n c k s at a b → Part w (c + k) s (at + k * n) (m - k * n) b d → Added n w (c * n) (run s at m) a d
 from-edge n w c s at m k {a} {b} {d} hn hw room fits last l blocks rest =
     let end : (c + k) * n ≡ c * n + k * n = add-mul c k n in
     let size : length (run s at (k * n)) ≡ k * n = run-length s at (k * n) (omega arith) in
     let more : m ≡ k * n + (m - k * n) = omega arith in
-    let tail : Added n w (c * n + k * n) (run s (at + k * n) (m - k * n)) b d = rest n (c * n + k * n) hn (omega arith) (λ h. omega (arith, last h)) in
+    let tail : Added n w (c * n + k * n) (run s (at + k * n) (m - k * n)) b d =
+    rest n (c * n + k * n) hn (omega arith) (λ h. omega (arith, last h)) in
     rw (more, run-split s at (k * n) (m - k * n)) (added-append (blocks w room hw) (rw size tail))
 
 -- a run up to an edge, and the rest
-pub to-edge : (n w x c : ℕ) (s : List ℕ) (at m head : ℕ) {a b d : List ℕ} → 0 < n → c * n ≤ x → x + head ≡ c * n + n → head ≤ m → at + m ≤ length s →
+pub to-edge : (n w x c : ℕ) (s : List ℕ) (at m head : ℕ) {a b d : List ℕ} → 0 < n → c * n ≤ x → x + head ≡ c * n + n →
+    head ≤ m → at + m ≤ length s →
     Part w c s at head a b → Added n w ((c + 1) * n) (run s (at + head) (m - head)) b d → Added n w x (run s at m) a d
 to-edge n w x c s at m head {a} {b} {d} hn lo edge fits l first rest =
     let size : length (run s at head) ≡ head = run-length s at head (omega arith) in
     let start : x + head ≡ (c + 1) * n = omega (arith, add-mul c 1 n) in
     let more : m ≡ head + (m - head) = omega arith in
-    rw (more, run-split s at head (m - head)) (added-append (first n x hn lo (λ h. omega arith)) (rw (size, start) rest))
+    rw (more, run-split s at head (m - head))
+    (added-append (first n x hn lo (λ h. omega arith)) (rw (size, start) rest))

@@ -28,15 +28,18 @@ pub record Advanced (W : ℕ) (p : Spot) (t : ℕ) (r : Spot) : Type 0 where
   pub below : r .row ≤ p .row + 1
   pub next : p .row < r .row → r .col ≡ 0
 
--- from row `row` of the block row and column `col` on, the first bytes of the piece were taken in, as many as r says, up to the place that r says:
--- sums that stood for some block row and the picture's first bytes p, which end at that place, now stand for that row and p with those bytes
+-- from row `row` of the block row and column `col` on, the first bytes of the piece were taken in, as many as r says,
+-- up to the place that r says:
+-- sums that stood for some block row and the picture's first bytes p, which end at that place, now stand for that row
+-- and p with those bytes
 pub record Going (W n w row col : ℕ) (piece before : List ℕ) (r : Spot) (after : List ℕ) : Type 0 where
   pub used : r .used ≤ length piece
   pub place : r .row * W + r .col ≡ row * W + col + r .used
   pub left : r .col < W
   pub below : r .row ≤ n
   pub stops : r .row ≡ n → r .col ≡ 0
-  pub sums : (b : ℕ) (p : List ℕ) → length p ≡ (b * n + row) * W + col → SumsOf W n w b p before → SumsOf W n w b (p ++ take (r .used) piece) after
+  pub sums : (b : ℕ) (p : List ℕ) → length p ≡ (b * n + row) * W + col → SumsOf W n w b p before →
+      SumsOf W n w b (p ++ take (r .used) piece) after
 
 -- and the piece or the block row is at its end
 pub record FedRows (W n w row col : ℕ) (piece before : List ℕ) (r : Spot) (after : List ℕ) : Type 0 where

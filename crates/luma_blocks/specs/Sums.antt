@@ -1,4 +1,5 @@
--- The sums of a picture's blocks: what a run of a row adds to them. A picture is rows of W bytes; the byte at place q is in row q / W and column q % W.
+-- The sums of a picture's blocks: what a run of a row adds to them. A picture is rows of W bytes; the byte at place q
+-- is in row q / W and column q % W.
 use Prim.Native.Nat.{ℕ, _+_, _*_, _/_, _%_, _^_, _≤_, _<_}
 use mathlib.Core.Path.{_≡_}
 use mathlib.Core.List.{List}
@@ -14,11 +15,12 @@ inColumn n c x b = pick (eqb (x / n) c) b 0
 abbrev pub run : List ℕ → ℕ → ℕ → List ℕ
 run s at m = take m (drop at s)
 
--- The sums `after` are the sums `before` with the run t of a row added, whose first byte is at column x: each block column c below w grows by those
--- bytes of the run that lie in it, modulo 2 ^ 32, and nothing else changes
+-- The sums `after` are the sums `before` with the run t of a row added, whose first byte is at column x: each block
+-- column c below w grows by those bytes of the run that lie in it, modulo 2 ^ 32, and nothing else changes
 pub record Added (n w x : ℕ) (t before after : List ℕ) : Type 0 where
   pub size : length after ≡ length before
-  pub grown : length before ≡ 240 → (c : ℕ) → c < w → getD after c 0 % 2 ^ 32 ≡ (getD before c 0 + tally (inColumn n c) x t) % 2 ^ 32
+  pub grown : length before ≡ 240 → (c : ℕ) → c < w →
+      getD after c 0 % 2 ^ 32 ≡ (getD before c 0 + tally (inColumn n c) x t) % 2 ^ 32
   pub other : (c : ℕ) → w ≤ c → getD after c 0 ≡ getD before c 0
 
 -- what `add_run` asks: blocks of n columns, w of them; m bytes of the slice s from `at` on, at column x
@@ -57,4 +59,5 @@ pub record Lined (n c k : ℕ) (s : List ℕ) (at : ℕ) : Type 0 where
 
 -- t bytes within block column c, wherever they stand in it and however wide it is
 abbrev pub Part : ℕ → ℕ → List ℕ → ℕ → ℕ → List ℕ → List ℕ → Type 0
-Part w c s at t before after = (n q : ℕ) → 0 < n → c * n ≤ q → (c < w → q + t ≤ c * n + n) → Added n w q (run s at t) before after
+Part w c s at t before after =
+    (n q : ℕ) → 0 < n → c * n ≤ q → (c < w → q + t ≤ c * n + n) → Added n w q (run s at t) before after

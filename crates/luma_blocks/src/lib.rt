@@ -78,7 +78,8 @@ fn whole(sums: &mut Sums, c: usize, k: usize, s: &[u8], at: usize, n: usize)
     }
 }
 
-// The same. Each call has a constant width, so that the compiler makes a loop of its own for it, with wide sums of bytes.
+// The same. Each call has a constant width, so that the compiler makes a loop of its own for
+// it, with wide sums of bytes.
 fn blocks(sums: &mut Sums, c: usize, k: usize, s: &[u8], at: usize, n: usize)
     requires { ⌜ Lined n c k (now s) at ⌝ }
     ensures { λ _. ⌜ Blocks n c k (now (s .entry)) at (now (sums .entry)) (now (sums .exit)) ⌝ }
@@ -100,7 +101,8 @@ fn blocks(sums: &mut Sums, c: usize, k: usize, s: &[u8], at: usize, n: usize)
     }
 }
 
-// As many whole blocks of n bytes as there are in m, `room` at most. Where all of a row is there, no division is needed.
+// As many whole blocks of n bytes as there are in m, `room` at most. Where all of a row is
+// there, no division is needed.
 fn fitting(n: usize, room: usize, m: usize) -> usize
     requires { ⌜ (0 < n) × (n ≤ 64) × (room ≤ 240) ⌝ }
     ensures { λ r. ⌜ (r ≤ room) × (r * n ≤ m) × (r < room → m < r * n + n) ⌝ }
@@ -108,7 +110,8 @@ fn fitting(n: usize, room: usize, m: usize) -> usize
     if room * n <= m { room } else { m / n }
 }
 
-// Adds m bytes of a row, which stand in s from `at` on and in the row from block column c on: whole blocks, then what is left.
+// Adds m bytes of a row, which stand in s from `at` on and in the row from block column c on:
+// whole blocks, then what is left.
 fn add_blocks(sums: &mut Sums, n: usize, w: usize, c: usize, s: &[u8], at: usize, m: usize)
     requires { ⌜ Edged n w (now s) at m ⌝ }
     ensures { λ _. ⌜ Added n w (c * n) (run (now (s .entry)) at m) (now (sums .entry)) (now (sums .exit)) ⌝ }
@@ -122,7 +125,8 @@ fn add_blocks(sums: &mut Sums, n: usize, w: usize, c: usize, s: &[u8], at: usize
     part(sums, w, c + k, s, at + done, m - done);
 }
 
-// Adds m bytes of a row, which stand in s from `at` on and in the row from column x on, to the sums of their block columns, of n columns each.
+// Adds m bytes of a row, which stand in s from `at` on and in the row from column x on, to the sums of their block
+// columns, of n columns each.
 // Columns past the first w blocks are dropped. A run that begins inside a block is taken up to the block's edge first.
 fn add_run(sums: &mut Sums, n: usize, w: usize, x: usize, s: &[u8], at: usize, m: usize)
     requires { ⌜ Laid n w x (now s) at m ⌝ }
@@ -203,7 +207,8 @@ fn pixel_of(sum: u32, area: u32) -> u8
 // At the end of block row b: its pixels, of the sums, which are cleared for the next.
 pub fn finish_row(pixels: &mut Picture, sums: &mut Sums, n: usize, w: usize, b: usize)
     requires { ⌜ Finishing n w b ⌝ }
-    ensures { λ _. ⌜ RowDone n w b (now (pixels .entry)) (now (sums .entry)) (now (pixels .exit)) (now (sums .exit)) ⌝ }
+    ensures { λ _. ⌜ RowDone n w b (now (pixels .entry)) (now (sums .entry)) (now (pixels .exit))
+        (now (sums .exit)) ⌝ }
 {
     let area = (n * n) as u32;
     let base = b * w;

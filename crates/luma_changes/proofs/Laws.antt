@@ -26,7 +26,8 @@ tally-one f p v =
     omega (arith, rw here at (tally-append f 0 p (v ∷ [])))
 
 -- one pixel more
-figures-more : {old p : List ℕ} {m r : Moves} (v : ℕ) → Figures old p m → Moved m (getD old (length p) 0) v r → Figures old (p ++ v ∷ []) r
+figures-more : {old p : List ℕ} {m r : Moves} (v : ℕ) → Figures old p m → Moved m (getD old (length p) 0) v r →
+    Figures old (p ++ v ∷ []) r
 figures-more {old} {p} {m} {r} v f g =
     record {
       up = omega (arith, tally-one (rise old) p v, f .up, g .up);
@@ -37,7 +38,8 @@ figures-more {old} {p} {m} {r} v f g =
 pub compared-none : (kept : List ℕ) (at : ℕ) (made : List ℕ) (from : ℕ) (m : Moves) → Compared kept at made from 0 m m
 compared-none kept at made from m = record { more = λ old p e f. rw append-nil f }
 
-compared-more : {kept made : List ℕ} {at from c : ℕ} {m n r : Moves} → Compared kept at made from c m n → from + c < length made →
+compared-more : {kept made : List ℕ} {at from c : ℕ} {m n r : Moves} → Compared kept at made from c m n →
+    from + c < length made →
     Moved n (getD kept (at + c) 0) (getD made (from + c) 0) r → Compared kept at made from (c + 1) m r
 compared-more {kept} {made} {at} {from} {c} {m} {n} {r} f h g =
     record {
@@ -45,23 +47,41 @@ compared-more {kept} {made} {at} {from} {c} {m} {n} {r} f h g =
           λ old p e s.
           let some : c < length (drop from made) = simp length-drop (omega arith) in
           let q = p ++ take c (drop from made) in
-          let here : length q ≡ length p + c = omega (arith, length-append p (take c (drop from made)), length-take-le c (drop from made) (omega arith)) in
-          let same : getD old (length q) 0 ≡ getD kept (at + c) 0 = ap (λ (z : ℕ). getD old z 0) here ∙ e c (omega arith) in
-          rw (add-one c, take-suc (drop from made) c 0, getD-drop from made c 0, ← append-assoc p (take c (drop from made)) (getD made (from + c) 0 ∷ []))
+          let here : length q ≡ length p + c =
+          omega (arith, length-append p (take c (drop from made)), length-take-le c (drop from made) (omega arith)) in
+          let same : getD old (length q) 0 ≡ getD kept (at + c) 0 =
+          ap (λ (z : ℕ). getD old z 0) here ∙ e c (omega arith) in
+          rw (
+            add-one c,
+            take-suc (drop from made) c 0,
+            getD-drop from made c 0,
+            ← append-assoc p (take c (drop from made)) (getD made (from + c) 0 ∷ []),
+          )
           (figures-more (getD made (from + c) 0) (f .more old p (λ j l. e j (omega arith)) s) (rw same g));
     }
 
 -- m, and the sums over some pixels: of rises, of falls, and of the low and the high bytes of squares
 abbrev pub summed : Moves → ℕ → ℕ → ℕ → ℕ → Moves
-summed m up down low high = record { up = (m .up + up) % 2 ^ 32; down = (m .down + down) % 2 ^ 32; squares = (m .squares + (low + 256 * high)) % 2 ^ 32 }
+summed m up down low high = record {
+  up = (m .up + up) % 2 ^ 32;
+  down = (m .down + down) % 2 ^ 32;
+  squares = (m .squares + (low + 256 * high)) % 2 ^ 32;
+}
 
-pub summed-none : (kept : List ℕ) (at : ℕ) (made : List ℕ) (from : ℕ) (m : Moves) → Compared kept at made from 0 m (summed m 0 0 0 0)
+pub summed-none : (kept : List ℕ) (at : ℕ) (made : List ℕ) (from : ℕ) (m : Moves) →
+    Compared kept at made from 0 m (summed m 0 0 0 0)
 summed-none kept at made from m =
-    record { more = λ old p e f. rw append-nil (record { up = omega (arith, f .up); down = omega (arith, f .down); both = omega (arith, f .both) }) }
+    record {
+      more = λ old p e f. rw append-nil
+          (record { up = omega (arith, f .up); down = omega (arith, f .down); both = omega (arith, f .both) });
+    }
 
-pub summed-more : (kept : List ℕ) (at : ℕ) (made : List ℕ) (from c : ℕ) (m : Moves) (up down low high rise fall : ℕ) → Compared kept at made from c m (summed m up down low high) →
-    from + c < length made → rise ≡ getD made (from + c) 0 - getD kept (at + c) 0 → fall ≡ getD kept (at + c) 0 - getD made (from + c) 0 →
-    Compared kept at made from (c + 1) m (summed m (up + rise) (down + fall) (low + (rise + fall) * (rise + fall) % 256) (high + (rise + fall) * (rise + fall) / 256))
+pub summed-more : (kept : List ℕ) (at : ℕ) (made : List ℕ) (from c : ℕ) (m : Moves) (up down low high rise fall : ℕ) →
+    Compared kept at made from c m (summed m up down low high) →
+    from + c < length made → rise ≡ getD made (from + c) 0 - getD kept (at + c) 0 →
+    fall ≡ getD kept (at + c) 0 - getD made (from + c) 0 →
+    Compared kept at made from (c + 1) m (summed m (up + rise) (down + fall)
+    (low + (rise + fall) * (rise + fall) % 256) (high + (rise + fall) * (rise + fall) / 256))
 summed-more kept at made from c m up down low high rise fall s h er ef =
     compared-more s h
     (record { up = omega (arith, er); down = omega (arith, ef); both = rw (← er, ← ef) (omega arith) })

@@ -19,7 +19,8 @@ pub record Exact (old px : List ℕ) (m : Moves) : Type 0 where
   pub down : m .down % 2 ^ 32 ≡ downs old px
   pub both : m .squares % 2 ^ 32 ≡ squared old px
 
-pub exact : {old px : List ℕ} {m : Moves} → Figures old px m → Bytes old → Bytes px → length px ≤ 65536 → Exact old px m
+pub exact : {old px : List ℕ} {m : Moves} → Figures old px m → Bytes old → Bytes px → length px ≤ 65536 →
+    Exact old px m
 exact {old} {px} {m} f g h few =
     record {
       up = f .up ∙ mod-eq-of-lt (omega (arith, ups-most old px h));
@@ -29,9 +30,12 @@ exact {old} {px} {m} f g h few =
 
 -- V
 pub spread-of : {old px : List ℕ} {m : Moves} → Exact old px m → length old ≡ length px →
-    spread old px ≡ length px * (m .squares % 2 ^ 32) - apart (m .up % 2 ^ 32) (m .down % 2 ^ 32) * apart (m .up % 2 ^ 32) (m .down % 2 ^ 32)
+    spread old px ≡ length px * (m .squares % 2 ^ 32) - apart (m .up % 2 ^ 32)
+    (m .down % 2 ^ 32) * apart (m .up % 2 ^ 32) (m .down % 2 ^ 32)
 spread-of {old} {px} {m} e h = rw (e .up, e .down, e .both) (spread-are old px h)
 
 -- the picture is repeated
-pub same-of : {old px : List ℕ} {m : Moves} → Exact old px m → length old ≡ length px → same old px ≡ eqb (m .squares % 2 ^ 32) 0
-same-of {old} {px} {m} e h = same-squares old px h ∙ ap (λ (s : ℕ). eqb s 0) (squares-are old px (omega arith) ∙ sym (e .both))
+pub same-of : {old px : List ℕ} {m : Moves} → Exact old px m → length old ≡ length px →
+    same old px ≡ eqb (m .squares % 2 ^ 32) 0
+same-of {old} {px} {m} e h =
+    same-squares old px h ∙ ap (λ (s : ℕ). eqb s 0) (squares-are old px (omega arith) ∙ sym (e .both))

@@ -1,4 +1,5 @@
--- What moves from one reduced picture to the next: running sums of its pixels' differences e, from which V of document 01 is made.
+-- What moves from one reduced picture to the next: running sums of its pixels' differences e, from
+-- which V of document 01 is made.
 use Prim.Native.Nat.{ℕ, _+_, _%_, _^_, _≤_, _<_}
 use mathlib.Core.Path.{_≡_}
 use mathlib.Core.List.{List, _++_}
@@ -18,7 +19,9 @@ pub record Paired (kept : List ℕ) (at : ℕ) (made : List ℕ) (from k : ℕ) 
   pub made-there : from + k ≤ length made
   pub few : k ≤ 240
 
--- k pixels more, which stand in `made` from `from` on, where `kept` has the old picture's pixels of the same places from `at` on:
+-- k pixels more, which stand in `made` from `from` on, where `kept` has the old picture's pixels of
+-- the same places from `at` on:
 -- whatever the old picture and the new one's first pixels p, figures of p become those of p and these
 pub record Compared (kept : List ℕ) (at : ℕ) (made : List ℕ) (from k : ℕ) (m r : Moves) : Type 0 where
-  pub more : (old p : List ℕ) → ((j : ℕ) → j < k → getD old (length p + j) 0 ≡ getD kept (at + j) 0) → Figures old p m → Figures old (p ++ take k (drop from made)) r
+  pub more : (old p : List ℕ) → ((j : ℕ) → j < k → getD old (length p + j) 0 ≡ getD kept (at + j) 0) →
+      Figures old p m → Figures old (p ++ take k (drop from made)) r

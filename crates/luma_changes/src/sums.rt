@@ -1,4 +1,5 @@
-// What moves from one reduced picture to the next: the sums of the pixels' differences, up and down, and of their squares.
+// What moves from one reduced picture to the next: the sums of the pixels' differences, up and
+// down, and of their squares.
 ghost use mathlib.Core.Path.{_≡_};
 ghost use Prim.Native.Nat.{_-_, _≤_};
 ghost use Rattle.luma_changes.specs.Figures.{Paired, Compared};
@@ -16,7 +17,8 @@ fn over(a: u8, b: u8) -> u16
     if b < a { (a - b) as u16 } else { 0 }
 }
 
-// A run of k pixels more: the new picture's stand in `made` from `from` on, the old one's of the same places in `kept` from `at` on.
+// A run of k pixels more: the new picture's stand in `made` from `from` on, the old one's of the same
+// places in `kept` from `at` on.
 // Sums of 240 pixels fit 16 bits, a square's low and high byte apart: the compiler then takes eight pixels at a time.
 pub fn compare_run(m: Moves, kept: &[u8], at: usize, made: &[u8], from: usize, k: usize) -> Moves
     requires { ⌜ Paired (now kept) at (now made) from k ⌝ }

@@ -15,7 +15,8 @@ tilesAt counts base = table 9 0 (λ t. binsAt counts (base + 16 * t))
 
 -- the least of six differences of the pictures at five bases
 abbrev pub leastAt : List ℕ → ℕ → ℕ → ℕ → ℕ → ℕ → ℕ
-leastAt counts a b x y z = leastOfSix (tilesAt counts a) (tilesAt counts b) (tilesAt counts x) (tilesAt counts y) (tilesAt counts z)
+leastAt counts a b x y z =
+    leastOfSix (tilesAt counts a) (tilesAt counts b) (tilesAt counts x) (tilesAt counts y) (tilesAt counts z)
 
 -- a picture's 144 counts from here on lie within the 720
 pub record Slot (base : ℕ) : Type 0 where

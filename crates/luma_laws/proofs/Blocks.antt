@@ -1,8 +1,11 @@
--- A block's sum by membership: the sum of those bytes of a picture whose row lies in block row r and whose column in block column c. Of a picture's first
--- bytes it is the same sum over fewer bytes, so a picture that comes in pieces has it at every moment.
+-- A block's sum by membership: the sum of those bytes of a picture whose row lies in block row r and whose column in
+-- block column c. Of a picture's first bytes it is the same sum over fewer bytes, so a picture that comes in pieces
+-- has it at every moment.
 use Prim.Native.Nat.{ℕ, zero, suc, _+_, _*_, _/_, _%_, _≤_, _<_}
 use native.Mathlib.Omega.{arith}
-use native.Mathlib.Nat.{mul-comm, mul-zero, one-le-pow, eq-zero-or-pos, mod-lt, div-add-mod', add-zero, zero-add, add-mul, suc-mul, zero-mul, mul-le-mul-right, le-div-iff-mul-le, div-lt-iff-lt-mul, div-eq-of-lt-le, mod-eq-of-lt, mul-add-mod-self-right}
+use native.Mathlib.Nat.{mul-comm, mul-zero, one-le-pow, eq-zero-or-pos, mod-lt, div-add-mod', add-zero, zero-add}
+use native.Mathlib.Nat.{add-mul, suc-mul, zero-mul, mul-le-mul-right, le-div-iff-mul-le, div-lt-iff-lt-mul}
+use native.Mathlib.Nat.{div-eq-of-lt-le, mod-eq-of-lt, mul-add-mod-self-right}
 use mathlib.Core.Path.{_≡_, refl, sym, ap, _∙_}
 use mathlib.Core.Logic.{_⊎_, inl, inr}
 use mathlib.Core.Bool.{Bool, true, false}
@@ -19,7 +22,8 @@ use Rattle.luma_laws.specs.Tallies.{inBlock, blockTally}
 use Rattle.rules.proofs.Laws.Lists.{length-table}
 use Rattle.luma_laws.proofs.Tables.{getD-table, getD-lines}
 use Rattle.luma_laws.proofs.Pictures.{four, pixels-length}
-use Rattle.luma_laws.proofs.Tally.{tally-append, tally-split, tally-shift, tally-none, tally-all, tally-cut, tally-map}
+use Rattle.luma_laws.proofs.Tally.{tally-append, tally-split, tally-shift, tally-none, tally-all, tally-cut}
+use Rattle.luma_laws.proofs.Tally.{tally-map}
 
 -- ---- a picture that goes on
 
@@ -42,7 +46,8 @@ earlier W n r c p hn hw h =
     rw (ne-eqb ((0 + j) / W / n) r (λ e. omega arith)))
 
 -- what is settled: once the block's rows are there, its sum stays
-pub settled : (W n r c : ℕ) (p t : List ℕ) → 0 < n → 0 < W → (r * n + n) * W ≤ length p → blockTally W n r c (p ++ t) ≡ blockTally W n r c p
+pub settled : (W n r c : ℕ) (p t : List ℕ) → 0 < n → 0 < W → (r * n + n) * W ≤ length p →
+    blockTally W n r c (p ++ t) ≡ blockTally W n r c p
 settled W n r c p t hn hw h =
     omega (arith, tally-append (inBlock W n r c) 0 p t, later W n r c (0 + length p) t hn hw (omega arith))
 
@@ -59,19 +64,22 @@ column-of W y x h = mul-add-mod-self-right y W x ∙ mod-eq-of-lt h
 fromRow : ℕ → ℕ → ℕ → ℕ → List ℕ → ℕ
 fromRow n r c y row = pick (eqb (y / n) r) (total (take n (drop (c * n) row))) 0
 
-row-gives : (W n r c y : ℕ) (row : List ℕ) → 0 < n → length row ≤ W → tally (inBlock W n r c) (y * W) row ≡ fromRow n r c y row
+row-gives : (W n r c y : ℕ) (row : List ℕ) → 0 < n → length row ≤ W →
+    tally (inBlock W n r c) (y * W) row ≡ fromRow n r c y row
 unfolding fromRow
 row-gives W n r c y row some h =
     tally-shift (inBlock W n r c) (λ x b. pick (eqb (y / n) r) (pick (eqb (x / n) c) b 0) 0) (y * W) 0 row
     (λ x b k. rw (row-of W y x (omega arith), column-of W y x (omega arith), zero-add x))
     ∙ go (eqb (y / n) r)
   where
-    go : (own : Bool) → tally (λ x b. pick own (pick (eqb (x / n) c) b 0) 0) 0 row ≡ pick own (total (take n (drop (c * n) row))) 0
+    go : (own : Bool) →
+        tally (λ x b. pick own (pick (eqb (x / n) c) b 0) 0) 0 row ≡ pick own (total (take n (drop (c * n) row))) 0
     go true = tally-cut n c (λ b. b) row some ∙ tally-all (λ i b. b) 0 (take n (drop (c * n) row)) (λ j b k. refl)
     go false = tally-none (λ x b. 0) 0 row (λ j b k. refl)
 
 -- a tally by rows of W bytes, m of them, and what is left behind them
-pub by-rows : (F : ℕ → ℕ → ℕ) (G : ℕ → List ℕ → ℕ) (W : ℕ) → ((y : ℕ) (row : List ℕ) → length row ≤ W → tally F (y * W) row ≡ G y row) → (m y : ℕ) (p : List ℕ) →
+pub by-rows : (F : ℕ → ℕ → ℕ) (G : ℕ → List ℕ → ℕ) (W : ℕ) →
+    ((y : ℕ) (row : List ℕ) → length row ≤ W → tally F (y * W) row ≡ G y row) → (m y : ℕ) (p : List ℕ) →
     tally F (y * W) p ≡ tally G y (parts m W p) + tally F ((y + m) * W) (drop (m * W) p)
 unfolding tally parts
 by-rows F G W e zero y p = rw (zero-mul W, add-zero y) (omega arith)
@@ -81,7 +89,12 @@ by-rows F G W e (suc m) y p =
     let last : suc y + m ≡ y + suc m = omega arith in
     let behind : W + m * W ≡ suc m * W = omega (arith, suc-mul m W) in
     let rest = by-rows F G W e m (suc y) (drop W p) in
-    omega (arith, tally-split F W (y * W) p, rw (last, drop-drop, behind) at rest, ap (λ (q : ℕ). tally F q (drop W p)) next)
+    omega (
+      arith,
+      tally-split F W (y * W) p,
+      rw (last, drop-drop, behind) at rest,
+      ap (λ (q : ℕ). tally F q (drop W p)) next,
+    )
 
 -- any size of picture, of rows and of blocks; bytes behind the H rows count in neither
 pub sum-tally : (H W n r c : ℕ) (p : List ℕ) → 0 < n → 0 < W → r * n + n ≤ H →
@@ -90,9 +103,11 @@ unfolding fromRow
 sum-tally H W n r c p some wide h =
     let g : List ℕ → ℕ = λ row. total (take n (drop (c * n) row)) in
     let rows = parts H W p in
-    let own : tally (fromRow n r c) 0 rows ≡ total (map g (take n (drop (r * n) rows))) = tally-cut n r g rows some ∙ tally-map g 0 (take n (drop (r * n) rows)) in
+    let own : tally (fromRow n r c) 0 rows ≡ total (map g (take n (drop (r * n) rows))) =
+    tally-cut n r g rows some ∙ tally-map g 0 (take n (drop (r * n) rows)) in
     let all = by-rows (inBlock W n r c) (fromRow n r c) W (λ y row k. row-gives W n r c y row some k) H 0 p in
-    let none : tally (inBlock W n r c) ((0 + H) * W) (drop (H * W) p) ≡ 0 = later W n r c ((0 + H) * W) (drop (H * W) p) some wide (mul-le-mul-right W (omega arith)) in
+    let none : tally (inBlock W n r c) ((0 + H) * W) (drop (H * W) p) ≡ 0 =
+    later W n r c ((0 + H) * W) (drop (H * W) p) some wide (mul-le-mul-right W (omega arith)) in
     omega (arith, rw (zero-mul W) at all)
 
 -- ---- the reduced pixels of an opening's picture
@@ -122,7 +137,8 @@ column-inside o c h =
     omega (arith, add-mul c 1 (side o))
 
 -- the pixel in row r and column c
-pub pixel-tally : (o : Opening) (p : List ℕ) (r c : ℕ) → r < lines o → c < columns o → pixel o p r c ≡ blockTally (o .width) (side o) r c p / (side o * side o)
+pub pixel-tally : (o : Opening) (p : List ℕ) (r c : ℕ) → r < lines o → c < columns o →
+    pixel o p r c ≡ blockTally (o .width) (side o) r c p / (side o * side o)
 unfolding pixel pixelIn blockSum band rows
 pixel-tally o p r c h k =
     let some = side-some o in
@@ -131,10 +147,12 @@ pixel-tally o p r c h k =
     rw (area-side o, sum)
 
 -- it stands at place r × w + c
-pub pixels-at : (o : Opening) (p : List ℕ) (r c : ℕ) → r < lines o → c < columns o → getD (pixels o p) (r * columns o + c) 0 ≡ pixel o p r c
+pub pixels-at : (o : Opening) (p : List ℕ) (r c : ℕ) → r < lines o → c < columns o →
+    getD (pixels o p) (r * columns o + c) 0 ≡ pixel o p r c
 unfolding pixels pixelLine pixel
 pixels-at o p r c h k =
-    getD-lines (lines o) 0 (columns o) (λ y. table (columns o) 0 (pixelIn o (band o p y))) r c 0 (λ y. length-table (columns o) 0 (pixelIn o (band o p y))) h k
+    getD-lines (lines o) 0 (columns o) (λ y. table (columns o) 0 (pixelIn o (band o p y))) r c 0
+    (λ y. length-table (columns o) 0 (pixelIn o (band o p y))) h k
     ∙ getD-table (columns o) 0 (pixelIn o (band o p (0 + r))) c 0 k
     ∙ ap (λ (y : ℕ). pixelIn o (band o p y) (0 + c)) (zero-add r)
     ∙ ap (λ (x : ℕ). pixelIn o (band o p r) x) (zero-add c)
@@ -148,7 +166,8 @@ factor-some b w {i} l = go (eq-zero-or-pos w)
 
 -- a list that has the first b rows of the pixels begins with them
 pub rows-are : (o : Opening) (p m : List ℕ) (b : ℕ) → b ≤ lines o → b * columns o ≤ length m →
-    ((r c : ℕ) → r < b → c < columns o → getD m (r * columns o + c) 0 ≡ blockTally (o .width) (side o) r c p / (side o * side o)) →
+    ((r c : ℕ) → r < b → c < columns o →
+    getD m (r * columns o + c) 0 ≡ blockTally (o .width) (side o) r c p / (side o * side o)) →
     take (b * columns o) m ≡ take (b * columns o) (pixels o p)
 rows-are o p m b few long e =
     let w = columns o in
@@ -173,7 +192,8 @@ rows-are o p m b few long e =
 
 -- and with all rows it begins with the picture's pixels
 pub pixels-are : (o : Opening) (p m : List ℕ) → lines o * columns o ≤ length m →
-    ((r c : ℕ) → r < lines o → c < columns o → getD m (r * columns o + c) 0 ≡ blockTally (o .width) (side o) r c p / (side o * side o)) →
+    ((r c : ℕ) → r < lines o → c < columns o →
+    getD m (r * columns o + c) 0 ≡ blockTally (o .width) (side o) r c p / (side o * side o)) →
     take (lines o * columns o) m ≡ pixels o p
 pixels-are o p m long e =
     rows-are o p m (lines o) (omega arith) long e

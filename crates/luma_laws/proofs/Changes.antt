@@ -18,13 +18,16 @@ squares a b n h = mul-le-mul-right n (mul-le-mul-right n (mul-le-mul h h))
 
 -- so it is the greatest that fits
 pub greatest : {v n q : ℕ} → Root v n q → (p : ℕ) → p * p * n * n ≤ 10000 * v → p ≤ q
-greatest {v} {n} {q} r p h = le-of-suc-le-suc (lt-of-not-le (λ (g : q < p). not-le-of-lt (r .passed) (le-trans (squares (q + 1) p n (omega arith)) h)))
+greatest {v} {n} {q} r p h = le-of-suc-le-suc
+    (lt-of-not-le (λ (g : q < p). not-le-of-lt (r .passed) (le-trans (squares (q + 1) p n (omega arith)) h)))
 
-from : (v n bits q : ℕ) → q * q * n * n ≤ 10000 * v → 10000 * v < (q + 2 ^ bits) * (q + 2 ^ bits) * n * n → Root v n (rootFrom v n bits q)
+from : (v n bits q : ℕ) → q * q * n * n ≤ 10000 * v → 10000 * v < (q + 2 ^ bits) * (q + 2 ^ bits) * n * n →
+    Root v n (rootFrom v n bits q)
 unfolding rootFrom
 from v n zero q h k = record { reached = h; passed = k }
 from v n (suc bits) q h k =
-    go (decLe ((q + 2 ^ bits) * (q + 2 ^ bits) * n * n) (10000 * v)) (from v n bits q h) (λ g. from v n bits (q + 2 ^ bits) g (subst (λ (x : ℕ). 10000 * v < x * x * n * n) same k))
+    go (decLe ((q + 2 ^ bits) * (q + 2 ^ bits) * n * n) (10000 * v)) (from v n bits q h)
+    (λ g. from v n bits (q + 2 ^ bits) g (subst (λ (x : ℕ). 10000 * v < x * x * n * n) same k))
   where
     same : q + 2 ^ suc bits ≡ q + 2 ^ bits + 2 ^ bits
     same = rw pow-suc (omega arith)
@@ -34,7 +37,8 @@ from v n (suc bits) q h k =
         ((q + 2 ^ bits) * (q + 2 ^ bits) * n * n ≤ 10000 * v → Root v n (rootFrom v n bits (q + 2 ^ bits))) →
         Root v n (rootFrom v n bits (raised v n (2 ^ bits) q))
     go (yes g) below above = rw (le-leb ((q + 2 ^ bits) * (q + 2 ^ bits) * n * n) (10000 * v) g) (above g)
-    go (no g) below above = rw (lt-leb ((q + 2 ^ bits) * (q + 2 ^ bits) * n * n) (10000 * v) (lt-of-not-le g)) (below (lt-of-not-le g))
+    go (no g) below above =
+        rw (lt-leb ((q + 2 ^ bits) * (q + 2 ^ bits) * n * n) (10000 * v) (lt-of-not-le g)) (below (lt-of-not-le g))
 
 -- q of a picture: 16 bits are enough
 pub root-greatest : (v n : ℕ) → 10000 * v < 65536 * 65536 * n * n → Root v n (root v n)

@@ -1,5 +1,5 @@
--- The pictures of a sample: which are whole, and that each of their pixels adds one to one bin of one tile's histogram and to no other, so that the bins of the
--- nine histograms total w × h.
+-- The pictures of a sample: which are whole, and that each of their pixels adds one to one bin of one tile's histogram
+-- and to no other, so that the bins of the nine histograms total w × h.
 use Prim.Native.Nat.{ℕ, suc, _+_, _*_, _/_, _≤_, _<_}
 use native.Mathlib.Omega.{arith}
 use native.Mathlib.Nat.{add-mul, mul-pos, le-div-iff-mul-le, lt-of-not-le}
@@ -65,13 +65,15 @@ counted-whole o luma i h = go (openingFault o) refl h
 pub whole-counted : (o : Opening) (luma : List ℕ) (i : ℕ) → Whole o luma i → i < pictureCount o luma
 unfolding pictureCount
 whole-counted o luma i w =
-    let up : i + 1 ≤ length luma / pictureSize o = le-div-iff-mul-le (size-some o (w .opened)) .1 (omega (arith, w .there, add-mul i 1 (pictureSize o))) in
+    let up : i + 1 ≤ length luma / pictureSize o =
+    le-div-iff-mul-le (size-some o (w .opened)) .1 (omega (arith, w .there, add-mul i 1 (pictureSize o))) in
     rw (w .opened) (least-smaller 750 (length luma / pictureSize o) i (w .few) (omega arith))
 
 pub reduced-length : (o : Opening) (luma : List ℕ) → length (reduced o luma) ≡ pictureCount o luma
 unfolding reduced pictures
 reduced-length o luma =
-    length-map (parts (pictureCount o luma) (pictureSize o) luma) (pixels o) ∙ parts-length (pictureCount o luma) (pictureSize o) luma
+    length-map (parts (pictureCount o luma) (pictureSize o) luma) (pixels o)
+    ∙ parts-length (pictureCount o luma) (pictureSize o) luma
 
 -- the pixels of picture i are those of its W × H bytes
 pub reduced-is : (o : Opening) (luma : List ℕ) (i : ℕ) → i < pictureCount o luma →
@@ -80,7 +82,8 @@ unfolding reduced pictures
 reduced-is o luma i h =
     let n = pictureCount o luma in
     let m = pictureSize o in
-    getD-mapped (pixels o) (parts n m luma) i [] [] (omega (arith, parts-length n m luma)) ∙ ap (pixels o) (part-at n m i luma h)
+    getD-mapped (pixels o) (parts n m luma) i [] [] (omega (arith, parts-length n m luma))
+    ∙ ap (pixels o) (part-at n m i luma h)
 
 -- ---- their histograms
 
@@ -113,14 +116,16 @@ counted o px g h e =
             theBin = one .theBin;
             tile-below = one .tile-below;
             bin-below = one .bin-below;
-            own = pixel-adds o px j (one .theTile) (one .theBin) here (one .tile-below) (one .bin-below) ∙ ap (λ (z : ℕ). otherBin o (one .theTile) (one .theBin) j px + z) (one .own);
+            own = pixel-adds o px j (one .theTile) (one .theBin) here (one .tile-below) (one .bin-below)
+                ∙ ap (λ (z : ℕ). otherBin o (one .theTile) (one .theBin) j px + z) (one .own);
             others = λ t b ht hb k. omega (arith, pixel-adds o px j t b here ht hb, one .others t b k);
           };
       all = histograms-total o px some e h;
     }
 
 -- so of every whole picture
-pub every-picture : (o : Opening) (luma : List ℕ) (i : ℕ) → Bytes luma → Whole o luma i → Counted o (getD (reduced o luma) i [])
+pub every-picture : (o : Opening) (luma : List ℕ) (i : ℕ) → Bytes luma → Whole o luma i →
+    Counted o (getD (reduced o luma) i [])
 unfolding pixelCount
 every-picture o luma i h w =
     let k : i < length (reduced o luma) = omega (arith, reduced-length o luma, whole-counted o luma i w) in

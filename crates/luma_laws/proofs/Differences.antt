@@ -14,7 +14,8 @@ use Rattle.rules.specs.Bytes.{pick, total, smaller, parts, All, empty, and, Byt
 use Rattle.rules.specs.Opening.{columns, lines}
 use Rattle.rules.specs.Pictures.{pictureSize, pictureCount, pictures, pixels}
 use Rattle.rules.specs.Histograms.{inTile, histogram, histograms}
-use Rattle.rules.specs.Cuts.{binsApart, perMillion, tileDifference, tileDifferences, insert, sorted, fifth, difference, leastOfSix, at, cutScore}
+use Rattle.rules.specs.Cuts.{binsApart, perMillion, tileDifference, tileDifferences, insert, sorted, fifth, difference}
+use Rattle.rules.specs.Cuts.{leastOfSix, at, cutScore}
 use Rattle.rules.specs.Seal.{reduced}
 use Rattle.rules.proofs.Laws.Lists.{length-table}
 use Rattle.luma_laws.proofs.Tables.{getD-mapped}
@@ -73,7 +74,8 @@ one-small (d ∷ ds) (suc i) (and h hs) = one-small ds i hs
 
 pub difference-most : (xs ys : List (List ℕ)) → Alike xs ys → difference xs ys ≤ 1000000
 unfolding difference fifth
-difference-most xs ys e = one-small (sorted (tileDifferences xs ys)) 4 (sorted-small (tileDifferences xs ys) (tiles-most xs ys e))
+difference-most xs ys e =
+    one-small (sorted (tileDifferences xs ys)) 4 (sorted-small (tileDifferences xs ys) (tiles-most xs ys e))
 
 -- ---- a cut score
 
@@ -85,7 +87,8 @@ smaller-first a b = go (leb a b) refl
     go false e = omega (arith, leb-false a b e)
 
 -- of histograms of pictures of one sample
-pub score-most : (hs : List (List (List ℕ))) (i : ℕ) → ((j k : ℕ) → j < length hs → k < length hs → Alike (at hs j) (at hs k)) → cutScore hs i ≤ 1000000
+pub score-most : (hs : List (List (List ℕ))) (i : ℕ) →
+    ((j k : ℕ) → j < length hs → k < length hs → Alike (at hs j) (at hs k)) → cutScore hs i ≤ 1000000
 unfolding cutScore leastOfSix
 score-most hs i alike = go (leb 2 i) (ltb (i + 2) (length hs)) refl refl
   where
@@ -95,17 +98,20 @@ score-most hs i alike = go (leb 2 i) (ltb (i + 2) (length hs)) refl refl
     go : (x y : Bool) → leb 2 i ≡ x → ltb (i + 2) (length hs) ≡ y → pick (x && y) s 0 ≤ 1000000
     go true true ex ey =
         let last : i + 2 < length hs = ltb-true (i + 2) (length hs) ey in
-        let first : difference (at hs (i - 2)) (at hs i) ≤ 1000000 = difference-most (at hs (i - 2)) (at hs i) (alike (i - 2) i (omega arith) (omega arith)) in
+        let first : difference (at hs (i - 2)) (at hs i) ≤ 1000000 =
+        difference-most (at hs (i - 2)) (at hs i) (alike (i - 2) i (omega arith) (omega arith)) in
         let a = difference (at hs (i - 2)) (at hs i) in
         let b = smaller (difference (at hs (i - 2)) (at hs (i + 1))) (difference (at hs (i - 2)) (at hs (i + 2))) in
-        let c = smaller (difference (at hs (i - 1)) (at hs i)) (smaller (difference (at hs (i - 1)) (at hs (i + 1))) (difference (at hs (i - 1)) (at hs (i + 2)))) in
+        let c = smaller (difference (at hs (i - 1)) (at hs i))
+        (smaller (difference (at hs (i - 1)) (at hs (i + 1))) (difference (at hs (i - 1)) (at hs (i + 2)))) in
         omega (arith, smaller-first (smaller a b) c, smaller-first a b)
     go true false ex ey = omega arith
     go false y ex ey = omega arith
 
 -- ---- the pictures of one sample
 
-pub alike : (o : Opening) (px py : List ℕ) → Bytes px → Bytes py → length px ≡ length py → Alike (histograms o px) (histograms o py)
+pub alike : (o : Opening) (px py : List ℕ) → Bytes px → Bytes py → length px ≡ length py →
+    Alike (histograms o px) (histograms o py)
 unfolding histograms
 alike o px py bx by e t = go (decLe 9 t)
   where
@@ -127,8 +133,13 @@ unfolding reduced pictures
 reduced-at o luma j h l =
     let ps = parts (pictureCount o luma) (pictureSize o) luma in
     let size : length (map (pixels o) ps) ≡ length ps = length-map ps (pixels o) in
-    let here : getD (map (pixels o) ps) j [] ≡ pixels o (getD ps j []) = getD-mapped (pixels o) ps j [] [] (omega arith) in
-    rw here (pixels-small o (getD ps j []) (all-at ps j (all-parts (pictureCount o luma) (pictureSize o) luma h) (omega arith)), pixels-length o (getD ps j []))
+    let here : getD (map (pixels o) ps) j [] ≡ pixels o (getD ps j []) =
+    getD-mapped (pixels o) ps j [] [] (omega arith) in
+    rw here (
+      pixels-small o (getD ps j [])
+          (all-at ps j (all-parts (pictureCount o luma) (pictureSize o) luma h) (omega arith)),
+      pixels-length o (getD ps j []),
+    )
   where
     all-at : (ps : List (List ℕ)) (j : ℕ) → All Bytes ps → j < length ps → Bytes (getD ps j [])
     all-at [] j empty l = absurd (omega arith)
@@ -136,8 +147,10 @@ reduced-at o luma j h l =
     all-at (p ∷ ps) (suc j) (and h hs) l = all-at ps j hs (omega arith)
 
 -- every cut score of a sample
-pub scores-most : (o : Opening) (luma : List ℕ) (i : ℕ) → Bytes luma → cutScore (map (histograms o) (reduced o luma)) i ≤ 1000000
-scores-most o luma i h = score-most (map (histograms o) (reduced o luma)) i (λ j k lj lk. go j k (omega (arith, size)) (omega (arith, size)))
+pub scores-most : (o : Opening) (luma : List ℕ) (i : ℕ) → Bytes luma →
+    cutScore (map (histograms o) (reduced o luma)) i ≤ 1000000
+scores-most o luma i h = score-most (map (histograms o) (reduced o luma)) i
+    (λ j k lj lk. go j k (omega (arith, size)) (omega (arith, size)))
   where
     size : length (map (histograms o) (reduced o luma)) ≡ length (reduced o luma)
     size = length-map (reduced o luma) (histograms o)
@@ -147,5 +160,8 @@ scores-most o luma i h = score-most (map (histograms o) (reduced o luma)) i (λ 
     go j k lj lk =
         let a = reduced-at o luma j h lj in
         let b = reduced-at o luma k h lk in
-        rw (getD-mapped (histograms o) (reduced o luma) j [] [] lj, getD-mapped (histograms o) (reduced o luma) k [] [] lk)
+        rw (
+          getD-mapped (histograms o) (reduced o luma) j [] [] lj,
+          getD-mapped (histograms o) (reduced o luma) k [] [] lk,
+        )
         (alike o (getD (reduced o luma) j []) (getD (reduced o luma) k []) (a .0) (b .0) (a .1 ∙ sym (b .1)))

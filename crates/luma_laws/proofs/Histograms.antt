@@ -1,4 +1,5 @@
--- Histograms, for any number of pixels: each pixel is counted once, in one bin of one tile, so that the bins total the pixels.
+-- Histograms, for any number of pixels: each pixel is counted once, in one bin of one tile, so
+-- that the bins total the pixels.
 use Prim.Native.Nat.{ℕ, zero, suc, _+_, _*_, _/_, _%_, _≤_, _<_}
 use native.Mathlib.Omega.{arith}
 use native.Mathlib.Nat.{div-lt-iff-lt-mul, mod-lt, mul-comm}
@@ -31,12 +32,14 @@ unfolding total table one
 one-among zero from x h k = absurd (omega arith)
 one-among (suc n) from x h k = go (ℕ-discrete x from) (λ g. one-among n (suc from) x g (omega arith))
   where
-    go : Dec (x ≡ from) → (suc from ≤ x → total (table n (suc from) (one x)) ≡ 1) → pick (eqb x from) 1 0 + total (table n (suc from) (one x)) ≡ 1
+    go : Dec (x ≡ from) → (suc from ≤ x → total (table n (suc from) (one x)) ≡ 1) →
+        pick (eqb x from) 1 0 + total (table n (suc from) (one x)) ≡ 1
     go (yes e) ih = let z = one-below n (suc from) x (omega arith) in rw (eq-eqb x from e) (omega arith)
     go (no e) ih = let z = ih (omega arith) in rw (ne-eqb x from e) (omega arith)
 
 -- a table of sums totals the sums
-table-sum : (n from : ℕ) (f g h : ℕ → ℕ) → ((b : ℕ) → h b ≡ f b + g b) → total (table n from h) ≡ total (table n from f) + total (table n from g)
+table-sum : (n from : ℕ) (f g h : ℕ → ℕ) → ((b : ℕ) → h b ≡ f b + g b) →
+    total (table n from h) ≡ total (table n from f) + total (table n from g)
 unfolding total table
 table-sum zero from f g h e = omega arith
 table-sum (suc n) from f g h e = let k = table-sum n (suc from) f g h e in let z = e from in omega arith
@@ -57,7 +60,8 @@ unfolding histogram inBin count one
 bins-total [] empty = table-zero 16 0 (inBin []) (λ b. refl)
 bins-total (v ∷ vs) (and h hs) =
     table-sum 16 0 (one (bin v)) (inBin vs) (inBin (v ∷ vs)) (λ b. refl)
-    ∙ (let a = one-among 16 0 (bin v) (omega arith) (omega (arith, bin-small v h)) in let b = bins-total vs hs in omega arith)
+    ∙ (let a = one-among 16 0 (bin v) (omega arith) (omega (arith, bin-small v h)) in
+    let b = bins-total vs hs in omega arith)
 
 -- ---- tiles: every place of a picture is in one of the nine
 
@@ -75,11 +79,13 @@ tile-small w h p k g =
     omega arith
 
 -- the tiles' pixels, from place p on
-tiles-from : (w h p : ℕ) (px : List ℕ) → ((q : ℕ) → q < p + length px → tileAt w h q < 9) → total (table 9 0 (λ t. length (inTileFrom w h t p px))) ≡ length px
+tiles-from : (w h p : ℕ) (px : List ℕ) → ((q : ℕ) → q < p + length px → tileAt w h q < 9) →
+    total (table 9 0 (λ t. length (inTileFrom w h t p px))) ≡ length px
 unfolding inTileFrom one
 tiles-from w h p [] k = table-zero 9 0 (λ t. length (inTileFrom w h t p [])) (λ t. refl)
 tiles-from w h p (v ∷ px) k =
-    table-sum 9 0 (one (tileAt w h p)) (λ t. length (inTileFrom w h t (suc p) px)) (λ t. length (inTileFrom w h t p (v ∷ px))) (λ t. split (eqb (tileAt w h p) t) (inTileFrom w h t (suc p) px))
+    table-sum 9 0 (one (tileAt w h p)) (λ t. length (inTileFrom w h t (suc p) px))
+    (λ t. length (inTileFrom w h t p (v ∷ px))) (λ t. split (eqb (tileAt w h p) t) (inTileFrom w h t (suc p) px))
     ∙ (let a = one-among 9 0 (tileAt w h p) (omega arith) (omega (arith, k p (omega arith))) in
     let b = tiles-from w h (suc p) px (λ q g. k q (omega arith)) in
     omega arith)
@@ -88,13 +94,16 @@ tiles-from w h p (v ∷ px) k =
     split true more = omega arith
     split false more = omega arith
 
-pub tiles-total : (o : Opening) (px : List ℕ) → 0 < columns o → length px ≡ columns o * lines o → total (table 9 0 (λ t. length (inTile o t px))) ≡ length px
+pub tiles-total : (o : Opening) (px : List ℕ) → 0 < columns o → length px ≡ columns o * lines o →
+    total (table 9 0 (λ t. length (inTile o t px))) ≡ length px
 unfolding inTile
-tiles-total o px k e = tiles-from (columns o) (lines o) 0 px (λ q g. tile-small (columns o) (lines o) q k (omega arith))
+tiles-total o px k e =
+    tiles-from (columns o) (lines o) 0 px (λ q g. tile-small (columns o) (lines o) q k (omega arith))
 
 -- ---- both: the bins of a picture's nine histograms total its pixels
 
-pub in-tile : (w h t p : ℕ) (px : List ℕ) → All (λ (v : ℕ). v < 256) px → All (λ (v : ℕ). v < 256) (inTileFrom w h t p px)
+pub in-tile : (w h t p : ℕ) (px : List ℕ) → All (λ (v : ℕ). v < 256) px →
+    All (λ (v : ℕ). v < 256) (inTileFrom w h t p px)
 unfolding inTileFrom
 in-tile w h t p [] empty = empty
 in-tile w h t p (v ∷ px) (and k ks) = go (eqb (tileAt w h p) t) (in-tile w h t (suc p) px ks)
@@ -103,12 +112,14 @@ in-tile w h t p (v ∷ px) (and k ks) = go (eqb (tileAt w h p) t) (in-tile w h t
     go true r = and k r
     go false r = r
 
-totals : (n from : ℕ) (f : ℕ → List ℕ) (g : ℕ → ℕ) → ((t : ℕ) → total (f t) ≡ g t) → total (map total (table n from f)) ≡ total (table n from g)
+totals : (n from : ℕ) (f : ℕ → List ℕ) (g : ℕ → ℕ) → ((t : ℕ) → total (f t) ≡ g t) →
+    total (map total (table n from f)) ≡ total (table n from g)
 unfolding total table
 totals zero from f g e = refl
 totals (suc n) from f g e = let k = totals n (suc from) f g e in let z = e from in omega arith
 
-pub histograms-total : (o : Opening) (px : List ℕ) → 0 < columns o → length px ≡ columns o * lines o → All (λ (v : ℕ). v < 256) px →
+pub histograms-total : (o : Opening) (px : List ℕ) → 0 < columns o → length px ≡ columns o * lines o →
+    All (λ (v : ℕ). v < 256) px →
     total (map total (histograms o px)) ≡ columns o * lines o
 unfolding histograms inTile
 histograms-total o px k e small =

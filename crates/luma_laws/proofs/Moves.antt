@@ -1,5 +1,6 @@
--- What moves from one picture to the next, as tallies over the new picture's pixels. A pixel's difference e, the new one less the old one, is signed: it is
--- `rise` where it is positive and `- fall` where it is negative, and one of the two is 0.
+-- What moves from one picture to the next, as tallies over the new picture's pixels. A pixel's difference e,
+-- the new one less the old one, is signed: it is `rise` where it is positive and `- fall` where it is
+-- negative, and one of the two is 0.
 use Prim.Native.Nat.{ℕ, zero, suc, _+_, _-_, _*_, _≤_, _<_}
 use native.Mathlib.Omega.{arith}
 use native.Mathlib.Nat.{mul-suc, suc-add, mul-le-mul, mul-pos}
@@ -17,7 +18,8 @@ use Rattle.luma_laws.proofs.Tally.{tally-shift}
 -- ---- bounds, so that 32 bits hold each of the three
 
 -- bytes that give at most k each
-bytes-most : (f : ℕ → ℕ → ℕ) (k q : ℕ) (t : List ℕ) → Bytes t → ((i v : ℕ) → v < 256 → f i v ≤ k) → tally f q t ≤ k * length t
+bytes-most : (f : ℕ → ℕ → ℕ) (k q : ℕ) (t : List ℕ) → Bytes t → ((i v : ℕ) → v < 256 → f i v ≤ k) →
+    tally f q t ≤ k * length t
 unfolding tally
 bytes-most f k q [] empty h = omega arith
 bytes-most f k q (v ∷ t) (and b bs) h = omega (arith, h q v b, bytes-most f k (suc q) t bs h, mul-suc k (length t))
@@ -43,8 +45,10 @@ squared-most old new g h =
 -- ---- the rule's sums are these tallies
 
 -- the pictures without their first pixels
-behind : (g : ℕ → ℕ → ℕ) (x q : ℕ) (xs t : List ℕ) → tally (λ i v. g (getD (x ∷ xs) i 0) v) (suc q) t ≡ tally (λ i v. g (getD xs i 0) v) q t
-behind g x q xs t = tally-shift (λ i v. g (getD (x ∷ xs) i 0) v) (λ i v. g (getD xs i 0) v) (suc q) q t (λ j v k. rw (suc-add q j))
+behind : (g : ℕ → ℕ → ℕ) (x q : ℕ) (xs t : List ℕ) →
+    tally (λ i v. g (getD (x ∷ xs) i 0) v) (suc q) t ≡ tally (λ i v. g (getD xs i 0) v) q t
+behind g x q xs t =
+    tally-shift (λ i v. g (getD (x ∷ xs) i 0) v) (λ i v. g (getD xs i 0) v) (suc q) q t (λ j v k. rw (suc-add q j))
 
 pub squares-are : (old new : List ℕ) → length new ≤ length old → squares old new ≡ squared old new
 unfolding squares tally
@@ -65,12 +69,14 @@ totals-are (x ∷ xs) [] h = absurd (omega arith)
 totals-are (x ∷ xs) (y ∷ ys) h =
     omega (arith, totals-are xs ys (omega arith), behind (λ a v. v - a) x 0 xs ys, behind (λ a v. a - v) x 0 xs ys)
 
-pub apart-are : (old new : List ℕ) → length old ≡ length new → apart (total old) (total new) ≡ apart (ups old new) (downs old new)
+pub apart-are : (old new : List ℕ) → length old ≡ length new →
+    apart (total old) (total new) ≡ apart (ups old new) (downs old new)
 apart-are old new h = omega (arith, totals-are old new h)
 
 -- V
 pub spread-are : (old new : List ℕ) → length old ≡ length new →
-    spread old new ≡ length new * squared old new - apart (ups old new) (downs old new) * apart (ups old new) (downs old new)
+    spread old new
+    ≡ length new * squared old new - apart (ups old new) (downs old new) * apart (ups old new) (downs old new)
 unfolding spread
 spread-are old new h = rw (squares-are old new (omega arith), apart-are old new h)
 
@@ -82,7 +88,8 @@ same-squares [] (y ∷ ys) h = absurd (omega arith)
 same-squares (x ∷ xs) [] h = absurd (omega arith)
 same-squares (x ∷ xs) (y ∷ ys) h = go (eqb x y) refl (same-squares xs ys (omega arith))
   where
-    go : (b : Bool) → eqb x y ≡ b → same xs ys ≡ eqb (squares xs ys) 0 → b && same xs ys ≡ eqb (apart x y * apart x y + squares xs ys) 0
+    go : (b : Bool) → eqb x y ≡ b → same xs ys ≡ eqb (squares xs ys) 0 →
+        b && same xs ys ≡ eqb (apart x y * apart x y + squares xs ys) 0
     go true e s =
         let empty : apart x y ≡ 0 = omega (arith, eqb-true x y e) in
         let rest : apart x y * apart x y + squares xs ys ≡ squares xs ys = rw empty (omega arith) in

@@ -1,12 +1,14 @@
 -- A picture more.
 use Prim.Native.Nat.{ℕ, zero, suc, _+_, _-_, _*_, _/_, _%_, _^_, _≤_, _<_}
 use native.Mathlib.Omega.{arith}
-use native.Mathlib.Nat.{suc-mul, pow-le-pow-right, pow-suc, zero-div, div-one, lt-of-not-le, mul-comm, div-eq-of-lt-le, div-div-eq-div-mul, add-mul}
+use native.Mathlib.Nat.{suc-mul, pow-le-pow-right, pow-suc, zero-div, div-one, lt-of-not-le, mul-comm, div-eq-of-lt-le}
+use native.Mathlib.Nat.{div-div-eq-div-mul, add-mul}
 use native.Mathlib.Decide.{decLe}
 use mathlib.Core.Path.{_≡_, refl, sym, ap, _∙_}
 use mathlib.Core.List.{List, [], _∷_, _++_, map}
 use mathlib.Core.Bool.{Bool, true, false, not}
-use lib.ListN.{length, getD, take, drop, length-append, length-drop, length-take, List·getD-append, List·getD-eq-default}
+use lib.ListN.{length, getD, take, drop, length-append, length-drop, length-take, List·getD-append}
+use lib.ListN.{List·getD-eq-default}
 use lib.Seq.{getD-take, getD-drop, take-all, take-append-le, drop-append-le, getD-append-seam}
 use borrow.Author.Tests.{le-leb, lt-leb, lt-ltb, le-ltb}
 use Rattle.rules.specs.declared.Opening.{Opening}
@@ -45,7 +47,8 @@ parts-append (suc n) m s t e =
     rw (take-append-le m s t (omega arith), drop-append-le m s t (omega arith))
     (ap (λ (x : List (List ℕ)). take m s ∷ x) (parts-append n m (drop m s) t (simp length-drop (omega arith))))
 
-pub parts-more : (n m : ℕ) (s t : List ℕ) → length s ≡ n * m → length t ≡ m → parts (suc n) m (s ++ t) ≡ parts n m s ++ t ∷ []
+pub parts-more : (n m : ℕ) (s t : List ℕ) → length s ≡ n * m → length t ≡ m →
+    parts (suc n) m (s ++ t) ≡ parts n m s ++ t ∷ []
 unfolding parts
 parts-more zero m [] t e k = rw (take-all m t (omega arith))
 parts-more zero m (x ∷ s) t e k = absurd (omega arith)
@@ -56,7 +59,8 @@ parts-more (suc n) m s t e k =
 
 -- ---- the whole pictures of a string of whole pictures and a rest
 
-pub count-whole : (o : Opening) (n : ℕ) (whole cur : List ℕ) → openingFault o ≡ none → length whole ≡ n * pictureSize o → length cur < pictureSize o → n ≤ 750 →
+pub count-whole : (o : Opening) (n : ℕ) (whole cur : List ℕ) → openingFault o ≡ none →
+    length whole ≡ n * pictureSize o → length cur < pictureSize o → n ≤ 750 →
     pictureCount o (whole ++ cur) ≡ n
 unfolding pictureCount
 count-whole o n whole cur f e k h =
@@ -73,26 +77,32 @@ count-whole o n whole cur f e k h =
         go (yes k) = rw (le-leb 750 n k) (omega arith)
         go (no k) = rw (lt-leb 750 n (lt-of-not-le k))
 
-pub reduced-whole : (o : Opening) (n : ℕ) (whole cur : List ℕ) → openingFault o ≡ none → length whole ≡ n * pictureSize o → length cur < pictureSize o → n ≤ 750 →
+pub reduced-whole : (o : Opening) (n : ℕ) (whole cur : List ℕ) → openingFault o ≡ none →
+    length whole ≡ n * pictureSize o → length cur < pictureSize o → n ≤ 750 →
     reduced o (whole ++ cur) ≡ map (pixels o) (parts n (pictureSize o) whole)
 unfolding reduced pictures
-reduced-whole o n whole cur f e k h = rw (count-whole o n whole cur f e k h, parts-append n (pictureSize o) whole cur e)
+reduced-whole o n whole cur f e k h =
+    rw (count-whole o n whole cur f e k h, parts-append n (pictureSize o) whole cur e)
 
 module _ {A B : Type 0} where
   pub map-append : (f : A → B) (xs ys : List A) → map f (xs ++ ys) ≡ map f xs ++ map f ys
   map-append f [] ys = refl
   map-append f (x ∷ xs) ys = ap (λ (z : List B). f x ∷ z) (map-append f xs ys)
 
-pub reduced-more : (o : Opening) (n : ℕ) (whole cur : List ℕ) → length whole ≡ n * pictureSize o → length cur ≡ pictureSize o →
-    map (pixels o) (parts (n + 1) (pictureSize o) (whole ++ cur)) ≡ map (pixels o) (parts n (pictureSize o) whole) ++ pixels o cur ∷ []
+pub reduced-more : (o : Opening) (n : ℕ) (whole cur : List ℕ) → length whole ≡ n * pictureSize o →
+    length cur ≡ pictureSize o →
+    map (pixels o) (parts (n + 1) (pictureSize o) (whole ++ cur))
+    ≡ map (pixels o) (parts n (pictureSize o) whole) ++ pixels o cur ∷ []
 reduced-more o n whole cur e k =
     let s : n + 1 ≡ suc n = omega arith in
-    rw (s, parts-more n (pictureSize o) whole cur e k) (map-append (pixels o) (parts n (pictureSize o) whole) (cur ∷ []))
+    rw (s, parts-more n (pictureSize o) whole cur e k)
+    (map-append (pixels o) (parts n (pictureSize o) whole) (cur ∷ []))
 
 -- ---- cut scores
 
 -- those that are settled, and those that are not yet, stay as they are
-pub score-other : (hs : List (List (List ℕ))) (x : List (List ℕ)) (i : ℕ) → (2 ≤ i → i + 2 ≡ length hs → ⊥) → cutScore (hs ++ x ∷ []) i ≡ cutScore hs i
+pub score-other : (hs : List (List (List ℕ))) (x : List (List ℕ)) (i : ℕ) → (2 ≤ i → i + 2 ≡ length hs → ⊥) →
+    cutScore (hs ++ x ∷ []) i ≡ cutScore hs i
 unfolding cutScore
 score-other hs x i h = go (decLe 2 i) (decLe (i + 3) (length hs))
   where
@@ -114,7 +124,11 @@ score-other hs x i h = go (decLe 2 i) (decLe (i + 3) (length hs))
         )
     go (yes g) (no d) =
         let far : length hs < i + 2 = omega (arith, lt-of-not-le d, h g) in
-        rw (le-leb 2 i g, le-ltb (i + 2) (length (hs ++ x ∷ [])) (omega (arith, more)), le-ltb (i + 2) (length hs) (omega arith))
+        rw (
+          le-leb 2 i g,
+          le-ltb (i + 2) (length (hs ++ x ∷ [])) (omega (arith, more)),
+          le-ltb (i + 2) (length hs) (omega arith),
+        )
 
 -- the one that a picture more settles
 score-six : (hs : List (List (List ℕ))) (x : List (List ℕ)) (i : ℕ) → 2 ≤ i → i + 2 ≡ length hs →
@@ -148,7 +162,8 @@ unfolding cutScore
 score-none hs i h = rw (lt-leb 2 i h)
 
 pub next-some : (hs : List (List (List ℕ))) (x : List (List ℕ)) → 4 ≤ length hs →
-    nextScore hs x ≡ leastOfSix (at hs (length hs - 4)) (at hs (length hs - 3)) (at hs (length hs - 2)) (at hs (length hs - 1)) x
+    nextScore hs x
+    ≡ leastOfSix (at hs (length hs - 4)) (at hs (length hs - 3)) (at hs (length hs - 2)) (at hs (length hs - 1)) x
 unfolding nextScore
 next-some hs x h = rw (le-leb 4 (length hs) h)
 
@@ -156,7 +171,8 @@ pub next-none : (hs : List (List (List ℕ))) (x : List (List ℕ)) → length h
 unfolding nextScore
 next-none hs x h = rw (lt-leb 4 (length hs) h)
 
-pub score-next : (hs : List (List (List ℕ))) (x : List (List ℕ)) (i : ℕ) → i + 2 ≡ length hs → cutScore (hs ++ x ∷ []) i ≡ nextScore hs x
+pub score-next : (hs : List (List (List ℕ))) (x : List (List ℕ)) (i : ℕ) → i + 2 ≡ length hs →
+    cutScore (hs ++ x ∷ []) i ≡ nextScore hs x
 score-next hs x i e = go (decLe 2 i)
   where
     go : Dec (2 ≤ i) → cutScore (hs ++ x ∷ []) i ≡ nextScore hs x
@@ -184,7 +200,8 @@ unfolding previous lastFrom
 previous-at [] h = absurd (omega arith)
 previous-at (p ∷ pxs) h = let e : suc (length pxs) - 1 ≡ length pxs = omega arith in rw e (at-last p pxs)
 
-repeats-after : (b : List ℕ) (pxs : List (List ℕ)) (px : List ℕ) → repeatsAfter b (pxs ++ px ∷ []) ≡ repeatsAfter b pxs ++ same (lastFrom b pxs) px ∷ []
+repeats-after : (b : List ℕ) (pxs : List (List ℕ)) (px : List ℕ) →
+    repeatsAfter b (pxs ++ px ∷ []) ≡ repeatsAfter b pxs ++ same (lastFrom b pxs) px ∷ []
 unfolding repeatsAfter lastFrom
 repeats-after b [] px = refl
 repeats-after b (p ∷ pxs) px = ap (λ (x : List Bool). same b p ∷ x) (repeats-after p pxs px)
@@ -195,7 +212,8 @@ unfolding changesAfter lastFrom
 changes-after rounds b [] px = refl
 changes-after rounds b (p ∷ pxs) px = ap (λ (x : List ℕ). change rounds b p ∷ x) (changes-after rounds p pxs px)
 
-pub repeats-more : (pxs : List (List ℕ)) (px : List ℕ) → repeats (pxs ++ px ∷ []) ≡ repeats pxs ++ nextRepeat pxs px ∷ []
+pub repeats-more : (pxs : List (List ℕ)) (px : List ℕ) →
+    repeats (pxs ++ px ∷ []) ≡ repeats pxs ++ nextRepeat pxs px ∷ []
 unfolding repeats repeatsAfter nextRepeat previous lastFrom
 repeats-more [] px = refl
 repeats-more (p ∷ pxs) px = ap (λ (x : List Bool). false ∷ x) (repeats-after p pxs px)
@@ -228,9 +246,11 @@ length-changes rounds [] = refl
 length-changes rounds (p ∷ pxs) = ap suc (length-changes-after rounds p pxs)
 
 -- pictures that are not repeated
-pub fresh-more : (pxs : List (List ℕ)) (px : List ℕ) → count not (repeats (pxs ++ px ∷ [])) ≡ count not (repeats pxs) + pick (nextRepeat pxs px) 0 1
+pub fresh-more : (pxs : List (List ℕ)) (px : List ℕ) →
+    count not (repeats (pxs ++ px ∷ [])) ≡ count not (repeats pxs) + pick (nextRepeat pxs px) 0 1
 unfolding count
-fresh-more pxs px = rw (repeats-more pxs px, count-append not (repeats pxs) (nextRepeat pxs px ∷ [])) (ap (λ (x : ℕ). count not (repeats pxs) + x) (one (nextRepeat pxs px)))
+fresh-more pxs px = rw (repeats-more pxs px, count-append not (repeats pxs) (nextRepeat pxs px ∷ []))
+    (ap (λ (x : ℕ). count not (repeats pxs) + x) (one (nextRepeat pxs px)))
   where
     one : (b : Bool) → pick (not b) 1 0 + 0 ≡ pick b 0 1
     one true = refl
@@ -244,24 +264,32 @@ ones-more [] true = refl
 ones-more [] false = refl
 ones-more (c ∷ bs) b =
     let k = ones-more bs b in
-    let e : 2 ^ suc (length bs) * pick b 1 0 ≡ 2 * (2 ^ length bs * pick b 1 0) = rw (pow-suc 2 (length bs)) (double (2 ^ length bs) (pick b 1 0)) in
+    let e : 2 ^ suc (length bs) * pick b 1 0 ≡ 2 * (2 ^ length bs * pick b 1 0) =
+    rw (pow-suc 2 (length bs)) (double (2 ^ length bs) (pick b 1 0)) in
     omega arith
   where
     double : (x y : ℕ) → x * 2 * y ≡ 2 * (x * y)
     double x y = rw (mul-comm x 2) (native.Mathlib.Nat.mul-assoc 2 x y)
 
 -- a bit more: the word that it stands in grows by its power
-pub word-more : (bs : List Bool) (b : Bool) → mapWord (bs ++ b ∷ []) (length bs / 64) ≡ mapWord bs (length bs / 64) + 2 ^ (length bs % 64) * pick b 1 0
+pub word-more : (bs : List Bool) (b : Bool) →
+    mapWord (bs ++ b ∷ []) (length bs / 64) ≡ mapWord bs (length bs / 64) + 2 ^ (length bs % 64) * pick b 1 0
 unfolding mapWord
 word-more bs b =
     let j = length bs / 64 in
     let d : length (drop (64 * j) bs) ≡ length bs % 64 = length-drop (64 * j) bs ∙ omega arith in
     let few : length (drop (64 * j) bs) ≤ 64 = omega arith in
     let few2 : length (drop (64 * j) bs ++ b ∷ []) ≤ 64 = simp length-append (omega arith) in
-    rw (drop-append-le (64 * j) bs (b ∷ []) (omega arith), take-all 64 (drop (64 * j) bs ++ b ∷ []) few2, take-all 64 (drop (64 * j) bs) few, ← d) (ones-more (drop (64 * j) bs) b)
+    rw (
+      drop-append-le (64 * j) bs (b ∷ []) (omega arith),
+      take-all 64 (drop (64 * j) bs ++ b ∷ []) few2,
+      take-all 64 (drop (64 * j) bs) few,
+      ← d,
+    ) (ones-more (drop (64 * j) bs) b)
 
 -- the other words stay
-pub word-other : (bs : List Bool) (b : Bool) (j : ℕ) → (j ≡ length bs / 64 → ⊥) → mapWord (bs ++ b ∷ []) j ≡ mapWord bs j
+pub word-other : (bs : List Bool) (b : Bool) (j : ℕ) → (j ≡ length bs / 64 → ⊥) →
+    mapWord (bs ++ b ∷ []) j ≡ mapWord bs j
 unfolding mapWord
 word-other bs b j h = go (decLe (64 * j) (length bs))
   where
@@ -271,7 +299,10 @@ word-other bs b j h = go (decLe (64 * j) (length bs))
         rw (drop-append-le (64 * j) bs (b ∷ []) k, take-append-le 64 (drop (64 * j) bs) (b ∷ []) full)
     go (no k) =
         let far : length (bs ++ b ∷ []) ≤ 64 * j = simp length-append (omega (arith, lt-of-not-le k)) in
-        rw (lib.ListN.drop-of-length-le (bs ++ b ∷ []) {i = 64 * j} far, lib.ListN.drop-of-length-le bs {i = 64 * j} (omega (arith, lt-of-not-le k)))
+        rw (
+          lib.ListN.drop-of-length-le (bs ++ b ∷ []) {i = 64 * j} far,
+          lib.ListN.drop-of-length-le bs {i = 64 * j} (omega (arith, lt-of-not-le k)),
+        )
 
 -- ---- reading the map
 
@@ -297,7 +328,8 @@ word-bit bs i =
     let k = i % 64 in
     let here : 64 * j + k ≡ i = omega arith in
     let same : getD (take 64 (drop (64 * j) bs)) k false ≡ getD bs i false =
-    getD-take 64 (drop (64 * j) bs) k false (omega arith) ∙ getD-drop (64 * j) bs k false ∙ ap (λ (x : ℕ). getD bs x false) here in
+    getD-take 64 (drop (64 * j) bs) k false (omega arith) ∙ getD-drop (64 * j) bs k false
+    ∙ ap (λ (x : ℕ). getD bs x false) here in
     ones-bit (take 64 (drop (64 * j) bs)) k ∙ ap (λ (b : Bool). pick b 1 0) same
 
 -- a word is one

@@ -3,7 +3,8 @@ use Prim.Native.Nat.{ℕ, zero, suc, _*_, _^_, _≤_, _<_}
 use native.Mathlib.Omega.{arith}
 use native.Mathlib.Decide.{decLe}
 use borrow.Author.Tests.{lt-ltb, le-ltb}
-use native.Mathlib.Nat.{lt-of-not-le, div-lt-iff-lt-mul, mul-comm, suc-mul, zero-mul, pow-suc, mul-left-comm, mul-mul-mul-comm}
+use native.Mathlib.Nat.{lt-of-not-le, div-lt-iff-lt-mul, mul-comm, suc-mul, zero-mul, pow-suc, mul-left-comm}
+use native.Mathlib.Nat.{mul-mul-mul-comm}
 use mathlib.Core.Path.{_≡_, refl, sym, _∙_}
 use mathlib.Core.List.{List, [], _∷_, _++_, map}
 use lib.ListN.{length, take, drop, length-append}
@@ -16,7 +17,8 @@ use Rattle.rules.proofs.Laws.Lists.{all-drop, length-table}
 
 -- ---- how many
 
-lines-length : (n from m : ℕ) (f : ℕ → List ℕ) → ((i : ℕ) → length (f i) ≡ m) → length (endToEnd (table n from f)) ≡ n * m
+lines-length : (n from m : ℕ) (f : ℕ → List ℕ) → ((i : ℕ) → length (f i) ≡ m) →
+    length (endToEnd (table n from f)) ≡ n * m
 unfolding endToEnd table
 lines-length zero from m f e = sym (zero-mul m)
 lines-length (suc n) from m f e =
@@ -27,7 +29,8 @@ lines-length (suc n) from m f e =
 pub pixels-length : (o : Opening) (picture : List ℕ) → length (pixels o picture) ≡ columns o * lines o
 unfolding pixels pixelLine
 pixels-length o picture =
-    lines-length (lines o) 0 (columns o) (λ r. pixelLine o (band o picture r)) (λ r. length-table (columns o) 0 (pixelIn o (band o picture r)))
+    lines-length (lines o) 0 (columns o) (λ r. pixelLine o (band o picture r))
+    (λ r. length-table (columns o) 0 (pixelIn o (band o picture r)))
     ∙ mul-comm (lines o) (columns o)
 
 -- ---- how large
@@ -59,7 +62,8 @@ all-parts zero m s h = empty
 all-parts (suc n) m s h = and (bytes-take m s h) (all-parts n m (drop m s) (bytes-drop m s h))
 
 -- n rows of m bytes of a block
-block-small : (n m j : ℕ) (rs : List (List ℕ)) → All Bytes rs → total (map (λ (row : List ℕ). total (take m (drop j row))) (take n rs)) ≤ n * (255 * m)
+block-small : (n m j : ℕ) (rs : List (List ℕ)) → All Bytes rs →
+    total (map (λ (row : List ℕ). total (take m (drop j row))) (take n rs)) ≤ n * (255 * m)
 unfolding total
 block-small zero m j rs h = omega arith
 block-small (suc n) m j [] empty = omega arith
@@ -82,10 +86,13 @@ unfolding pixelIn blockSum band rows area side
 pixel-small o picture h r c =
     let k = level o in
     let rs = drop (r * 2 ^ k) (parts (o .height) (o .width) picture) in
-    let a = block-small (2 ^ k) (2 ^ k) (c * 2 ^ k) rs (all-drop (r * 2 ^ k) (all-parts (o .height) (o .width) picture h)) in
+    let a =
+    block-small (2 ^ k) (2 ^ k) (c * 2 ^ k) rs (all-drop (r * 2 ^ k) (all-parts (o .height) (o .width) picture h)) in
     let p = some k in
     let e : 2 ^ k * (255 * 2 ^ k) ≡ 255 * 4 ^ k = rw (four k) (mul-left-comm (2 ^ k) 255 (2 ^ k)) in
-    div-lt-iff-lt-mul {k = 4 ^ k} {x = total (map (λ (row : List ℕ). total (take (2 ^ k) (drop (c * 2 ^ k) row))) (take (2 ^ k) rs))} {y = 256} p .1 (omega arith)
+    div-lt-iff-lt-mul {k = 4 ^ k}
+    {x = total (map (λ (row : List ℕ). total (take (2 ^ k) (drop (c * 2 ^ k) row))) (take (2 ^ k) rs))}
+    {y = 256} p .1 (omega arith)
 
 all-table : (n from : ℕ) (f : ℕ → ℕ) → ((i : ℕ) → f i < 256) → Bytes (table n from f)
 unfolding table
@@ -95,11 +102,13 @@ all-table (suc n) from f e = and (e from) (all-table n (suc from) f e)
 all-lines : (n from : ℕ) (f : ℕ → List ℕ) → ((i : ℕ) → Bytes (f i)) → Bytes (endToEnd (table n from f))
 unfolding table endToEnd
 all-lines zero from f e = empty
-all-lines (suc n) from f e = bytes-append (f from) (endToEnd (table n (suc from) f)) (e from) (all-lines n (suc from) f e)
+all-lines (suc n) from f e =
+    bytes-append (f from) (endToEnd (table n (suc from) f)) (e from) (all-lines n (suc from) f e)
 
 pub pixels-small : (o : Opening) (picture : List ℕ) → Bytes picture → Bytes (pixels o picture)
 unfolding pixels pixelLine
-pixels-small o picture h = all-lines (lines o) 0 (λ r. pixelLine o (band o picture r)) (λ r. all-table (columns o) 0 (pixelIn o (band o picture r)) (pixel-small o picture h r))
+pixels-small o picture h = all-lines (lines o) 0 (λ r. pixelLine o (band o picture r))
+    (λ r. all-table (columns o) 0 (pixelIn o (band o picture r)) (pixel-small o picture h r))
 
 -- ---- refusal 10 stays
 
@@ -113,5 +122,6 @@ luma-kept o s t k p h = go (decLe (length s) (750 * pictureSize o))
         let z : _≡_ {A = ℕ} 0 1 = cc in
         absurd (omega arith)
     go (no g) =
-        let e : fault 10 (750 * pictureSize o) ≡ fault k p = rw (lt-ltb (750 * pictureSize o) (length s) (lt-of-not-le g)) at h in
+        let e : fault 10 (750 * pictureSize o) ≡ fault k p =
+        rw (lt-ltb (750 * pictureSize o) (length s) (lt-of-not-le g)) at h in
         rw (lt-ltb (750 * pictureSize o) (length (s ++ t)) (simp length-append (omega (arith, lt-of-not-le g)))) e

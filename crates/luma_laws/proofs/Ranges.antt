@@ -47,7 +47,8 @@ module _ (o : Opening) (luma : List ℕ) (bytes : Bytes luma) where
   pub sample-scored : All (AtMost 1000000) (cutScores (map (histograms o) (reduced o luma)))
   sample-scored =
       let hs = map (histograms o) (reduced o luma) in
-      all-of 0 (cutScores hs) (λ j g. rw (score-at hs j (omega (arith, scores-length hs))) (scores-most o luma j bytes))
+      all-of 0 (cutScores hs)
+      (λ j g. rw (score-at hs j (omega (arith, scores-length hs))) (scores-most o luma j bytes))
 
   pub sample-changed : (rounds : Bool) → openingFault o ≡ none → All (AtMost 25500) (changes rounds (reduced o luma))
   unfolding pixelCount

@@ -1,4 +1,5 @@
--- Scenes: the starts rise from 0 and lie apart, the scenes join without gap and total the pictures, and a sample has at most 250 of them.
+-- Scenes: the starts rise from 0 and lie apart, the scenes join without gap and total the pictures, and a sample has
+-- at most 250 of them.
 use Prim.Native.Nat.{ℕ, zero, suc, _+_, _-_, _*_, _/_, _≤_, _<_}
 use native.Mathlib.Omega.{arith}
 use native.Mathlib.Nat.{mul-le-mul, mul-suc, zero-add}
@@ -41,13 +42,16 @@ pub start-cut : (d : ℕ) (ss : List ℕ) (b i : ℕ) → isStart d ss b i ≡ t
 unfolding isStart startsScene
 start-cut d ss b i e = ltb-true 1000 (getD ss i 0) (both (leb 600000 ((i - b) * d)) _ (both _ _ e .0) .1)
 
-module _ (d : ℕ) (ss : List ℕ) (m end : ℕ) (long : (n : ℕ) → 600000 ≤ n * d → m ≤ n) (cut : (i : ℕ) → 1000 < getD ss i 0 → i < end) where
+module _ (d : ℕ) (ss : List ℕ) (m end : ℕ) (long : (n : ℕ) → 600000 ≤ n * d → m ≤ n)
+    (cut : (i : ℕ) → 1000 < getD ss i 0 → i < end) where
   pub starts-apart : (n b i : ℕ) → b ≤ i → Apart m end b (startsFrom d ss n b i)
   unfolding startsFrom
   starts-apart zero b i h = last
-  starts-apart (suc n) b i h = go (isStart d ss b i) refl (starts-apart n i (suc i) (omega arith)) (starts-apart n b (suc i) (omega arith))
+  starts-apart (suc n) b i h =
+      go (isStart d ss b i) refl (starts-apart n i (suc i) (omega arith)) (starts-apart n b (suc i) (omega arith))
     where
-      go : (t : Bool) → isStart d ss b i ≡ t → Apart m end i (startsFrom d ss n i (suc i)) → Apart m end b (startsFrom d ss n b (suc i)) →
+      go : (t : Bool) → isStart d ss b i ≡ t → Apart m end i (startsFrom d ss n i (suc i)) →
+          Apart m end b (startsFrom d ss n b (suc i)) →
           Apart m end b (pick t (i ∷ startsFrom d ss n i (suc i)) (startsFrom d ss n b (suc i)))
       go true e f g =
           let a = long (i - b) (start-long d ss b i e) in
@@ -84,7 +88,8 @@ Joins n from [] = from ≡ n
 Joins n from (r ∷ rs) = (r .first ≡ from) × (1 ≤ r .pictures) × Joins n (from + r .pictures) rs
 
 module _ (ss : List ℕ) (rs : List Bool) (qs : List ℕ) where
-  scenes-follow : {m b : ℕ} {is : List ℕ} → 1 ≤ m → b < length ss → Apart m (length ss) b is → Joins (length ss) b (scenesAt ss rs qs (b ∷ is))
+  scenes-follow : {m b : ℕ} {is : List ℕ} → 1 ≤ m → b < length ss → Apart m (length ss) b is →
+      Joins (length ss) b (scenesAt ss rs qs (b ∷ is))
   unfolding scenesAt sceneOf
   scenes-follow {m} {b} h k last = (refl, omega arith, omega arith)
   scenes-follow {m} {b} h k (next {i} {is} g e r) =
@@ -104,7 +109,8 @@ starts-first d [] h = absurd (omega arith)
 starts-first d (s ∷ ss) h = let e : suc (length ss) - 1 ≡ length ss = omega arith in rw e
 
 -- the scenes of pictures start at 0, join without gap and total the pictures
-pub scenes-join : (d : ℕ) (ss : List ℕ) (rs : List Bool) (qs : List ℕ) → 1 ≤ length ss → Joins (length ss) 0 (scenesOf d ss rs qs)
+pub scenes-join : (d : ℕ) (ss : List ℕ) (rs : List Bool) (qs : List ℕ) → 1 ≤ length ss →
+    Joins (length ss) 0 (scenesOf d ss rs qs)
 unfolding scenesOf starts
 scenes-join d [] rs qs h = absurd (omega arith)
 scenes-join d (s ∷ ss) rs qs h =
@@ -149,13 +155,16 @@ cut-inside hs i h =
     omega arith
 
 -- the starts behind 0 of pictures with these histograms
-pub starts-inside : (d : ℕ) (hs : List (List (List ℕ))) → d ≤ 200000 → (n : ℕ) → Apart 3 (length hs - 2) 0 (startsFrom d (cutScores hs) n 0 1)
-starts-inside d hs h n = starts-apart d (cutScores hs) 3 (length hs - 2) (three d h) (cut-inside hs) n 0 1 (omega arith)
+pub starts-inside : (d : ℕ) (hs : List (List (List ℕ))) → d ≤ 200000 → (n : ℕ) →
+    Apart 3 (length hs - 2) 0 (startsFrom d (cutScores hs) n 0 1)
+starts-inside d hs h n =
+    starts-apart d (cutScores hs) 3 (length hs - 2) (three d h) (cut-inside hs) n 0 1 (omega arith)
 
 pub scenes-few : (d : ℕ) (hs : List (List (List ℕ))) (rs : List Bool) (qs : List ℕ) → d ≤ 200000 → length hs ≤ 750 →
     length (scenesOf d (cutScores hs) rs qs) ≤ 250
 unfolding scenesOf starts
-scenes-few d hs rs qs h k = rw (scenes-length (cutScores hs) rs qs (starts d (cutScores hs))) (go (cutScores hs) (starts-inside d hs h))
+scenes-few d hs rs qs h k =
+    rw (scenes-length (cutScores hs) rs qs (starts d (cutScores hs))) (go (cutScores hs) (starts-inside d hs h))
   where
     go : (ss : List ℕ) → ((n : ℕ) → Apart 3 (length hs - 2) 0 (startsFrom d ss n 0 1)) → length (starts d ss) ≤ 250
     go [] f = omega arith
@@ -167,7 +176,8 @@ pub pictures-most : (o : Opening) (luma : List ℕ) → pictureCount o luma ≤ 
 unfolding pictureCount
 pictures-most o luma = go (openingFault o) (decLe 750 (length luma / pictureSize o))
   where
-    go : (f : Fault) → Dec (750 ≤ length luma / pictureSize o) → ifOpened f (smaller 750 (length luma / pictureSize o)) ≤ 750
+    go : (f : Fault) → Dec (750 ≤ length luma / pictureSize o) →
+        ifOpened f (smaller 750 (length luma / pictureSize o)) ≤ 750
     go none (yes h) = rw (le-leb 750 (length luma / pictureSize o) h) (omega arith)
     go none (no h) = rw (lt-leb 750 (length luma / pictureSize o) (omega arith)) (omega arith)
     go (fault k p) d = omega arith
@@ -175,14 +185,18 @@ pictures-most o luma = go (openingFault o) (decLe 750 (length luma / pictureSize
 pub reduced-length : (o : Opening) (luma : List ℕ) → length (reduced o luma) ≡ pictureCount o luma
 unfolding reduced pictures
 reduced-length o luma =
-    length-map (parts (pictureCount o luma) (pictureSize o) luma) (pixels o) ∙ parts-length (pictureCount o luma) (pictureSize o) luma
+    length-map (parts (pictureCount o luma) (pictureSize o) luma) (pixels o)
+    ∙ parts-length (pictureCount o luma) (pictureSize o) luma
 
 -- N pictures have N cut scores
-pub sample-scores : (o : Opening) (luma : List ℕ) → length (cutScores (map (histograms o) (reduced o luma))) ≡ pictureCount o luma
+pub sample-scores : (o : Opening) (luma : List ℕ) →
+    length (cutScores (map (histograms o) (reduced o luma))) ≡ pictureCount o luma
 sample-scores o luma =
-    scores-length (map (histograms o) (reduced o luma)) ∙ length-map (reduced o luma) (histograms o) ∙ reduced-length o luma
+    scores-length (map (histograms o) (reduced o luma)) ∙ length-map (reduced o luma) (histograms o)
+    ∙ reduced-length o luma
 
-pub sample-joins : (o : Opening) (luma : List ℕ) → 1 ≤ pictureCount o luma → Joins (pictureCount o luma) 0 (scenes o luma)
+pub sample-joins : (o : Opening) (luma : List ℕ) → 1 ≤ pictureCount o luma →
+    Joins (pictureCount o luma) 0 (scenes o luma)
 unfolding scenes scenesIn
 sample-joins o luma h =
     let pxs = reduced o luma in

@@ -1,7 +1,9 @@
--- The sizes of an opening that is not refused: what its given values and its reduced size are bounded by, and that the level is the greatest of all.
+-- The sizes of an opening that is not refused: what its given values and its reduced size are bounded by, and that the
+-- level is the greatest of all.
 use Prim.Native.Nat.{ℕ, zero, suc, _*_, _/_, _^_, _≤_, _<_}
 use native.Mathlib.Omega.{arith}
-use native.Mathlib.Nat.{mul-comm, mul-le-mul, pow-suc, pow-le-pow-right, one-le-pow, div-one, le-div-iff-mul-le, div-lt-iff-lt-mul, lt-of-not-le}
+use native.Mathlib.Nat.{mul-comm, mul-le-mul, pow-suc, pow-le-pow-right, one-le-pow, div-one, le-div-iff-mul-le}
+use native.Mathlib.Nat.{div-lt-iff-lt-mul, lt-of-not-le}
 use native.Mathlib.Decide.{decLe}
 use mathlib.Core.Path.{_≡_, refl, _∙_}
 use mathlib.Core.Bool.{Bool, true, false, _&&_}
@@ -13,7 +15,8 @@ use Rattle.rules.specs.declared.Opening.{Opening}
 use Rattle.rules.specs.Bytes.{pick, within, total, Bytes}
 use Rattle.rules.specs.Refusals.{Fault, none, unless, _orElse_}
 use Rattle.rules.specs.Editions.{isEdition}
-use Rattle.rules.specs.Opening.{goodSize, goodTime, goodPid, openingFault, levelUpTo, level, side, columns, lines, pixelCount}
+use Rattle.rules.specs.Opening.{goodSize, goodTime, goodPid, openingFault, levelUpTo, level, side, columns, lines}
+use Rattle.rules.specs.Opening.{pixelCount}
 use Rattle.rules.specs.Pictures.{pixels}
 use Rattle.rules.specs.Histograms.{histograms}
 use Rattle.rules.proofs.Laws.Lists.{both, inside}
@@ -50,7 +53,8 @@ good o e =
     let W = o .width in
     let H = o .height in
     let edition = unless (isEdition (o .edition)) 20 in
-    let a = passed (goodSize W H) 1 (unless (goodTime (o .time)) 2 orElse unless (goodPid (o .pid)) 3 orElse edition) e in
+    let a =
+    passed (goodSize W H) 1 (unless (goodTime (o .time)) 2 orElse unless (goodPid (o .pid)) 3 orElse edition) e in
     let b = passed (goodTime (o .time)) 2 (unless (goodPid (o .pid)) 3 orElse edition) (a .1) in
     let c = passed (goodPid (o .pid)) 3 edition (b .1) in
     let s = both (within 30 1088 H && within 15 1920 W && leb H (2 * W)) (leb W (4 * H)) (a .0) in
@@ -85,7 +89,8 @@ unfolding levelUpTo
 up-to zero h e = record { few = omega arith; fits = rw (div-one h) e; most = λ j l f. l }
 up-to (suc n) h e = go (decLe 30 (h / 2 ^ suc n)) (up-to n h e)
   where
-    go : Dec (30 ≤ h / 2 ^ suc n) → Greatest n h (levelUpTo n h) → Greatest (suc n) h (pick (leb 30 (h / 2 ^ suc n)) (suc n) (levelUpTo n h))
+    go : Dec (30 ≤ h / 2 ^ suc n) → Greatest n h (levelUpTo n h) →
+        Greatest (suc n) h (pick (leb 30 (h / 2 ^ suc n)) (suc n) (levelUpTo n h))
     go (yes f) g = rw (le-leb 30 (h / 2 ^ suc n) f) (record { few = omega arith; fits = f; most = λ j l k. l })
     go (no f) g =
         rw (lt-leb 30 (h / 2 ^ suc n) (lt-of-not-le f))
@@ -103,7 +108,8 @@ below-sixty h k high few most = go (decLe (suc k) 5)
   where
     go : Dec (suc k ≤ 5) → h < 60 * 2 ^ k
     go (yes l) =
-        let less : h / 2 ^ suc k < 30 = lt-of-not-le (λ (f : 30 ≤ h / 2 ^ suc k). let m = most (suc k) l f in absurd (omega arith)) in
+        let less : h / 2 ^ suc k < 30 =
+        lt-of-not-le (λ (f : 30 ≤ h / 2 ^ suc k). let m = most (suc k) l f in absurd (omega arith)) in
         let some : 0 < 2 ^ suc k = omega (arith, one-le-pow (suc k) 2 (omega arith)) in
         let lower : h < 30 * 2 ^ suc k = div-lt-iff-lt-mul some .0 less in
         omega (arith, pow-suc 2 k)
@@ -151,7 +157,8 @@ sizes o g =
     let n = 2 ^ levelUpTo 5 (o .height) in
     let two : 0 < 2 = omega arith in
     let some : 0 < n = omega (arith, one-le-pow (levelUpTo 5 (o .height)) 2 two) in
-    let upper : o .height < 60 * n = below-sixty (o .height) (levelUpTo 5 (o .height)) (g .height-high) (u .few) (u .most) in
+    let upper : o .height < 60 * n =
+    below-sixty (o .height) (levelUpTo 5 (o .height)) (g .height-high) (u .few) (u .most) in
     let lower : 30 * n ≤ o .height = le-div-iff-mul-le some .0 (u .fits) in
     let line-high : o .height / n < 60 = div-lt-iff-lt-mul some .1 upper in
     let column-low : 15 ≤ o .width / n = le-div-iff-mul-le some .1 (omega (arith, g .tall)) in
@@ -172,14 +179,17 @@ sizes o g =
 -- ---- its pictures
 
 -- the bins of a picture's nine histograms total w × h
-pub picture-total : (o : Opening) (picture : List ℕ) → Good o → Bytes picture → total (map total (histograms o (pixels o picture))) ≡ pixelCount o
+pub picture-total : (o : Opening) (picture : List ℕ) → Good o → Bytes picture →
+    total (map total (histograms o (pixels o picture))) ≡ pixelCount o
 unfolding pixelCount
 picture-total o picture g h =
     let s = sizes o g in
-    histograms-total o (pixels o picture) (omega (arith, s .columns-low)) (pixels-length o picture) (pixels-small o picture h)
+    histograms-total o (pixels o picture) (omega (arith, s .columns-low)) (pixels-length o picture)
+    (pixels-small o picture h)
 
 -- no tile of a picture is empty
-pub picture-tiles : (o : Opening) (picture : List ℕ) (t : ℕ) → Good o → Bytes picture → t < 9 → 0 < total (getD (histograms o (pixels o picture)) t [])
+pub picture-tiles : (o : Opening) (picture : List ℕ) (t : ℕ) → Good o → Bytes picture → t < 9 →
+    0 < total (getD (histograms o (pixels o picture)) t [])
 picture-tiles o picture t g h l =
     let s = sizes o g in
     let px = pixels o picture in

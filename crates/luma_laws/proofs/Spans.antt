@@ -27,21 +27,30 @@ pub total-end : (j : ℕ) (xs : List ℕ) → total (span j j xs) ≡ 0
 unfolding total
 total-end j xs = rw (span-none j xs)
 
-pub total-step : (k j : ℕ) (xs : List ℕ) → k < j → j ≤ length xs → total (span k j xs) ≡ getD xs k 0 + total (span (k + 1) j xs)
+pub total-step : (k j : ℕ) (xs : List ℕ) → k < j → j ≤ length xs →
+    total (span k j xs) ≡ getD xs k 0 + total (span (k + 1) j xs)
 unfolding total
 total-step k j xs h g = rw (span-cons k j xs 0 h g)
 
 -- one more at the end
-pub total-more : (k j : ℕ) (xs : List ℕ) → k ≤ j → j < length xs → total (span k (j + 1) xs) ≡ total (span k j xs) + getD xs j 0
+pub total-more : (k j : ℕ) (xs : List ℕ) → k ≤ j → j < length xs →
+    total (span k (j + 1) xs) ≡ total (span k j xs) + getD xs j 0
 unfolding total
 total-more k j xs h g =
     let n : j + 1 - k ≡ suc (j - k) = omega arith in
     let e : k + (j - k) ≡ j = omega arith in
-    rw (n, take-suc (drop k xs) (j - k) 0 (simp length-drop (omega arith)), total-append (take (j - k) (drop k xs)) (getD (drop k xs) (j - k) 0 ∷ []), getD-drop k xs (j - k) 0, e)
+    rw (
+      n,
+      take-suc (drop k xs) (j - k) 0 (simp length-drop (omega arith)),
+      total-append (take (j - k) (drop k xs)) (getD (drop k xs) (j - k) 0 ∷ []),
+      getD-drop k xs (j - k) 0,
+      e,
+    )
     (omega arith)
 
 -- n figures, each at most `most`
-pub total-most : (most k j n : ℕ) (xs : List ℕ) → ((i : ℕ) → i < n → getD xs i 0 ≤ most) → length xs ≡ n → j ≤ n → total (span k j xs) ≤ most * (j - k)
+pub total-most : (most k j n : ℕ) (xs : List ℕ) → ((i : ℕ) → i < n → getD xs i 0 ≤ most) → length xs ≡ n → j ≤ n →
+    total (span k j xs) ≤ most * (j - k)
 unfolding total
 total-most most k j n xs f e h = go (j - k) k refl
   where
@@ -59,7 +68,8 @@ pub peak-end : (j : ℕ) (xs : List ℕ) → greatestOf (span j j xs) ≡ 0
 unfolding greatestOf
 peak-end j xs = rw (span-none j xs)
 
-pub peak-step : (k j : ℕ) (xs : List ℕ) → k < j → j ≤ length xs → greatestOf (span k j xs) ≡ max (getD xs k 0) (greatestOf (span (k + 1) j xs))
+pub peak-step : (k j : ℕ) (xs : List ℕ) → k < j → j ≤ length xs →
+    greatestOf (span k j xs) ≡ max (getD xs k 0) (greatestOf (span (k + 1) j xs))
 unfolding greatestOf
 peak-step k j xs h g = rw (span-cons k j xs 0 h g) (larger-max (getD xs k 0) (greatestOf (span (k + 1) j xs)))
 
@@ -69,7 +79,8 @@ pub repeated-end : (j : ℕ) (rs : List Bool) → count isTrue (span j j rs) ≡
 unfolding count
 repeated-end j rs = rw (span-none j rs)
 
-pub repeated-step : (k j : ℕ) (rs : List Bool) → k < j → j ≤ length rs → count isTrue (span k j rs) ≡ pick (getD rs k false) 1 0 + count isTrue (span (k + 1) j rs)
+pub repeated-step : (k j : ℕ) (rs : List Bool) → k < j → j ≤ length rs →
+    count isTrue (span k j rs) ≡ pick (getD rs k false) 1 0 + count isTrue (span (k + 1) j rs)
 unfolding count
 repeated-step k j rs h g = rw (span-cons k j rs false h g)
 
@@ -77,13 +88,16 @@ pub longest-end : (run j : ℕ) (rs : List Bool) → longestFrom run (span j j r
 unfolding longestFrom
 longest-end run j rs = rw (span-none j rs)
 
-pub longest-true : (run k j : ℕ) (rs : List Bool) → k < j → j ≤ length rs → getD rs k false ≡ true → longestFrom run (span k j rs) ≡ longestFrom (run + 1) (span (k + 1) j rs)
+pub longest-true : (run k j : ℕ) (rs : List Bool) → k < j → j ≤ length rs → getD rs k false ≡ true →
+    longestFrom run (span k j rs) ≡ longestFrom (run + 1) (span (k + 1) j rs)
 unfolding longestFrom
 longest-true run k j rs h g e = rw (span-cons k j rs false h g, e, add-one run)
 
-pub longest-false : (run k j : ℕ) (rs : List Bool) → k < j → j ≤ length rs → getD rs k false ≡ false → longestFrom run (span k j rs) ≡ max run (longestFrom 0 (span (k + 1) j rs))
+pub longest-false : (run k j : ℕ) (rs : List Bool) → k < j → j ≤ length rs → getD rs k false ≡ false →
+    longestFrom run (span k j rs) ≡ max run (longestFrom 0 (span (k + 1) j rs))
 unfolding longestFrom
-longest-false run k j rs h g e = rw (span-cons k j rs false h g, e) (larger-max run (longestFrom 0 (span (k + 1) j rs)))
+longest-false run k j rs h g e =
+    rw (span-cons k j rs false h g, e) (larger-max run (longestFrom 0 (span (k + 1) j rs)))
 
 -- a run that goes on is no shorter
 pub longest-least : (run : ℕ) (rs : List Bool) → run ≤ longestFrom run rs

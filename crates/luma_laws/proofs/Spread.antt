@@ -1,8 +1,11 @@
--- V and q of document 01: n times the sum of e² is at least the square of the sum of e, so that V's difference is never cut off; and of pictures of bytes q is
--- the greatest whole number that fits or, rounded, the nearest, at most 25,500. For any n.
+-- V and q of document 01: n times the sum of e² is at least the square of the sum of e, so that V's difference
+-- is never cut off; and of pictures of bytes q is the greatest whole number that fits or, rounded, the
+-- nearest, at most 25,500. For any n.
 use Prim.Native.Nat.{ℕ, zero, suc, _+_, _-_, _*_, _≤_, _<_}
 use native.Mathlib.Omega.{arith}
-use native.Mathlib.Nat.{mul-add, add-mul, mul-comm, mul-assoc, mul-left-comm, mul-zero, zero-mul, suc-mul, mul-pos, mul-le-mul, mul-le-mul-left, mul-le-mul-right, le-of-mul-le-mul-left, le-trans, lt-of-not-le, le-of-suc-le-suc}
+use native.Mathlib.Nat.{mul-add, add-mul, mul-comm, mul-assoc, mul-left-comm, mul-zero, zero-mul, suc-mul, mul-pos}
+use native.Mathlib.Nat.{mul-le-mul, mul-le-mul-left, mul-le-mul-right, le-of-mul-le-mul-left, le-trans, lt-of-not-le}
+use native.Mathlib.Nat.{le-of-suc-le-suc}
 use mathlib.Core.Path.{_≡_, refl, ap, _∙_}
 use mathlib.Core.Bool.{Bool, true, false}
 use mathlib.Core.List.{List, [], _∷_}
@@ -44,8 +47,10 @@ half (suc m) a s d h =
     let n = suc m in
     let some : 0 < n = omega arith in
     let cross : n * d * a ≡ n * (d * a) = mul-assoc n d a in
-    let square : n * d * (n * d) ≡ n * (n * (d * d)) = mul-assoc n d (n * d) ∙ ap (λ (z : ℕ). n * z) (mul-left-comm d n d) in
-    let big : n * (d * a + d * a) ≤ n * (n * (d * d) + s) = omega (arith, mul-add n (d * a) (d * a), mul-add n (n * (d * d)) s, twice (n * d) a) in
+    let square : n * d * (n * d) ≡ n * (n * (d * d)) =
+    mul-assoc n d (n * d) ∙ ap (λ (z : ℕ). n * z) (mul-left-comm d n d) in
+    let big : n * (d * a + d * a) ≤ n * (n * (d * d) + s) =
+    omega (arith, mul-add n (d * a) (d * a), mul-add n (n * (d * d)) s, twice (n * d) a) in
     le-of-mul-le-mul-left big some
 
 grow : (n a s d : ℕ) → a * a ≤ n * s → (d + a) * (d + a) ≤ suc n * (d * d + s)
@@ -62,15 +67,18 @@ grow n a s d h =
     )
 
 -- (sum of f)² ≤ n × sum of f²
-pub cauchy : (f : ℕ → ℕ → ℕ) (q : ℕ) (t : List ℕ) → tally f q t * tally f q t ≤ length t * tally (λ i v. f i v * f i v) q t
+pub cauchy : (f : ℕ → ℕ → ℕ) (q : ℕ) (t : List ℕ) →
+    tally f q t * tally f q t ≤ length t * tally (λ i v. f i v * f i v) q t
 unfolding tally
 cauchy f q [] = omega arith
-cauchy f q (v ∷ t) = grow (length t) (tally f (suc q) t) (tally (λ i v. f i v * f i v) (suc q) t) (f q v) (cauchy f (suc q) t)
+cauchy f q (v ∷ t) =
+    grow (length t) (tally f (suc q) t) (tally (λ i v. f i v * f i v) (suc q) t) (f q v) (cauchy f (suc q) t)
 
 -- ---- V
 
 -- (sum of e)² ≤ n × sum of e², with the tallies that a picture's pixels add to
-pub never-cut : (old new : List ℕ) → apart (ups old new) (downs old new) * apart (ups old new) (downs old new) ≤ length new * squared old new
+pub never-cut : (old new : List ℕ) →
+    apart (ups old new) (downs old new) * apart (ups old new) (downs old new) ≤ length new * squared old new
 never-cut old new =
     let e = tally-add (rise old) (fall old) 0 new in
     let less : apart (ups old new) (downs old new) ≤ tally (λ i v. rise old i v + fall old i v) 0 new = omega arith in
@@ -88,10 +96,17 @@ spread-whole old new h =
 -- ---- q
 
 -- V of pictures of n bytes
-pub spread-most : (old new : List ℕ) → Bytes old → Bytes new → length old ≡ length new → spread old new ≤ 65025 * (length new * length new)
+pub spread-most : (old new : List ℕ) → Bytes old → Bytes new → length old ≡ length new →
+    spread old new ≤ 65025 * (length new * length new)
 spread-most old new g h e =
-    let most : squares old new ≤ 65025 * length new = rw (squares-are old new (omega arith)) (squared-most old new g h) in
-    omega (arith, spread-whole old new e, mul-le-mul-left (length new) most, mul-left-comm (length new) 65025 (length new))
+    let most : squares old new ≤ 65025 * length new =
+    rw (squares-are old new (omega arith)) (squared-most old new g h) in
+    omega (
+      arith,
+      spread-whole old new e,
+      mul-le-mul-left (length new) most,
+      mul-left-comm (length new) 65025 (length new),
+    )
 
 -- q is the greatest whole number with q² × n² at most 10,000 × V
 pub change-greatest : (old new : List ℕ) → Bytes old → Bytes new → length old ≡ length new → 0 < length new →
@@ -99,7 +114,8 @@ pub change-greatest : (old new : List ℕ) → Bytes old → Bytes new → lengt
 unfolding change changeFrom
 change-greatest old new g h e some =
     let n = length new in
-    root-greatest (spread old new) n (omega (arith, spread-most old new g h e, mul-pos some some, mul-assoc (65536 * 65536) n n))
+    root-greatest (spread old new) n
+    (omega (arith, spread-most old new g h e, mul-pos some some, mul-assoc (65536 * 65536) n n))
 
 -- rounded, it is the whole number nearest to the square root of 10,000 × V / n², the upper at a tie
 pub change-nearest : (old new : List ℕ) → Bytes old → Bytes new → length old ≡ length new → 0 < length new →

@@ -43,7 +43,8 @@ module _ {ℓ} {A : Type ℓ} where
   unfolding table endToEnd
   getD-lines zero from m f r c d e h k = absurd (omega arith)
   getD-lines (suc n) from m f zero c d e h k =
-      rw (zero-mul m, add-zero from, zero-add c) (List·getD-append (f from) (endToEnd (table n (suc from) f)) d c (omega (arith, e from)))
+      rw (zero-mul m, add-zero from, zero-add c)
+      (List·getD-append (f from) (endToEnd (table n (suc from) f)) d c (omega (arith, e from)))
   getD-lines (suc n) from m f (suc r) c d e h k =
       let size : length (f from) ≡ m = e from in
       let here : suc r * m + c ≡ length (f from) + (r * m + c) = omega (arith, suc-mul r m) in
@@ -54,7 +55,8 @@ module _ {ℓ} {A : Type ℓ} where
       ∙ ap (λ (i : ℕ). getD (f i) c d) next
 
 -- what stands at a place of a mapped list
-pub getD-mapped {ℓ ℓ′} : {A : Type ℓ} {B : Type ℓ′} (f : A → B) (xs : List A) (j : ℕ) (d : A) (e : B) → j < length xs → getD (map f xs) j e ≡ f (getD xs j d)
+pub getD-mapped {ℓ ℓ′} : {A : Type ℓ} {B : Type ℓ′} (f : A → B) (xs : List A) (j : ℕ) (d : A) (e : B) → j < length xs →
+    getD (map f xs) j e ≡ f (getD xs j d)
 getD-mapped f [] j d e h = absurd (omega arith)
 getD-mapped f (x ∷ xs) zero d e h = refl
 getD-mapped f (x ∷ xs) (suc j) d e h = getD-mapped f xs j d e (omega arith)

@@ -1,7 +1,8 @@
 -- A tile's size is its rows times its columns, so that no tile is empty.
 use Prim.Native.Nat.{ℕ, zero, suc, _+_, _-_, _*_, _/_, _%_, _≤_, _<_}
 use native.Mathlib.Omega.{arith}
-use native.Mathlib.Nat.{zero-add, add-mul, suc-mul, zero-mul, mul-one, mul-pos, mul-le-mul-right, div-eq-of-lt-le, div-lt-iff-lt-mul, le-div-iff-mul-le}
+use native.Mathlib.Nat.{zero-add, add-mul, suc-mul, zero-mul, mul-one, mul-pos, mul-le-mul-right, div-eq-of-lt-le}
+use native.Mathlib.Nat.{div-lt-iff-lt-mul, le-div-iff-mul-le}
 use mathlib.Core.Path.{_≡_, refl, _∙_}
 use mathlib.Core.Bool.{Bool, true, false}
 use mathlib.Core.List.{List, []}
@@ -46,10 +47,12 @@ third-last n j h =
     omega (arith, add-mul j 1 n, mul-le-mul-right n up)
 
 -- k for each place in third j
-thirds : {A : Type 0} (n j k : ℕ) (t : List A) → 0 < n → j < 3 → length t ≡ n → tally (λ i a. pick (eqb (third n i) j) k 0) 0 t ≡ thirdSize n j * k
+thirds : {A : Type 0} (n j k : ℕ) (t : List A) → 0 < n → j < 3 → length t ≡ n →
+    tally (λ i a. pick (eqb (third n i) j) k 0) 0 t ≡ thirdSize n j * k
 thirds n j k t some h e =
     let next : thirdFrom n j + thirdSize n j ≡ thirdFrom n (j + 1) = omega (arith, add-mul j 1 n) in
-    tally-span (λ i a. pick (eqb (third n i) j) k 0) (thirdFrom n j) (thirdSize n j) k t (omega (arith, third-last n j h))
+    tally-span (λ i a. pick (eqb (third n i) j) k 0) (thirdFrom n j) (thirdSize n j) k t
+    (omega (arith, third-last n j h))
     (λ i a l. rw (ne-eqb (third n i) j (λ z. omega (arith, third-before n j i some l))))
     (λ i a l m. rw (eq-eqb (third n i) j (third-is n j i l (omega arith))))
     (λ i a l. rw (ne-eqb (third n i) j (λ z. omega (arith, third-after n j i some (omega arith)))))
@@ -67,39 +70,48 @@ line-gives : (w h j k r : ℕ) (line : List ℕ) → k < 3 → length line ≤ w
     tally (λ i v. pick (eqb (tileAt w h i) (3 * j + k)) 1 0) (r * w) line ≡ fromLine w h j k r line
 unfolding fromLine
 line-gives w h j k r line hk e =
-    tally-shift (λ i v. pick (eqb (tileAt w h i) (3 * j + k)) 1 0) (λ c v. pick (eqb (third h r) j) (pick (eqb (third w c) k) 1 0) 0) (r * w) 0 line
-    (λ c v l. rw (tile-of w h r c (omega arith), zero-add c) (both (third h r) (third w c) (third-small w c (omega arith)) (eqb (third h r) j) (eqb (third w c) k) refl refl))
+    tally-shift (λ i v. pick (eqb (tileAt w h i) (3 * j + k)) 1 0)
+    (λ c v. pick (eqb (third h r) j) (pick (eqb (third w c) k) 1 0) 0) (r * w) 0 line
+    (λ c v l. rw (tile-of w h r c (omega arith), zero-add c)
+    (both (third h r) (third w c) (third-small w c (omega arith)) (eqb (third h r) j) (eqb (third w c) k) refl refl))
     ∙ go (eqb (third h r) j)
   where
-    both : (a b : ℕ) → b < 3 → (x y : Bool) → eqb a j ≡ x → eqb b k ≡ y → _≡_ {A = ℕ} (pick (eqb (3 * a + b) (3 * j + k)) 1 0) (pick x (pick y 1 0) 0)
+    both : (a b : ℕ) → b < 3 → (x y : Bool) → eqb a j ≡ x → eqb b k ≡ y →
+        _≡_ {A = ℕ} (pick (eqb (3 * a + b) (3 * j + k)) 1 0) (pick x (pick y 1 0) 0)
     both a b hb true true ex ey = rw (eq-eqb (3 * a + b) (3 * j + k) (omega (arith, eqb-true a j ex, eqb-true b k ey)))
-    both a b hb true false ex ey = rw (ne-eqb (3 * a + b) (3 * j + k) (λ z. eqb-false b k ey (omega (arith, eqb-true a j ex))))
+    both a b hb true false ex ey =
+        rw (ne-eqb (3 * a + b) (3 * j + k) (λ z. eqb-false b k ey (omega (arith, eqb-true a j ex))))
     both a b hb false y ex ey = rw (ne-eqb (3 * a + b) (3 * j + k) (λ z. eqb-false a j ex (omega arith)))
 
     go : (own : Bool) →
-        tally (λ c v. pick own (pick (eqb (third w c) k) 1 0) 0) 0 line ≡ pick own (tally (λ c v. pick (eqb (third w c) k) 1 0) 0 line) 0
+        tally (λ c v. pick own (pick (eqb (third w c) k) 1 0) 0) 0 line
+        ≡ pick own (tally (λ c v. pick (eqb (third w c) k) 1 0) 0 line) 0
     go true = refl
     go false = tally-none (λ c v. 0) 0 line (λ i v l. refl)
 
 -- lines of w pixels give alike
 lines-give : (w h j k r m : ℕ) (p : List ℕ) → 0 < w → k < 3 → length p ≡ m * w →
-    tally (fromLine w h j k) r (parts m w p) ≡ tally (λ y line. pick (eqb (third h y) j) (thirdSize w k) 0) r (parts m w p)
+    tally (fromLine w h j k) r (parts m w p)
+    ≡ tally (λ y line. pick (eqb (third h y) j) (thirdSize w k) 0) r (parts m w p)
 unfolding tally parts fromLine
 lines-give w h j k r zero p some hk e = refl
 lines-give w h j k r (suc m) p some hk e =
     let size : length p ≡ m * w + w = omega (arith, suc-mul m w) in
     let first : length (take w p) ≡ w = length-take-le w p (omega arith) in
     let rest : length (drop w p) ≡ m * w = simp length-drop (omega arith) in
-    let own : tally (λ c v. pick (eqb (third w c) k) 1 0) 0 (take w p) ≡ thirdSize w k = thirds w k 1 (take w p) some hk first ∙ mul-one (thirdSize w k) in
+    let own : tally (λ c v. pick (eqb (third w c) k) 1 0) 0 (take w p) ≡ thirdSize w k =
+    thirds w k 1 (take w p) some hk first ∙ mul-one (thirdSize w k) in
     rw own (omega (arith, lines-give w h j k (suc r) m (drop w p) some hk rest))
 
 -- n of the tile in tile row j and tile column k
-pub tile-size : (w h j k : ℕ) (p : List ℕ) → 0 < w → 0 < h → j < 3 → k < 3 → length p ≡ h * w → tileTally w h (3 * j + k) p ≡ thirdSize h j * thirdSize w k
+pub tile-size : (w h j k : ℕ) (p : List ℕ) → 0 < w → 0 < h → j < 3 → k < 3 → length p ≡ h * w →
+    tileTally w h (3 * j + k) p ≡ thirdSize h j * thirdSize w k
 tile-size w h j k p sw sh hj hk e =
     let F : ℕ → ℕ → ℕ = λ i v. pick (eqb (tileAt w h i) (3 * j + k)) 1 0 in
     let rows = parts h w p in
     let all = by-rows F (fromLine w h j k) w (λ r line l. line-gives w h j k r line hk l) h 0 p in
-    let none : tally F ((0 + h) * w) (drop (h * w) p) ≡ 0 = rw (drop-of-length-le p {i = h * w} (omega arith)) (tally-none F ((0 + h) * w) [] (λ i v l. absurd (omega arith))) in
+    let none : tally F ((0 + h) * w) (drop (h * w) p) ≡ 0 = rw (drop-of-length-le p {i = h * w} (omega arith))
+    (tally-none F ((0 + h) * w) [] (λ i v l. absurd (omega arith))) in
     let own : tally (fromLine w h j k) 0 rows ≡ thirdSize h j * thirdSize w k =
     lines-give w h j k 0 h p sw hk e ∙ thirds h j (thirdSize w k) rows sh hj (parts-length h w p) in
     omega (arith, rw (zero-mul w) at all)

@@ -1,4 +1,5 @@
--- A bin by counting: how many places of a picture's pixels lie in tile t with a value in bin b. Of a picture's first pixels it is the same count over fewer.
+-- A bin by counting: how many places of a picture's pixels lie in tile t with a value in bin b. Of a picture's first
+-- pixels it is the same count over fewer.
 use Prim.Native.Nat.{ℕ, suc, _+_, _*_, _≤_, _<_}
 use native.Mathlib.Omega.{arith}
 use native.Mathlib.Nat.{add-zero, zero-add}
@@ -19,7 +20,8 @@ use Rattle.luma_laws.proofs.Tally.{tally-append, tally-most, tally-plac
 use Rattle.luma_laws.proofs.Histograms.{bin-small, tile-small, bins-total, in-tile}
 
 -- one pixel more
-pub bin-more : (w h t b v : ℕ) (p : List ℕ) → binTally w h t b (p ++ v ∷ []) ≡ binTally w h t b p + hits w h t b (length p) v
+pub bin-more : (w h t b v : ℕ) (p : List ℕ) →
+    binTally w h t b (p ++ v ∷ []) ≡ binTally w h t b p + hits w h t b (length p) v
 unfolding tally
 bin-more w h t b v p =
     let e : 0 + length p ≡ length p = omega arith in
@@ -58,12 +60,14 @@ once w h i v some place byte =
       others = λ t b e. isn't t b (eqb (tileAt w h i) t) (eqb (bin v) b) refl refl e;
     }
   where
-    is : (t b : ℕ) (x y : Bool) → eqb (tileAt w h i) t ≡ x → eqb (bin v) b ≡ y → _≡_ {A = ℕ} (pick x (pick y 1 0) 0) 1 → (t ≡ tileAt w h i) × (b ≡ bin v)
+    is : (t b : ℕ) (x y : Bool) → eqb (tileAt w h i) t ≡ x → eqb (bin v) b ≡ y →
+        _≡_ {A = ℕ} (pick x (pick y 1 0) 0) 1 → (t ≡ tileAt w h i) × (b ≡ bin v)
     is t b true true ex ey e = (sym (eqb-true (tileAt w h i) t ex), sym (eqb-true (bin v) b ey))
     is t b true false ex ey e = absurd (omega arith)
     is t b false y ex ey e = absurd (omega arith)
 
-    isn't : (t b : ℕ) (x y : Bool) → eqb (tileAt w h i) t ≡ x → eqb (bin v) b ≡ y → ((t ≡ tileAt w h i) × (b ≡ bin v) → ⊥) → _≡_ {A = ℕ} (pick x (pick y 1 0) 0) 0
+    isn't : (t b : ℕ) (x y : Bool) → eqb (tileAt w h i) t ≡ x → eqb (bin v) b ≡ y →
+        ((t ≡ tileAt w h i) × (b ≡ bin v) → ⊥) → _≡_ {A = ℕ} (pick x (pick y 1 0) 0) 0
     isn't t b true true ex ey e = absurd (e (sym (eqb-true (tileAt w h i) t ex), sym (eqb-true (bin v) b ey)))
     isn't t b true false ex ey e = refl
     isn't t b false y ex ey e = refl
@@ -85,8 +89,10 @@ raised w h v p some place byte =
       theBin = o .theBin;
       tile-below = o .tile-below;
       bin-below = o .bin-below;
-      own = bin-more w h (o .theTile) (o .theBin) v p ∙ ap (λ (z : ℕ). binTally w h (o .theTile) (o .theBin) p + z) (o .own);
-      others = λ t b e. bin-more w h t b v p ∙ ap (λ (z : ℕ). binTally w h t b p + z) (o .others t b e) ∙ add-zero (binTally w h t b p);
+      own = bin-more w h (o .theTile) (o .theBin) v p
+          ∙ ap (λ (z : ℕ). binTally w h (o .theTile) (o .theBin) p + z) (o .own);
+      others = λ t b e. bin-more w h t b v p ∙ ap (λ (z : ℕ). binTally w h t b p + z) (o .others t b e)
+          ∙ add-zero (binTally w h t b p);
     }
 
 -- ---- the rule's histograms are these counts
@@ -103,7 +109,8 @@ in-bin w h t b p (v ∷ px) = go (eqb (tileAt w h p) t) (in-bin w h t b (suc p) 
     go false e = omega arith
 
 -- bin b of tile t of a picture's histograms
-pub histograms-at : (o : Opening) (px : List ℕ) (t b : ℕ) → t < 9 → b < 16 → getD (getD (histograms o px) t []) b 0 ≡ binTally (columns o) (lines o) t b px
+pub histograms-at : (o : Opening) (px : List ℕ) (t b : ℕ) → t < 9 → b < 16 →
+    getD (getD (histograms o px) t []) b 0 ≡ binTally (columns o) (lines o) t b px
 unfolding histograms histogram inBin inTile
 histograms-at o px t b ht hb =
     ap (λ (l : List ℕ). getD l b 0) (getD-table 9 0 (λ u. histogram (inTile o u px)) t [] ht)
@@ -113,11 +120,13 @@ histograms-at o px t b ht hb =
     ∙ in-bin (columns o) (lines o) t b 0 px
 
 -- all of them
-pub histograms-are : (o : Opening) (px : List ℕ) → histograms o px ≡ table 9 0 (λ t. table 16 0 (λ b. binTally (columns o) (lines o) t b px))
+pub histograms-are : (o : Opening) (px : List ℕ) →
+    histograms o px ≡ table 9 0 (λ t. table 16 0 (λ b. binTally (columns o) (lines o) t b px))
 unfolding histograms histogram inBin inTile
 histograms-are o px =
     same-table 9 0 (λ t. histogram (inTile o t px)) (λ t. table 16 0 (λ b. binTally (columns o) (lines o) t b px))
-    (λ t ht. same-table 16 0 (inBin (inTile o t px)) (λ b. binTally (columns o) (lines o) t b px) (λ b hb. in-bin (columns o) (lines o) t b 0 px))
+    (λ t ht. same-table 16 0 (inBin (inTile o t px)) (λ b. binTally (columns o) (lines o) t b px)
+    (λ b hb. in-bin (columns o) (lines o) t b 0 px))
 
 -- ---- a tile's pixels
 
@@ -125,19 +134,22 @@ histograms-are o px =
 abbrev pub tileTally : ℕ → ℕ → ℕ → List ℕ → ℕ
 tileTally w h t p = tally (λ i v. pick (eqb (tileAt w h i) t) 1 0) 0 p
 
-tile-length : (w h t p : ℕ) (px : List ℕ) → length (inTileFrom w h t p px) ≡ tally (λ i v. pick (eqb (tileAt w h i) t) 1 0) p px
+tile-length : (w h t p : ℕ) (px : List ℕ) →
+    length (inTileFrom w h t p px) ≡ tally (λ i v. pick (eqb (tileAt w h i) t) 1 0) p px
 unfolding inTileFrom tally
 tile-length w h t p [] = refl
 tile-length w h t p (v ∷ px) = go (eqb (tileAt w h p) t) (tile-length w h t (suc p) px)
   where
-    go : (x : Bool) → length (inTileFrom w h t (suc p) px) ≡ tally (λ i v. pick (eqb (tileAt w h i) t) 1 0) (suc p) px →
+    go : (x : Bool) →
+        length (inTileFrom w h t (suc p) px) ≡ tally (λ i v. pick (eqb (tileAt w h i) t) 1 0) (suc p) px →
         length (pick x (v ∷ inTileFrom w h t (suc p) px) (inTileFrom w h t (suc p) px))
         ≡ pick x 1 0 + tally (λ i v. pick (eqb (tileAt w h i) t) 1 0) (suc p) px
     go true e = omega arith
     go false e = omega arith
 
 -- n of tile t: its bins total its pixels
-pub tile-total : (o : Opening) (px : List ℕ) (t : ℕ) → All (λ (v : ℕ). v < 256) px → t < 9 → total (getD (histograms o px) t []) ≡ tileTally (columns o) (lines o) t px
+pub tile-total : (o : Opening) (px : List ℕ) (t : ℕ) → All (λ (v : ℕ). v < 256) px → t < 9 →
+    total (getD (histograms o px) t []) ≡ tileTally (columns o) (lines o) t px
 unfolding histograms inTile
 tile-total o px t small ht =
     ap total (getD-table 9 0 (λ u. histogram (inTile o u px)) t [] ht)

@@ -26,9 +26,12 @@ unfoldable pub nextRepeat : List (List ℕ) → List ℕ → Bool
 nextRepeat [] px = false
 nextRepeat (p ∷ pxs) px = same (previous (p ∷ pxs)) px
 
--- the cut score that the next picture settles, that of the picture two before it: from the histograms of all pictures so far and of the next
+-- the cut score that the next picture settles, that of the picture two before it: from the histograms of all pictures
+-- so far and of the next
 unfoldable pub nextScore : List (List (List ℕ)) → List (List ℕ) → ℕ
-nextScore hs x = pick (leb 4 (length hs)) (leastOfSix (at hs (length hs - 4)) (at hs (length hs - 3)) (at hs (length hs - 2)) (at hs (length hs - 1)) x) 0
+nextScore hs x =
+    pick (leb 4 (length hs))
+    (leastOfSix (at hs (length hs - 4)) (at hs (length hs - 3)) (at hs (length hs - 2)) (at hs (length hs - 1)) x) 0
 
 -- the number whose binary digits these are, the lowest first
 unfoldable pub ones : List Bool → ℕ

@@ -1,4 +1,5 @@
--- What the luma side adds up while bytes and pixels come: sums of blocks, counts of bins, sums of differences. Each is a tally over the bytes or pixels so far.
+-- What the luma side adds up while bytes and pixels come: sums of blocks, counts of bins, sums of differences. Each is
+-- a tally over the bytes or pixels so far.
 use Prim.Native.Nat.{ℕ, _+_, _-_, _*_, _/_, _%_}
 use mathlib.Core.List.{List}
 use lib.ListN.{getD}

@@ -27,7 +27,8 @@ use Rattle.luma_state.specs.declared.Grid.{Grid}
 use Rattle.luma_state.specs.declared.Progress.{Progress}
 use Rattle.luma_state.specs.State.{slot, openingIn, movesIn, Words, Ring, Drawn, drawing, Live}
 use Rattle.luma_rows.proofs.Rows.{bytes-right, at-passing, elsewhere, apart}
-use Rattle.luma_picture.specs.Contract.{againOf, ChangeOf, ScoreOf, noted, nextPicture, AtPictureEnd, PictureEnded}
+use Rattle.luma_picture.specs.Contract.{againOf, ChangeOf, ScoreOf, noted, nextPicture, AtPictureEnd}
+use Rattle.luma_picture.specs.Contract.{PictureEnded}
 use Rattle.luma_picture.proofs.Notes.{Whole, each-px, score-is, change-is, again-is, words-more}
 use Rattle.luma_state.proofs.Opens.{still}
 
@@ -37,7 +38,8 @@ bytes-left (b ∷ s) t (and k h) = and k (bytes-left s t h)
 
 -- ---- of a live state at a picture's end
 
-module _ (g : Grid) (s : Progress) {o : Opening} {luma sums bins picture joined : List ℕ} (at : AtPictureEnd g s) (v : Live g o s luma sums bins picture joined) where
+module _ (g : Grid) (s : Progress) {o : Opening} {luma sums bins picture joined : List ℕ} (at : AtPictureEnd g s)
+    (v : Live g o s luma sums bins picture joined) where
   wide : g .columns ≡ columns o
   wide = ap (λ (x : Grid). x .columns) (v .grid)
 
@@ -61,7 +63,8 @@ module _ (g : Grid) (s : Progress) {o : Opening} {luma sums bins picture joined 
   drawn-is =
       let a : g .width ≡ o .width = ap (λ (x : Grid). x .width) (v .grid) in
       let b : g .side ≡ side o = ap (λ (x : Grid). x .side) (v .grid) in
-      let rows : RowsOf (o .width) (side o) (columns o) (lines o) (v .cur) picture = rw (at .line, a, b, wide, high) at (v .drawn .rows) in
+      let rows : RowsOf (o .width) (side o) (columns o) (lines o) (v .cur) picture =
+      rw (at .line, a, b, wide, high) at (v .drawn .rows) in
       let room : lines o * columns o ≤ 14104 = rw (← wide, ← high) (omega (arith, at .fits .room)) in
       rw (at .line, high, wide) (picture-whole o (v .cur) [] rows room ∙ ap (pixels o) (append-nil (v .cur)))
 
@@ -89,7 +92,8 @@ module _ (g : Grid) (s : Progress) {o : Opening} {luma sums bins picture joined 
       one-le-mul a b
 
   again-as : againOf s ≡ pick (nextRepeat (v .pxs) (pixels o (v .cur))) 1 0
-  again-as = again-is o g s (pixels o (v .cur)) size-is some-pixels (at .fits .room) (pixels-small o (v .cur) small-cur) (v .pxs) (v .pictures) moved before
+  again-as = again-is o g s (pixels o (v .cur)) size-is some-pixels (at .fits .room)
+      (pixels-small o (v .cur) small-cur) (v .pxs) (v .pictures) moved before
 
   -- the words name the edition
   edition-is : openingIn luma .edition ≡ o .edition
@@ -104,24 +108,29 @@ module _ (g : Grid) (s : Progress) {o : Opening} {luma sums bins picture joined 
       (change-is o g s (pixels o (v .cur)) size-is some-pixels (at .fits .room) (pixels-small o (v .cur) small-cur)
       (roundsToNearest (o .edition)) (v .pxs) _ (v .pictures) (rw edition-is at c) moved before)
       again-as
-      (score-is o (v .pxs) (pixels o (v .cur)) t (v .pictures) (λ j h k. rw (wide, high) at (v .ring j h k)) (rw (v .pictures) counted)
+      (score-is o (v .pxs) (pixels o (v .cur)) t (v .pictures) (λ j h k. rw (wide, high) at (v .ring j h k))
+      (rw (v .pictures) counted)
       (λ j h. omega (arith, each j h .size, pixels-length o (v .cur))) few)
 
   next-drawn : {bins′ : List ℕ} → Cleared (slot (s .pictures + 1)) bins bins′ →
       Drawn g (nextPicture s (againOf s)) (v .pxs ++ pixels o (v .cur) ∷ []) [] bins′ picture
   next-drawn {bins′} c =
-      let n : s .pictures + 1 ≡ length (v .pxs ++ pixels o (v .cur) ∷ []) = omega (arith, length-append (v .pxs) (pixels o (v .cur) ∷ []), v .pictures) in
+      let n : s .pictures + 1 ≡ length (v .pxs ++ pixels o (v .cur) ∷ []) =
+      omega (arith, length-append (v .pxs) (pixels o (v .cur) ∷ []), v .pictures) in
       record {
         rows = record { size = v .drawn .rows .size; each = λ r k h l t. absurd (omega arith) };
         rest =
             λ q a b.
             let l : q < s .line * g .columns = rw (at .line) b in
-            rw (previous-more (v .pxs) (pixels o (v .cur))) (sym (getD-take (s .line * g .columns) picture q 0 l) ∙ ap (λ (x : List ℕ). getD x q 0) drawn-is);
+            rw (previous-more (v .pxs) (pixels o (v .cur)))
+            (sym (getD-take (s .line * g .columns) picture q 0 l) ∙ ap (λ (x : List ℕ). getD x q 0) drawn-is);
         counts = rw (zero-mul (g .columns), ← n) (c .none (v .drawn .counts .size) (g .columns) (g .lines));
-        moves = rw (zero-mul (g .columns)) (still (previous (v .pxs ++ pixels o (v .cur) ∷ [])) (nextPicture s (againOf s)) refl refl refl);
+        moves = rw (zero-mul (g .columns))
+            (still (previous (v .pxs ++ pixels o (v .cur) ∷ [])) (nextPicture s (againOf s)) refl refl refl);
       }
 
-  next-ring : {bins′ : List ℕ} → Cleared (slot (s .pictures + 1)) bins bins′ → Ring g (v .pxs ++ pixels o (v .cur) ∷ []) bins′
+  next-ring : {bins′ : List ℕ} → Cleared (slot (s .pictures + 1)) bins bins′ →
+      Ring g (v .pxs ++ pixels o (v .cur) ∷ []) bins′
   next-ring {bins′} c j h k = go (ℕ-discrete j (length (v .pxs)))
     where
       long : length (v .pxs ++ pixels o (v .cur) ∷ []) ≡ s .pictures + 1
@@ -130,17 +139,20 @@ module _ (g : Grid) (s : Progress) {o : Opening} {luma sums bins picture joined 
       away : (slot (s .pictures + 1) + 144 ≤ slot j) ⊎ (slot j + 144 ≤ slot (s .pictures + 1))
       away = apart j (s .pictures + 1) (omega (arith, long)) (omega (arith, long))
 
-      go : Dec (j ≡ length (v .pxs)) → Counts (g .columns) (g .lines) (slot j) (getD (v .pxs ++ pixels o (v .cur) ∷ []) j []) bins′
+      go : Dec (j ≡ length (v .pxs)) →
+          Counts (g .columns) (g .lines) (slot j) (getD (v .pxs ++ pixels o (v .cur) ∷ []) j []) bins′
       go (yes e) =
           elsewhere (c .kept) away
           (rw (e, getD-last (v .pxs) (pixels o (v .cur)) [], wide, high) counted)
       go (no e) =
           elsewhere (c .kept) away
-          (rw (getD-other (v .pxs) (pixels o (v .cur)) [] j e) (v .ring j (omega (arith, long, v .pictures, e)) (omega (arith, long, v .pictures))))
+          (rw (getD-other (v .pxs) (pixels o (v .cur)) [] j e)
+          (v .ring j (omega (arith, long, v .pictures, e)) (omega (arith, long, v .pictures))))
 
   pub next-live : {luma′ bins′ : List ℕ} {q score : ℕ} → ChangeOf g s (roundsToNearest (openingIn luma .edition)) q →
       ScoreOf bins (s .pictures) score → luma′ ≡ noted luma (s .pictures) q (againOf s) score →
-      Cleared (slot (s .pictures + 1)) bins bins′ → Live g o (nextPicture s (againOf s)) luma′ sums bins′ picture (joined ++ [])
+      Cleared (slot (s .pictures + 1)) bins bins′ →
+      Live g o (nextPicture s (againOf s)) luma′ sums bins′ picture (joined ++ [])
   next-live {luma′} {bins′} {q} {score} change scored words cleared =
       let px = pixels o (v .cur) in
       let long : length (v .pxs ++ px ∷ []) ≡ length (v .pxs) + 1 = length-append (v .pxs) (px ∷ []) in
@@ -152,7 +164,13 @@ module _ (g : Grid) (s : Progress) {o : Opening} {luma sums bins picture joined 
         pxs = v .pxs ++ px ∷ [];
         grid = v .grid;
         split = v .split ∙ sym (append-nil (v .whole ++ v .cur));
-        full = rw long (omega (arith, length-append (v .whole) (v .cur), v .full, ends, add-mul (length (v .pxs)) 1 (pictureSize o)));
+        full = rw long (omega (
+          arith,
+          length-append (v .whole) (v .cur),
+          v .full,
+          ends,
+          add-mul (length (v .pxs)) 1 (pictureSize o),
+        ));
         reduced =
             ap (λ (x : List (List ℕ)). x ++ px ∷ []) (v .reduced)
             ∙ sym (reduced-more o (length (v .pxs)) (v .whole) (v .cur) (v .full) ends)
@@ -163,20 +181,24 @@ module _ (g : Grid) (s : Progress) {o : Opening} {luma sums bins picture joined 
         status = v .status;
         fed = v .fed;
         pictures = omega (arith, long, v .pictures);
-        fresh = unrepeated (nextRepeat (v .pxs) px) (count not (repeats (v .pxs))) (count not (repeats (v .pxs ++ px ∷ []))) (againOf s) (s .fresh) again-as (fresh-more (v .pxs) px) (v .fresh);
+        fresh = unrepeated (nextRepeat (v .pxs) px) (count not (repeats (v .pxs)))
+            (count not (repeats (v .pxs ++ px ∷ []))) (againOf s) (s .fresh) again-as (fresh-more (v .pxs) px)
+            (v .fresh);
         words = rw words (noted-words change scored);
         ring = next-ring cleared;
         drawn = next-drawn cleared;
         place = drawing (omega (arith, at .fits .high)) (rw (zero-mul (g .side), zero-mul (g .width)) refl) (p .clear);
       })
     where
-      unrepeated : (b : Bool) (old new a x : ℕ) → a ≡ pick b 1 0 → new ≡ old + pick b 0 1 → x ≡ old % 2 ^ 64 → (x + (1 - a)) % 2 ^ 64 ≡ new % 2 ^ 64
+      unrepeated : (b : Bool) (old new a x : ℕ) → a ≡ pick b 1 0 → new ≡ old + pick b 0 1 → x ≡ old % 2 ^ 64 →
+          (x + (1 - a)) % 2 ^ 64 ≡ new % 2 ^ 64
       unrepeated true old new a x e f h = omega arith
       unrepeated false old new a x e f h = omega arith
 
 pub picture-ended : (g : Grid) (s : Progress) {luma bins luma′ bins′ : List ℕ} {r : Progress} {q score : ℕ} →
     AtPictureEnd g s → ChangeOf g s (roundsToNearest (openingIn luma .edition)) q → ScoreOf bins (s .pictures) score →
-    luma′ ≡ noted luma (s .pictures) q (againOf s) score → Cleared (slot (s .pictures + 1)) bins bins′ → r ≡ nextPicture s (againOf s) →
+    luma′ ≡ noted luma (s .pictures) q (againOf s) score → Cleared (slot (s .pictures + 1)) bins bins′ →
+    r ≡ nextPicture s (againOf s) →
     PictureEnded g s luma bins r luma′ bins′
 picture-ended g s at change scored words cleared e =
     record { is = e; goes = λ sums picture o joined v. rw e (next-live g s at v change scored words cleared) }

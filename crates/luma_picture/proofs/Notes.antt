@@ -21,7 +21,9 @@ use Rattle.luma_laws.proofs.Pictures.{bytes-take, bytes-drop, pixels-small, pix
 use Rattle.luma_laws.proofs.Tables.{getD-mapped, parts-length, part-at}
 use Rattle.luma_laws.proofs.Moves.{squared-most}
 use Rattle.luma_laws.specs.Past.{previous, nextChange, nextRepeat, nextScore, mapWord}
-use Rattle.luma_laws.proofs.Past.{getD-last, getD-other, map-append, score-other, score-next, next-some, next-none, repeats-more, changes-more, length-repeats, length-changes, word-more, word-other, word-small}
+use Rattle.luma_laws.proofs.Past.{getD-last, getD-other, map-append, score-other, score-next, next-some, next-none}
+use Rattle.luma_laws.proofs.Past.{repeats-more, changes-more, length-repeats, length-changes, word-more, word-other}
+use Rattle.luma_laws.proofs.Past.{word-small}
 use Rattle.luma_changes.specs.Changes.{spreadOf}
 use Rattle.luma_cuts.specs.Counts.{binsAt, tilesAt}
 use Rattle.luma_tiles.specs.Bins.{Counts}
@@ -39,35 +41,44 @@ pub record Whole (o : Opening) (px : List ℕ) : Type 0 where
   pub small : Bytes px
   pub size : length px ≡ columns o * lines o
 
-pub each-px : (o : Opening) (pxs : List (List ℕ)) (whole : List ℕ) → pxs ≡ map (pixels o) (parts (length pxs) (pictureSize o) whole) → Bytes whole → (j : ℕ) →
+pub each-px : (o : Opening) (pxs : List (List ℕ)) (whole : List ℕ) →
+    pxs ≡ map (pixels o) (parts (length pxs) (pictureSize o) whole) → Bytes whole → (j : ℕ) →
     j < length pxs → Whole o (getD pxs j [])
 each-px o pxs whole e small j h =
     let ps = parts (length pxs) (pictureSize o) whole in
     let n : length ps ≡ length pxs = parts-length (length pxs) (pictureSize o) whole in
-    let is : getD pxs j [] ≡ pixels o (getD ps j []) = ap (λ (x : List (List ℕ)). getD x j []) e ∙ getD-mapped (pixels o) ps j [] [] (omega arith) in
-    let bytes : Bytes (getD ps j []) = rw (part-at (length pxs) (pictureSize o) j whole h) (bytes-take (pictureSize o) (drop (j * pictureSize o) whole) (bytes-drop (j * pictureSize o) whole small)) in
+    let is : getD pxs j [] ≡ pixels o (getD ps j []) =
+    ap (λ (x : List (List ℕ)). getD x j []) e ∙ getD-mapped (pixels o) ps j [] [] (omega arith) in
+    let bytes : Bytes (getD ps j []) = rw (part-at (length pxs) (pictureSize o) j whole h)
+    (bytes-take (pictureSize o) (drop (j * pictureSize o) whole) (bytes-drop (j * pictureSize o) whole small)) in
     rw is (record { small = pixels-small o (getD ps j []) bytes; size = pixels-length o (getD ps j []) })
 
 -- ---- the cut score
 
-pub tiles-are : (o : Opening) (base : ℕ) (px : List ℕ) {counts : List ℕ} → Counts (columns o) (lines o) base px counts → length px < 2 ^ 32 →
+pub tiles-are : (o : Opening) (base : ℕ) (px : List ℕ) {counts : List ℕ} →
+    Counts (columns o) (lines o) base px counts → length px < 2 ^ 32 →
     ((i : ℕ) → getD counts i 0 < 2 ^ 32) → tilesAt counts base ≡ histograms o px
 unfolding tilesAt binsAt
 tiles-are o base px c few small = counts-are o base px c few small
 
-pub score-is : (o : Opening) (pxs : List (List ℕ)) (px : List ℕ) {bins : List ℕ} {i r : ℕ} → ScoreOf bins i r → i ≡ length pxs →
-    ((j : ℕ) → j < length pxs → length pxs ≤ j + 4 → Counts (columns o) (lines o) (slot j) (getD pxs j []) bins) → Counts (columns o) (lines o) (slot i) px bins →
-    ((j : ℕ) → j < length pxs → length (getD pxs j []) < 2 ^ 32) → length px < 2 ^ 32 → r ≡ nextScore (map (histograms o) pxs) (histograms o px)
+pub score-is : (o : Opening) (pxs : List (List ℕ)) (px : List ℕ) {bins : List ℕ} {i r : ℕ} → ScoreOf bins i r →
+    i ≡ length pxs →
+    ((j : ℕ) → j < length pxs → length pxs ≤ j + 4 → Counts (columns o) (lines o) (slot j) (getD pxs j []) bins) →
+    Counts (columns o) (lines o) (slot i) px bins →
+    ((j : ℕ) → j < length pxs → length (getD pxs j []) < 2 ^ 32) → length px < 2 ^ 32 →
+    r ≡ nextScore (map (histograms o) pxs) (histograms o px)
 score-is o pxs px {bins} {i} {r} s e ring here few last = go (decLe 4 i)
   where
     long : length (map (histograms o) pxs) ≡ length pxs
     long = length-map pxs (histograms o)
 
     tile : (j : ℕ) → j < length pxs → length pxs ≤ j + 4 → tilesAt bins (slot j) ≡ at (map (histograms o) pxs) j
-    tile j h k = tiles-are o (slot j) (getD pxs j []) (ring j h k) (few j h) (s .small) ∙ sym (getD-mapped (histograms o) pxs j [] [] h)
+    tile j h k = tiles-are o (slot j) (getD pxs j []) (ring j h k) (few j h) (s .small)
+        ∙ sym (getD-mapped (histograms o) pxs j [] [] h)
 
     go : Dec (4 ≤ i) → r ≡ nextScore (map (histograms o) pxs) (histograms o px)
-    go (no h) = s .early (lt-of-not-le h) ∙ sym (next-none (map (histograms o) pxs) (histograms o px) (omega (arith, long, lt-of-not-le h)))
+    go (no h) = s .early (lt-of-not-le h)
+        ∙ sym (next-none (map (histograms o) pxs) (histograms o px) (omega (arith, long, lt-of-not-le h)))
     go (yes h) =
         let n : length (map (histograms o) pxs) ≡ i = omega (arith, long) in
         let a = tile (i - 4) (omega arith) (omega arith) in
@@ -79,9 +90,11 @@ score-is o pxs px {bins} {i} {r} s e ring here few last = go (decLe 4 i)
 
 -- ---- the change and the repeat
 
-module _ (o : Opening) (g : Grid) (s : Progress) (px : List ℕ) (size : length px ≡ g .lines * g .columns) (some : 1 ≤ g .lines * g .columns) (few : g .lines * g .columns ≤ 14101)
+module _ (o : Opening) (g : Grid) (s : Progress) (px : List ℕ) (size : length px ≡ g .lines * g .columns)
+    (some : 1 ≤ g .lines * g .columns) (few : g .lines * g .columns ≤ 14101)
     (small : Bytes px) where
-  exactly : (pxs : List (List ℕ)) → Figures (previous pxs) px (movesIn s) → Bytes (previous pxs) → Exact (previous pxs) px (movesIn s)
+  exactly : (pxs : List (List ℕ)) → Figures (previous pxs) px (movesIn s) → Bytes (previous pxs) →
+      Exact (previous pxs) px (movesIn s)
   exactly pxs f b = exact f b small (omega arith)
 
   pub change-is : (rounds : Bool) (pxs : List (List ℕ)) (r : ℕ) → s .pictures ≡ length pxs → ChangeOf g s rounds r →
@@ -92,11 +105,13 @@ module _ (o : Opening) (g : Grid) (s : Progress) (px : List ℕ) (size : length 
   change-is rounds (p ∷ pxs) r n c f b =
       let all = b (omega arith) in
       let x = exactly (p ∷ pxs) f (all .0) in
-      let most : s .squares % 2 ^ 32 ≤ 65025 * (g .lines * g .columns) = omega (arith, x .both, squared-most (previous (p ∷ pxs)) px (all .0) small, ap (λ (k : ℕ). 65025 * k) size) in
+      let most : s .squares % 2 ^ 32 ≤ 65025 * (g .lines * g .columns) =
+      omega (arith, x .both, squared-most (previous (p ∷ pxs)) px (all .0) small, ap (λ (k : ℕ). 65025 * k) size) in
       c .later (λ e. omega arith) .exact some few most ∙ rw (spread-of x (all .1), size)
 
   pub again-is : (pxs : List (List ℕ)) → s .pictures ≡ length pxs → Figures (previous pxs) px (movesIn s) →
-      (0 < length pxs → Bytes (previous pxs) × (length (previous pxs) ≡ length px)) → againOf s ≡ pick (nextRepeat pxs px) 1 0
+      (0 < length pxs → Bytes (previous pxs) × (length (previous pxs) ≡ length px)) →
+      againOf s ≡ pick (nextRepeat pxs px) 1 0
   unfolding nextRepeat
   again-is [] n f b = rw (eq-eqb (s .pictures) 0 n)
   again-is (p ∷ pxs) n f b =
@@ -106,7 +121,8 @@ module _ (o : Opening) (g : Grid) (s : Progress) (px : List ℕ) (size : length 
 
 -- ---- the words
 
-module _ (o : Opening) (pxs : List (List ℕ)) (px : List ℕ) {luma : List ℕ} {i q again score : ℕ} (number : i ≡ length pxs) (few : i < 750) (w : Words o pxs luma)
+module _ (o : Opening) (pxs : List (List ℕ)) (px : List ℕ) {luma : List ℕ} {i q again score : ℕ}
+    (number : i ≡ length pxs) (few : i < 750) (w : Words o pxs luma)
     (is-q : q ≡ nextChange (roundsToNearest (o .edition)) pxs px) (is-again : again ≡ pick (nextRepeat pxs px) 1 0)
     (is-score : score ≡ nextScore (map (histograms o) pxs) (histograms o px)) where
   abbrev rounded : Bool
@@ -126,7 +142,8 @@ module _ (o : Opening) (pxs : List (List ℕ)) (px : List ℕ) {luma : List ℕ}
   unfolding two
   two-size = length-set one (64 + i / 64) ((getD one (64 + i / 64) 0 + bitOf i again) % 2 ^ 64) ∙ one-size
 
-  stays : (k : ℕ) → (k ≡ 850 + i → ⊥) → (k ≡ 64 + i / 64 → ⊥) → (k ≡ 98 + i → ⊥) → getD (set two (98 + i) score) k 0 ≡ getD luma k 0
+  stays : (k : ℕ) → (k ≡ 850 + i → ⊥) → (k ≡ 64 + i / 64 → ⊥) → (k ≡ 98 + i → ⊥) →
+      getD (set two (98 + i) score) k 0 ≡ getD luma k 0
   unfolding one two
   stays k a b c =
       getD-set-other two (98 + i) k score 0 c
@@ -136,16 +153,19 @@ module _ (o : Opening) (pxs : List (List ℕ)) (px : List ℕ) {luma : List ℕ}
   scalar : (k : ℕ) → k < 64 → getD (set two (98 + i) score) k 0 ≡ getD luma k 0
   scalar k h = stays k (λ z. omega arith) (λ z. omega arith) (λ z. omega arith)
 
-  score-word : (k : ℕ) → k < 750 → getD (set two (98 + i) score) (100 + k) 0 ≡ cutScore (map (histograms o) (pxs ++ px ∷ [])) k
+  score-word : (k : ℕ) → k < 750 →
+      getD (set two (98 + i) score) (100 + k) 0 ≡ cutScore (map (histograms o) (pxs ++ px ∷ [])) k
   score-word k h = rw (map-append (histograms o) pxs (px ∷ [])) (go (ℕ-discrete (k + 2) i))
     where
       long : length (map (histograms o) pxs) ≡ length pxs
       long = length-map pxs (histograms o)
 
-      go : Dec (k + 2 ≡ i) → getD (set two (98 + i) score) (100 + k) 0 ≡ cutScore (map (histograms o) pxs ++ histograms o px ∷ []) k
+      go : Dec (k + 2 ≡ i) →
+          getD (set two (98 + i) score) (100 + k) 0 ≡ cutScore (map (histograms o) pxs ++ histograms o px ∷ []) k
       go (yes e) =
           let here : 100 + k ≡ 98 + i = omega arith in
-          rw here (getD-set-same two (98 + i) score 0 (omega (arith, two-size)) ∙ is-score ∙ sym (score-next (map (histograms o) pxs) (histograms o px) k (omega (arith, long))))
+          rw here (getD-set-same two (98 + i) score 0 (omega (arith, two-size)) ∙ is-score
+          ∙ sym (score-next (map (histograms o) pxs) (histograms o px) k (omega (arith, long))))
       go (no e) =
           stays (100 + k) (λ z. omega arith) (λ z. omega arith) (λ z. e (omega arith))
           ∙ w .scores k h
@@ -162,7 +182,8 @@ module _ (o : Opening) (pxs : List (List ℕ)) (px : List ℕ) {luma : List ℕ}
           let n : k ≡ length (changes rounded pxs) = omega (arith, length-changes rounded pxs) in
           let here : 850 + k ≡ 850 + i = omega arith in
           getD-set-other two (98 + i) (850 + k) score 0 (λ z. omega arith)
-          ∙ getD-set-other one (64 + i / 64) (850 + k) ((getD one (64 + i / 64) 0 + bitOf i again) % 2 ^ 64) 0 (λ z. omega arith)
+          ∙ getD-set-other one (64 + i / 64) (850 + k) ((getD one (64 + i / 64) 0 + bitOf i again) % 2 ^ 64) 0
+          (λ z. omega arith)
           ∙ ap (λ (z : ℕ). getD one z 0) here
           ∙ getD-set-same luma (850 + i) q 0 (omega (arith, w .size))
           ∙ is-q
@@ -182,18 +203,22 @@ module _ (o : Opening) (pxs : List (List ℕ)) (px : List ℕ) {luma : List ℕ}
       bits : length (repeats pxs) ≡ i
       bits = length-repeats pxs ∙ sym number
 
-      go : Dec (j ≡ i / 64) → getD (set two (98 + i) score) (64 + j) 0 ≡ mapWord (repeats pxs ++ nextRepeat pxs px ∷ []) j
+      go : Dec (j ≡ i / 64) →
+          getD (set two (98 + i) score) (64 + j) 0 ≡ mapWord (repeats pxs ++ nextRepeat pxs px ∷ []) j
       go (yes e) =
           let here : 64 + j ≡ 64 + i / 64 = omega arith in
           let old : getD one (64 + i / 64) 0 ≡ mapWord (repeats pxs) (i / 64) =
           getD-set-other luma (850 + i) (64 + i / 64) q 0 (λ z. omega arith) ∙ w .repeats (i / 64) (omega arith) in
-          let more : mapWord (repeats pxs ++ nextRepeat pxs px ∷ []) (i / 64) ≡ mapWord (repeats pxs) (i / 64) + 2 ^ (i % 64) * pick (nextRepeat pxs px) 1 0 =
+          let more : mapWord (repeats pxs ++ nextRepeat pxs px ∷ []) (i / 64)
+          ≡ mapWord (repeats pxs) (i / 64) + 2 ^ (i % 64) * pick (nextRepeat pxs px) 1 0 =
           rw bits at (word-more (repeats pxs) (nextRepeat pxs px)) in
           let most = word-small (repeats pxs ++ nextRepeat pxs px ∷ []) (i / 64) in
-          let power : again * 2 ^ (i % 64) ≡ 2 ^ (i % 64) * pick (nextRepeat pxs px) 1 0 = mul-comm again (2 ^ (i % 64)) ∙ ap (λ (z : ℕ). 2 ^ (i % 64) * z) is-again in
+          let power : again * 2 ^ (i % 64) ≡ 2 ^ (i % 64) * pick (nextRepeat pxs px) 1 0 =
+          mul-comm again (2 ^ (i % 64)) ∙ ap (λ (z : ℕ). 2 ^ (i % 64) * z) is-again in
           getD-set-other two (98 + i) (64 + j) score 0 (λ z. omega arith)
           ∙ ap (λ (z : ℕ). getD two z 0) here
-          ∙ getD-set-same one (64 + i / 64) ((getD one (64 + i / 64) 0 + bitOf i again) % 2 ^ 64) 0 (omega (arith, one-size))
+          ∙ getD-set-same one (64 + i / 64) ((getD one (64 + i / 64) 0 + bitOf i again) % 2 ^ 64) 0
+          (omega (arith, one-size))
           ∙ omega (arith, old, more, most, power)
           ∙ ap (λ (z : ℕ). mapWord (repeats pxs ++ nextRepeat pxs px ∷ []) z) (sym e)
       go (no e) =
@@ -206,7 +231,13 @@ module _ (o : Opening) (pxs : List (List ℕ)) (px : List ℕ) {luma : List ℕ}
   words-more =
       record {
         size = length-set two (98 + i) score ∙ two-size;
-        opening = rw (scalar 12 (omega arith), scalar 13 (omega arith), scalar 14 (omega arith), scalar 15 (omega arith), scalar 16 (omega arith)) (w .opening);
+        opening = rw (
+          scalar 12 (omega arith),
+          scalar 13 (omega arith),
+          scalar 14 (omega arith),
+          scalar 15 (omega arith),
+          scalar 16 (omega arith),
+        ) (w .opening);
         scores = score-word;
         changes = change-word;
         repeats = repeat-word;

@@ -43,7 +43,8 @@ noted w i q again score = set (withBit (set w (changesAt + i) q) i again) (98 + 
 -- the start of the next picture
 abbrev pub nextPicture : Progress → ℕ → Progress
 nextPicture s again =
-    countedAs (placedAt s (s .fed) 0 0 0 0 (record { up = 0; down = 0; squares = 0 })) (s .status) (s .place) (s .pictures + 1)
+    countedAs (placedAt s (s .fed) 0 0 0 0 (record { up = 0; down = 0; squares = 0 })) (s .status) (s .place)
+    (s .pictures + 1)
     ((s .fresh + (1 - again)) % 2 ^ 64)
 
 pub record AtPictureEnd (g : Grid) (s : Progress) : Type 0 where
@@ -52,6 +53,7 @@ pub record AtPictureEnd (g : Grid) (s : Progress) : Type 0 where
   pub line : s .line ≡ g .lines
   pub left : s .left ≡ 0
 
-pub record PictureEnded (g : Grid) (s : Progress) (luma bins : List ℕ) (r : Progress) (luma′ bins′ : List ℕ) : Type 0 where
+pub record PictureEnded (g : Grid) (s : Progress) (luma bins : List ℕ) (r : Progress)
+    (luma′ bins′ : List ℕ) : Type 0 where
   pub is : r ≡ nextPicture s (againOf s)
   pub goes : (sums picture : List ℕ) → Goes g s luma sums bins picture [] r luma′ sums bins′ picture

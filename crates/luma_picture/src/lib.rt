@@ -1,9 +1,11 @@
-// The end of a picture of the luma side: its change, whether it is repeated, the cut score that it settles, and room in the ring for the next.
+// The end of a picture of the luma side: its change, whether it is repeated, the cut score that it settles, and room
+// in the ring for the next.
 ghost use mathlib.Core.Path.{_≡_};
 ghost use Prim.Native.Nat.{ℕ, _+_, _*_, _%_, _^_, _≤_, _<_};
 ghost use lib.ListN.{length, getD};
 ghost use Rattle.luma_state.specs.State.{Fits};
-ghost use Rattle.luma_picture.specs.Contract.{againOf, ChangeOf, ScoreOf, noted, nextPicture, AtPictureEnd, PictureEnded};
+ghost use Rattle.luma_picture.specs.Contract.{againOf, ChangeOf, ScoreOf, noted, nextPicture, AtPictureEnd};
+ghost use Rattle.luma_picture.specs.Contract.{PictureEnded};
 use luma_state::Grid;
 use luma_state::Progress;
 use luma_state::Words;
@@ -91,10 +93,12 @@ fn next_picture(s: Progress, again: u64) -> Progress
     r
 }
 
-// At the end of a picture: its change, whether it is repeated, the cut score of the picture two before it, and room in the ring for the next.
+// At the end of a picture: its change, whether it is repeated, the cut score of the picture two before it, and room in
+// the ring for the next.
 pub fn end_picture(luma: &mut Words, bins: &mut Bins, g: Grid, s: Progress) -> Progress
     requires { ⌜ AtPictureEnd g s ⌝ }
-    ensures { λ r. ⌜ PictureEnded g s (now (luma .entry)) (now (bins .entry)) r (now (luma .exit)) (now (bins .exit)) ⌝ }
+    ensures { λ r. ⌜ PictureEnded g s (now (luma .entry)) (now (bins .entry)) r (now (luma .exit))
+        (now (bins .exit)) ⌝ }
 {
     let i = s.pictures;
     let again = again_of(s);

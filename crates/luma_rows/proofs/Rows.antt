@@ -1,7 +1,8 @@
 -- A block row of the current picture, and its end. No code.
 use Prim.Native.Nat.{ℕ, zero, suc, _+_, _-_, _*_, _/_, _%_, _^_, _≤_, _<_}
 use native.Mathlib.Omega.{arith}
-use native.Mathlib.Nat.{add-mul, mul-le-mul-right, mul-pos, lt-of-not-le, add-zero, div-add-mod', div-lt-iff-lt-mul, mod-lt}
+use native.Mathlib.Nat.{add-mul, mul-le-mul-right, mul-pos, lt-of-not-le, add-zero, div-add-mod', div-lt-iff-lt-mul}
+use native.Mathlib.Nat.{mod-lt}
 use native.Mathlib.Decide.{decLe}
 use mathlib.Core.Path.{_≡_, refl, sym, ap, _∙_}
 use mathlib.Core.Logic.{_⊎_, inl, inr}
@@ -30,7 +31,8 @@ use Rattle.luma_rows.specs.Contract.{Keeps, movedTo, nextRow, AtRowEnd, 
 pub keeps-none : (base : ℕ) (p k : List ℕ) → Keeps base 0 p k k
 keeps-none base p k = record { size = refl; same = λ e j h. absurd (omega arith) }
 
-pub keeps-more : {base j v : ℕ} {p a k : List ℕ} → Keeps base j p a k → j < 240 → v ≡ getD p (base + j) 0 → Keeps base (j + 1) p a (set k j v)
+pub keeps-more : {base j v : ℕ} {p a k : List ℕ} → Keeps base j p a k → j < 240 → v ≡ getD p (base + j) 0 →
+    Keeps base (j + 1) p a (set k j v)
 keeps-more {base} {j} {v} {p} {a} {k} f h e =
     record {
       size = length-set k j v ∙ f .size;
@@ -50,7 +52,8 @@ bytes-right (b ∷ s) t (and k h) = bytes-right s t h
 -- ---- the place
 
 pub at-drawing : {g : Grid} {s : Progress} {cur sums : List ℕ} → s .line < g .lines → Place g s cur sums →
-    (length cur ≡ (s .line * g .side + s .row) * g .width + s .col) × SumsOf (g .width) (g .side) (g .columns) (s .line) cur sums
+    (length cur ≡ (s .line * g .side + s .row) * g .width + s .col)
+    × SumsOf (g .width) (g .side) (g .columns) (s .line) cur sums
 at-drawing h (drawing a b c) = (b, c)
 at-drawing h (passing a b c d) = absurd (omega arith)
 
@@ -59,13 +62,15 @@ pub record Passing (g : Grid) (s : Progress) (cur sums : List ℕ) : Type 0 wher
   pub some : 0 < length cur
   pub clear : SumsOf (g .width) (g .side) (g .columns) 0 [] sums
 
-pub at-passing : {g : Grid} {s : Progress} {cur sums : List ℕ} → s .line ≡ g .lines → Place g s cur sums → Passing g s cur sums
+pub at-passing : {g : Grid} {s : Progress} {cur sums : List ℕ} → s .line ≡ g .lines → Place g s cur sums →
+    Passing g s cur sums
 at-passing h (drawing a b c) = absurd (omega arith)
 at-passing h (passing a b c d) = record { ends = b; some = c; clear = d }
 
 -- ---- the pixels that are done
 
-same-below : {W n w b e : ℕ} {p m out : List ℕ} → 0 < w → b ≤ e → RowsOf W n w b p m → RowsOf W n w e p out → (q : ℕ) → q < b * w → getD out q 0 ≡ getD m q 0
+same-below : {W n w b e : ℕ} {p m out : List ℕ} → 0 < w → b ≤ e → RowsOf W n w b p m → RowsOf W n w e p out → (q : ℕ) →
+    q < b * w → getD out q 0 ≡ getD m q 0
 same-below {W} {n} {w} {b} {e} {p} {m} {out} hw h x y q l =
     let r : q / w < b = div-lt-iff-lt-mul hw .1 l in
     let c : q % w < w = mod-lt q hw in
@@ -76,7 +81,8 @@ same-below {W} {n} {w} {b} {e} {p} {m} {out} hw h x y q l =
     ∙ ap (λ (i : ℕ). getD m i 0) here
 
 -- a row more
-take-row : {W n w b : ℕ} {p m out : List ℕ} → 0 < w → b * w + w ≤ 14104 → RowsOf W n w b p m → RowsOf W n w (b + 1) p out →
+take-row : {W n w b : ℕ} {p m out : List ℕ} → 0 < w → b * w + w ≤ 14104 → RowsOf W n w b p m →
+    RowsOf W n w (b + 1) p out →
     take ((b + 1) * w) out ≡ take (b * w) m ++ take w (drop (b * w) out)
 take-row {W} {n} {w} {b} {p} {m} {out} hw k x y =
     let e : (b + 1) * w ≡ b * w + w = omega (arith, add-mul b 1 w) in
@@ -92,11 +98,18 @@ take-row {W} {n} {w} {b} {p} {m} {out} hw k x y =
 -- ---- the ring
 
 -- counts elsewhere in the ring stay
-pub elsewhere : {w h base other : ℕ} {p a z : List ℕ} → Kept base a z → (base + 144 ≤ other) ⊎ (other + 144 ≤ base) → Counts w h other p a → Counts w h other p z
+pub elsewhere : {w h base other : ℕ} {p a z : List ℕ} → Kept base a z → (base + 144 ≤ other) ⊎ (other + 144 ≤ base) →
+    Counts w h other p a → Counts w h other p z
 elsewhere {w} {h} {base} {other} {p} {a} {z} k (inl f) c =
-    record { size = k .size ∙ c .size; each = λ t b ht hb. rw (k .high (other + (16 * t + b)) (omega arith)) (c .each t b ht hb) }
+    record {
+      size = k .size ∙ c .size;
+      each = λ t b ht hb. rw (k .high (other + (16 * t + b)) (omega arith)) (c .each t b ht hb);
+    }
 elsewhere {w} {h} {base} {other} {p} {a} {z} k (inr f) c =
-    record { size = k .size ∙ c .size; each = λ t b ht hb. rw (k .low (other + (16 * t + b)) (omega arith)) (c .each t b ht hb) }
+    record {
+      size = k .size ∙ c .size;
+      each = λ t b ht hb. rw (k .low (other + (16 * t + b)) (omega arith)) (c .each t b ht hb);
+    }
 
 -- two of five neighbouring pictures have their own slots
 pub apart : (i j : ℕ) → i < j → j ≤ i + 4 → (slot j + 144 ≤ slot i) ⊎ (slot i + 144 ≤ slot j)
@@ -108,23 +121,33 @@ apart i j h k = go (decLe (i % 5) (j % 5))
 
 -- ---- the end of a block row
 
-figures-in : {old p : List ℕ} (s : Progress) {m : Moves} → (m .up ≡ s .ups % 2 ^ 32) × (m .down ≡ s .downs % 2 ^ 32) × (m .squares ≡ s .squares % 2 ^ 32) →
+figures-in : {old p : List ℕ} (s : Progress) {m : Moves} →
+    (m .up ≡ s .ups % 2 ^ 32) × (m .down ≡ s .downs % 2 ^ 32) × (m .squares ≡ s .squares % 2 ^ 32) →
     Figures old p (movesIn s) → Figures old p m
-figures-in s e f = record { up = omega (arith, e .0, f .up); down = omega (arith, e .1, f .down); both = omega (arith, e .2, f .both) }
+figures-in s e f = record {
+  up = omega (arith, e .0, f .up);
+  down = omega (arith, e .1, f .down);
+  both = omega (arith, e .2, f .both);
+}
 
-pub row-room : (g : Grid) (s : Progress) → s .line < g .lines → s .line * g .columns + g .columns ≤ g .lines * g .columns
+pub row-room : (g : Grid) (s : Progress) → s .line < g .lines →
+    s .line * g .columns + g .columns ≤ g .lines * g .columns
 row-room g s h =
     let up : s .line + 1 ≤ g .lines = omega arith in
     omega (arith, add-mul (s .line) 1 (g .columns), mul-le-mul-right (g .columns) up)
 
-module _ (g : Grid) (s : Progress) {sums bins picture before kept sums′ bins′ picture′ : List ℕ} {m₀ m : Moves} (fits : Fits g) (line : s .line < g .lines)
-    (row : s .row ≡ g .side) (col : s .col ≡ 0) (fresh : length before ≡ 240) (keeps : Keeps (s .line * g .columns) (g .columns) picture before kept)
+module _ (g : Grid) (s : Progress) {sums bins picture before kept sums′ bins′ picture′ : List ℕ} {m₀ m : Moves}
+    (fits : Fits g) (line : s .line < g .lines)
+    (row : s .row ≡ g .side) (col : s .col ≡ 0) (fresh : length before ≡ 240)
+    (keeps : Keeps (s .line * g .columns) (g .columns) picture before kept)
     (done : RowDone (g .side) (g .columns) (s .line) picture sums picture′ sums′)
     (counted : CountedRow (g .columns) (g .lines) (s .line) (slot (s .pictures)) picture′ bins bins′)
     (start : (m₀ .up ≡ s .ups % 2 ^ 32) × (m₀ .down ≡ s .downs % 2 ^ 32) × (m₀ .squares ≡ s .squares % 2 ^ 32))
     (compared : Compared kept 0 picture′ (s .line * g .columns) (g .columns) m₀ m) where
-  row-drawn : (pxs : List (List ℕ)) (cur : List ℕ) → s .pictures ≡ length pxs → Bytes cur → length cur ≡ (s .line * g .side + s .row) * g .width + s .col →
-      SumsOf (g .width) (g .side) (g .columns) (s .line) cur sums → Drawn g s pxs cur bins picture → Drawn g (nextRow g s m) pxs cur bins′ picture′
+  row-drawn : (pxs : List (List ℕ)) (cur : List ℕ) → s .pictures ≡ length pxs → Bytes cur →
+      length cur ≡ (s .line * g .side + s .row) * g .width + s .col →
+      SumsOf (g .width) (g .side) (g .columns) (s .line) cur sums → Drawn g s pxs cur bins picture →
+      Drawn g (nextRow g s m) pxs cur bins′ picture′
   row-drawn pxs cur number small long sum d =
       let b = s .line in
       let n = g .columns in
@@ -152,7 +175,8 @@ module _ (g : Grid) (s : Progress) {sums bins picture before kept sums′ bins�
             (figures-in s start (d .moves)));
       }
 
-  row-place : (cur : List ℕ) → length cur ≡ (s .line * g .side + s .row) * g .width + s .col → SumsOf (g .width) (g .side) (g .columns) (s .line) cur sums →
+  row-place : (cur : List ℕ) → length cur ≡ (s .line * g .side + s .row) * g .width + s .col →
+      SumsOf (g .width) (g .side) (g .columns) (s .line) cur sums →
       Place g (nextRow g s m) cur sums′
   row-place cur long sum = go (decLe (g .lines) (s .line + 1))
     where
@@ -186,7 +210,8 @@ module _ (g : Grid) (s : Progress) {sums bins picture before kept sums′ bins�
                 ∙ sym (earlier (g .width) (g .side) 0 c [] (fits .some) wide (omega arith)));
           })
 
-  pub row-live : (o : Opening) (luma joined : List ℕ) → Live g o s luma sums bins picture joined → Live g o (nextRow g s m) luma sums′ bins′ picture′ (joined ++ [])
+  pub row-live : (o : Opening) (luma joined : List ℕ) → Live g o s luma sums bins picture joined →
+      Live g o (nextRow g s m) luma sums′ bins′ picture′ (joined ++ [])
   row-live o luma joined v =
       let p = at-drawing line (v .place) in
       let small : Bytes (v .cur) = bytes-right (v .whole) (v .cur) (rw (v .split) at (v .bytes)) in
@@ -207,7 +232,8 @@ module _ (g : Grid) (s : Progress) {sums bins picture before kept sums′ bins�
         pictures = v .pictures;
         fresh = v .fresh;
         words = v .words;
-        ring = λ j a b. elsewhere (rw (v .pictures) at (counted .kept)) (apart j (length (v .pxs)) a b) (v .ring j a b);
+        ring =
+            λ j a b. elsewhere (rw (v .pictures) at (counted .kept)) (apart j (length (v .pxs)) a b) (v .ring j a b);
         drawn = row-drawn (v .pxs) (v .cur) (v .pictures) small (p .0) (p .1) (v .drawn);
         place = row-place (v .cur) (p .0) (p .1);
       })
@@ -222,7 +248,8 @@ bytes-of [] h = empty
 bytes-of (b ∷ s) h = and (h 0) (bytes-of s (λ i. h (suc i)))
 
 -- where there is something to take in, something is
-pub some-used : {W n w row col : ℕ} {rest a z : List ℕ} {p : Spot} → FedRows W n w row col rest a p z → row < n → col < W → 0 < length rest → 0 < p .used
+pub some-used : {W n w row col : ℕ} {rest a z : List ℕ} {p : Spot} → FedRows W n w row col rest a p z → row < n →
+    col < W → 0 < length rest → 0 < p .used
 some-used {W} {n} {w} {row} {col} {rest} {a} {z} {p} f h k l = go (decLe 1 (p .used))
   where
     go : Dec (1 ≤ p .used) → 0 < p .used
@@ -235,8 +262,10 @@ some-used {W} {n} {w} {row} {col} {rest} {a} {z} {p} f h k l = go (decLe 1 (p .u
         let place : n * W ≡ row * W + col = omega (arith, rw end at (f .going .place)) in
         absurd (omega (arith, add-mul row 1 W, mul-le-mul-right W up))
 
-pub drew-live : {g : Grid} {o : Opening} {s : Progress} {luma sums bins picture joined rest sums′ : List ℕ} {p : Spot} → s .line < g .lines → s .pictures < 750 →
-    Bytes (take (p .used) rest) → FedRows (g .width) (g .side) (g .columns) (s .row) (s .col) rest sums p sums′ → Live g o s luma sums bins picture joined →
+pub drew-live : {g : Grid} {o : Opening} {s : Progress} {luma sums bins picture joined rest sums′ : List ℕ}
+    {p : Spot} → s .line < g .lines → s .pictures < 750 →
+    Bytes (take (p .used) rest) → FedRows (g .width) (g .side) (g .columns) (s .row) (s .col) rest sums p sums′ →
+    Live g o s luma sums bins picture joined →
     Live g o (movedTo s (p .row) (p .col) (p .used)) luma sums′ bins picture (joined ++ take (p .used) rest)
 drew-live {g} {o} {s} {luma} {sums} {bins} {picture} {joined} {rest} {sums′} {p} line more small f v =
     let chunk = take (p .used) rest in
@@ -271,19 +300,32 @@ drew-live {g} {o} {s} {luma} {sums} {bins} {picture} {joined} {rest} {sums′} {
         moves = v .drawn .moves;
       };
       place = drawing line
-          (omega (arith, long, size, q .0, f .going .place, add-mul b (p .row) (g .width), add-mul b (s .row) (g .width)))
+          (omega (
+            arith,
+            long,
+            size,
+            q .0,
+            f .going .place,
+            add-mul b (p .row) (g .width),
+            add-mul b (s .row) (g .width),
+          ))
           (f .going .sums (s .line) (v .cur) (q .0) (q .1));
     }
 
 -- ---- what `draw` promises
 
-pub at-row-end : (g : Grid) (s : Progress) {sums rest sums′ : List ℕ} {p : Spot} → Taking g s rest → s .line < g .lines →
-    FedRows (g .width) (g .side) (g .columns) (s .row) (s .col) rest sums p sums′ → (t : Progress) → t ≡ movedTo s (p .row) (p .col) (p .used) → p .row ≡ g .side →
+pub at-row-end : (g : Grid) (s : Progress) {sums rest sums′ : List ℕ} {p : Spot} → Taking g s rest →
+    s .line < g .lines →
+    FedRows (g .width) (g .side) (g .columns) (s .row) (s .col) rest sums p sums′ → (t : Progress) →
+    t ≡ movedTo s (p .row) (p .col) (p .used) → p .row ≡ g .side →
     AtRowEnd g t
-at-row-end g s taking line f t e end = rw e (record { fits = taking .fits; few = taking .sane .few; line = line; row = end; col = f .going .stops end })
+at-row-end g s taking line f t e end =
+    rw e (record { fits = taking .fits; few = taking .sane .few; line = line; row = end; col = f .going .stops end })
 
-module _ (g : Grid) (s : Progress) {sums bins picture rest sums′ : List ℕ} {p : Spot} (taking : Taking g s rest) (line : s .line < g .lines)
-    (small : (i : ℕ) → getD rest i 0 < 256) (f : FedRows (g .width) (g .side) (g .columns) (s .row) (s .col) rest sums p sums′) where
+module _ (g : Grid) (s : Progress) {sums bins picture rest sums′ : List ℕ} {p : Spot} (taking : Taking g s rest)
+    (line : s .line < g .lines)
+    (small : (i : ℕ) → getD rest i 0 < 256)
+    (f : FedRows (g .width) (g .side) (g .columns) (s .row) (s .col) rest sums p sums′) where
   pub within-row : (t : Progress) → t ≡ movedTo s (p .row) (p .col) (p .used) → (p .row ≡ g .side → ⊥) →
       Took g s sums bins picture rest (record { used = p .used; state = t }) sums′ bins picture
   within-row t e short =
@@ -292,16 +334,24 @@ module _ (g : Grid) (s : Progress) {sums bins picture rest sums′ : List ℕ} {
       (record {
         some = some-used f (taking .sane .row line) (taking .sane .col line) (taking .some);
         most = f .going .used;
-        loose = record { few = taking .sane .few; line = taking .sane .line; row = λ h. omega (arith, f .going .below, short); col = λ h. f .going .left };
+        loose = record {
+          few = taking .sane .few;
+          line = taking .sane .line;
+          row = λ h. omega (arith, f .going .below, short);
+          col = λ h. f .going .left;
+        };
         same = refl;
         goes = λ luma o joined v. drew-live line (taking .more) fed f v;
       })
 
-  pub to-row-end : (t : Progress) {r : Progress} {bins′ picture′ sums″ : List ℕ} → t ≡ movedTo s (p .row) (p .col) (p .used) →
-      RowEnded g t sums′ bins picture r sums″ bins′ picture′ → Took g s sums bins picture rest (record { used = p .used; state = r }) sums″ bins′ picture′
+  pub to-row-end : (t : Progress) {r : Progress} {bins′ picture′ sums″ : List ℕ} →
+      t ≡ movedTo s (p .row) (p .col) (p .used) →
+      RowEnded g t sums′ bins picture r sums″ bins′ picture′ →
+      Took g s sums bins picture rest (record { used = p .used; state = r }) sums″ bins′ picture′
   to-row-end t {r} {bins′} {picture′} {sums″} e ended =
       let fed = bytes-take (p .used) rest (bytes-of rest small) in
-      let at : r ≡ nextRow g (movedTo s (p .row) (p .col) (p .used)) (ended .state) = ended .is ∙ ap (λ (x : Progress). nextRow g x (ended .state)) e in
+      let at : r ≡ nextRow g (movedTo s (p .row) (p .col) (p .used)) (ended .state) =
+      ended .is ∙ ap (λ (x : Progress). nextRow g x (ended .state)) e in
       record {
         some = some-used f (taking .sane .row line) (taking .sane .col line) (taking .some);
         most = f .going .used;
@@ -314,5 +364,6 @@ module _ (g : Grid) (s : Progress) {sums bins picture rest sums′ : List ℕ} {
             });
         same = ap (λ (x : Progress). x .pictures) at;
         goes = λ luma o joined v.
-            rw append-nil at (ended .goes luma o (joined ++ take (p .used) rest) (rw e (drew-live line (taking .more) fed f v)));
+            rw append-nil
+            at (ended .goes luma o (joined ++ take (p .used) rest) (rw e (drew-live line (taking .more) fed f v)));
       }

@@ -31,7 +31,8 @@ pub record AtRowEnd (g : Grid) (s : Progress) : Type 0 where
   pub row : s .row ≡ g .side
   pub col : s .col ≡ 0
 
-pub record RowEnded (g : Grid) (s : Progress) (sums bins picture : List ℕ) (r : Progress) (sums′ bins′ picture′ : List ℕ) : Type 0 where
+pub record RowEnded (g : Grid) (s : Progress) (sums bins picture : List ℕ) (r : Progress)
+    (sums′ bins′ picture′ : List ℕ) : Type 0 where
   pub state : Moves
   pub is : r ≡ nextRow g s state
   pub goes : (luma : List ℕ) → Goes g s luma sums bins picture [] r luma sums′ bins′ picture′
@@ -54,7 +55,8 @@ pub record AtPlainRow (g : Grid) (s : Progress) (rest : List ℕ) : Type 0 where
   pub narrow : g .columns ≤ g .width
   pub there : g .width ≤ length rest
 
-pub record PlainRow (g : Grid) (s : Progress) (bins picture rest : List ℕ) (r : Progress) (bins′ picture′ : List ℕ) : Type 0 where
+pub record PlainRow (g : Grid) (s : Progress) (bins picture rest : List ℕ) (r : Progress)
+    (bins′ picture′ : List ℕ) : Type 0 where
   pub state : Moves
   pub is : r ≡ nextRow g (movedTo s 1 0 (g .width)) state
   pub goes : (luma sums : List ℕ) → Goes g s luma sums bins picture (take (g .width) rest) r luma sums bins′ picture′
@@ -67,12 +69,14 @@ pub record Loose (g : Grid) (s : Progress) : Type 0 where
   pub col : s .line < g .lines → s .col < g .width
 
 -- bytes were taken in, at least one
-pub record Took (g : Grid) (s : Progress) (sums bins picture rest : List ℕ) (r : Taken) (sums′ bins′ picture′ : List ℕ) : Type 0 where
+pub record Took (g : Grid) (s : Progress) (sums bins picture rest : List ℕ) (r : Taken)
+    (sums′ bins′ picture′ : List ℕ) : Type 0 where
   pub some : 0 < r .used
   pub most : r .used ≤ length rest
   pub loose : Loose g (r .state)
   pub same : r .state .pictures ≡ s .pictures
-  pub goes : (luma : List ℕ) → Goes g s luma sums bins picture (take (r .used) rest) (r .state) luma sums′ bins′ picture′
+  pub goes : (luma : List ℕ) →
+      Goes g s luma sums bins picture (take (r .used) rest) (r .state) luma sums′ bins′ picture′
 
 -- what taking in asks
 pub record Taking (g : Grid) (s : Progress) (rest : List ℕ) : Type 0 where

@@ -1,10 +1,12 @@
-// The current picture of the luma side: bytes of its block rows are taken in, and at the end of each its pixels are made, counted and compared.
+// The current picture of the luma side: bytes of its block rows are taken in, and at the end of each its pixels are
+// made, counted and compared.
 ghost use mathlib.Core.Path.{_≡_};
 ghost use mathlib.Core.Bool.{true};
 ghost use lib.ListN.{length};
 ghost use Prim.Native.Nat.{_+_, _%_, _^_, _≤_, _<_};
 ghost use Rattle.luma_state.specs.State.{Fits};
-ghost use Rattle.luma_rows.specs.Contract.{Keeps, movedTo, nextRow, AtRowEnd, RowEnded, Puts, AtPlainRow, PlainRow, Took, Taking};
+ghost use Rattle.luma_rows.specs.Contract.{Keeps, movedTo, nextRow, AtRowEnd, RowEnded, Puts, AtPlainRow};
+ghost use Rattle.luma_rows.specs.Contract.{PlainRow, Took, Taking};
 use luma_blocks::Picture;
 use luma_blocks::Sums;
 use luma_changes::Moves;
@@ -70,7 +72,8 @@ fn end_row(
     s: Progress,
 ) -> Progress
     requires { ⌜ AtRowEnd g s ⌝ }
-    ensures { λ r. ⌜ RowEnded g s (now (sums .entry)) (now (bins .entry)) (now (picture .entry)) r (now (sums .exit)) (now (bins .exit)) (now (picture .exit)) ⌝ }
+    ensures { λ r. ⌜ RowEnded g s (now (sums .entry)) (now (bins .entry)) (now (picture .entry)) r (now (sums .exit))
+        (now (bins .exit)) (now (picture .exit)) ⌝ }
 {
     let w = g.columns;
     let base = s.line * w;
@@ -115,7 +118,8 @@ fn is_plain(g: Grid, s: Progress, rest: &[u8]) -> bool
 // Such a row: its bytes are the pixels. No sum is made, and the sums stay what they were, none.
 fn plain_row(bins: &mut Bins, picture: &mut Picture, g: Grid, s: Progress, rest: &[u8]) -> Progress
     requires { ⌜ AtPlainRow g s (now rest) ⌝ }
-    ensures { λ r. ⌜ PlainRow g s (now (bins .entry)) (now (picture .entry)) (now (rest .entry)) r (now (bins .exit)) (now (picture .exit)) ⌝ }
+    ensures { λ r. ⌜ PlainRow g s (now (bins .entry)) (now (picture .entry)) (now (rest .entry)) r (now (bins .exit))
+        (now (picture .exit)) ⌝ }
 {
     let w = g.columns;
     let base = s.line * w;
@@ -137,7 +141,8 @@ pub fn draw(
     rest: &[u8],
 ) -> Taken
     requires { ⌜ (Taking g s (now rest)) × (s .line < g .lines) ⌝ }
-    ensures { λ r. ⌜ Took g s (now (sums .entry)) (now (bins .entry)) (now (picture .entry)) (now (rest .entry)) r (now (sums .exit)) (now (bins .exit)) (now (picture .exit)) ⌝ }
+    ensures { λ r. ⌜ Took g s (now (sums .entry)) (now (bins .entry)) (now (picture .entry)) (now (rest .entry)) r
+        (now (sums .exit)) (now (bins .exit)) (now (picture .exit)) ⌝ }
 {
     if is_plain(g, s, rest) {
         let e = plain_row(bins, picture, g, s, rest);

@@ -10,18 +10,24 @@ use Rattle.rules.specs.Bytes.{total, greatestOf, count}
 use Rattle.rules.specs.Scenes.{span, isTrue, longestFrom, startsScene, isStart, sceneOf, scenesOf}
 use Rattle.luma_scenes.specs.Words.{Column, Bits, Holds, bitAt}
 use Rattle.luma_scenes.specs.Next.{nextStart, scenesFrom}
-use Rattle.luma_scenes.specs.Contract.{NextPost, RowPost, CountPost, TotalPost, PeakPost, RepeatedPost, LongestPost}
-use Rattle.luma_laws.proofs.Spans.{total-end, total-step, total-more, peak-end, peak-step, repeated-end, repeated-step, longest-end, longest-true, longest-false, longest-least, longest-most, peak-most, total-most}
+use Rattle.luma_scenes.specs.Contract.{NextPost, RowPost, CountPost, TotalPost, PeakPost, RepeatedPost}
+use Rattle.luma_scenes.specs.Contract.{LongestPost}
+use Rattle.luma_laws.proofs.Spans.{total-end, total-step, total-more, peak-end, peak-step, repeated-end, repeated-step}
+use Rattle.luma_laws.proofs.Spans.{longest-end, longest-true, longest-false, longest-least, longest-most, peak-most}
+use Rattle.luma_laws.proofs.Spans.{total-most}
 use Rattle.luma_scenes.proofs.Held.{figure-is, bit-true, bit-false}
-use Rattle.luma_scenes.proofs.Starts.{Sought, sought-first, sought-more, sought-found, sought-none, scenes-none, scenes-next, scenes-first}
+use Rattle.luma_scenes.proofs.Starts.{Sought, sought-first, sought-more, sought-found, sought-none, scenes-none}
+use Rattle.luma_scenes.proofs.Starts.{scenes-next, scenes-first}
 
 module _ (w : List ℕ) (i j : ℕ) where
   -- ---- the sum of figures
 
   abbrev pub Summed : ℕ → ℕ → ℕ → Type 0
-  Summed base sum k = (n most : ℕ) (xs : List ℕ) → Column w base n most xs → most < 2 ^ 32 → i ≤ j → j ≤ n → (k ≤ j) × (sum + total (span k j xs) ≡ total (span i j xs))
+  Summed base sum k = (n most : ℕ) (xs : List ℕ) → Column w base n most xs → most < 2 ^ 32 → i ≤ j → j ≤ n →
+      (k ≤ j) × (sum + total (span k j xs) ≡ total (span i j xs))
 
-  pub summed-more : (base sum k r : ℕ) → Summed base sum k → k < j → r ≡ getD w (base + k) 0 % 2 ^ 32 → Summed base (sum + r) (k + 1)
+  pub summed-more : (base sum k r : ℕ) → Summed base sum k → k < j → r ≡ getD w (base + k) 0 % 2 ^ 32 →
+      Summed base (sum + r) (k + 1)
   summed-more base sum k r s h e n most xs c m g f =
       let p = s n most xs c m g f in
       let z = c .size in
@@ -39,9 +45,11 @@ module _ (w : List ℕ) (i j : ℕ) where
   -- ---- the greatest score
 
   abbrev pub Highest : ℕ → ℕ → Type 0
-  Highest top k = (n most : ℕ) (xs : List ℕ) → Column w 100 n most xs → most < 2 ^ 32 → i ≤ j → j ≤ n → (k ≤ j) × (max top (greatestOf (span k j xs)) ≡ greatestOf (span i j xs))
+  Highest top k = (n most : ℕ) (xs : List ℕ) → Column w 100 n most xs → most < 2 ^ 32 → i ≤ j → j ≤ n →
+      (k ≤ j) × (max top (greatestOf (span k j xs)) ≡ greatestOf (span i j xs))
 
-  pub highest-more : (top k r next : ℕ) → Highest top k → k < j → r ≡ getD w (100 + k) 0 % 2 ^ 32 → next ≡ max top r → Highest next (k + 1)
+  pub highest-more : (top k r next : ℕ) → Highest top k → k < j → r ≡ getD w (100 + k) 0 % 2 ^ 32 → next ≡ max top r →
+      Highest next (k + 1)
   highest-more top k r next s h e l n most xs c m g f =
       let p = s n most xs c m g f in
       let z = c .size in
@@ -59,7 +67,8 @@ module _ (w : List ℕ) (i j : ℕ) where
   -- ---- how many are repeated
 
   abbrev pub Counted : ℕ → ℕ → Type 0
-  Counted found k = (n : ℕ) (rs : List Bool) → Bits w n rs → i ≤ j → j ≤ n → (k ≤ j) × (found + count isTrue (span k j rs) ≡ count isTrue (span i j rs))
+  Counted found k = (n : ℕ) (rs : List Bool) → Bits w n rs → i ≤ j → j ≤ n →
+      (k ≤ j) × (found + count isTrue (span k j rs) ≡ count isTrue (span i j rs))
 
   pub counted-more : (found k r : ℕ) → Counted found k → k < j → r ≡ bitAt w k → Counted (found + r) (k + 1)
   counted-more found k r s h e n rs c g f =
@@ -69,7 +78,8 @@ module _ (w : List ℕ) (i j : ℕ) where
       let b = c .bit k (omega arith) in
       (omega arith, omega arith)
 
-  pub counted-all : (found k : ℕ) → Counted found k → j ≤ k → (n : ℕ) (rs : List Bool) → Bits w n rs → i ≤ j → j ≤ n → found ≡ count isTrue (span i j rs)
+  pub counted-all : (found k : ℕ) → Counted found k → j ≤ k → (n : ℕ) (rs : List Bool) → Bits w n rs → i ≤ j → j ≤ n →
+      found ≡ count isTrue (span i j rs)
   counted-all found k s h n rs c g f =
       let p = s n rs c g f in
       let e : k ≡ j = omega arith in
@@ -79,9 +89,11 @@ module _ (w : List ℕ) (i j : ℕ) where
   -- ---- the longest run: `run` repeated ones end just before picture k
 
   abbrev pub Longest : ℕ → ℕ → ℕ → Type 0
-  Longest most run k = (n : ℕ) (rs : List Bool) → Bits w n rs → i ≤ j → j ≤ n → (k ≤ j) × (max most (longestFrom run (span k j rs)) ≡ longestFrom 0 (span i j rs))
+  Longest most run k = (n : ℕ) (rs : List Bool) → Bits w n rs → i ≤ j → j ≤ n →
+      (k ≤ j) × (max most (longestFrom run (span k j rs)) ≡ longestFrom 0 (span i j rs))
 
-  pub longest-on : (most run k next : ℕ) → Longest most run k → k < j → bitAt w k ≡ 1 → next ≡ max most (run + 1) → Longest next (run + 1) (k + 1)
+  pub longest-on : (most run k next : ℕ) → Longest most run k → k < j → bitAt w k ≡ 1 → next ≡ max most (run + 1) →
+      Longest next (run + 1) (k + 1)
   longest-on most run k next s h e l n rs c g f =
       let p = s n rs c g f in
       let z = c .size in
@@ -89,7 +101,8 @@ module _ (w : List ℕ) (i j : ℕ) where
       let b = longest-least (run + 1) (span (k + 1) j rs) in
       (omega arith, omega arith)
 
-  pub longest-off : (most run k next : ℕ) → Longest most run k → k < j → (bitAt w k ≡ 1 → ⊥) → next ≡ max most 0 → run ≤ most → Longest next 0 (k + 1)
+  pub longest-off : (most run k next : ℕ) → Longest most run k → k < j → (bitAt w k ≡ 1 → ⊥) → next ≡ max most 0 →
+      run ≤ most → Longest next 0 (k + 1)
   longest-off most run k next s h e l m n rs c g f =
       let p = s n rs c g f in
       let z = c .size in
@@ -110,7 +123,8 @@ bit-small w k = omega arith
 -- ---- the next start: none is found before picture i, and `sum` is that of the scores behind b
 
 abbrev pub Seeks : List ℕ → ℕ → ℕ → ℕ → ℕ → ℕ → Type 0
-Seeks w n d b sum i = (ss : List ℕ) (rs : List Bool) (qs : List ℕ) → Holds w n ss rs qs → d < 2 ^ 32 → (sum ≡ total (span (b + 1) i ss)) × Sought d ss b i
+Seeks w n d b sum i = (ss : List ℕ) (rs : List Bool) (qs : List ℕ) → Holds w n ss rs qs → d < 2 ^ 32 →
+    (sum ≡ total (span (b + 1) i ss)) × Sought d ss b i
 
 pub seeks-first : (w : List ℕ) (n d b : ℕ) → Seeks w n d b 0 (b + 1)
 seeks-first w n d b ss rs qs h k = (sym (total-end (b + 1) ss), sought-first d ss b)
@@ -132,8 +146,10 @@ module _ (w : List ℕ) (n d b sum i : ℕ) (seeks : Seeks w n d b sum i) (after
     seeks-more f ss rs qs h k =
         let a = total-more (b + 1) i ss (omega arith) (in-scores ss rs qs h k) in
         let c = seeks ss rs qs h k .0 in
-        let s = score ss rs qs h k in
-        (omega arith, sought-more d ss b i (seeks ss rs qs h k .1) (in-scores ss rs qs h k) (sym (f ∙ is-start ss rs qs h k)))
+        let s = score ss rs qs h k in (
+          omega arith,
+          sought-more d ss b i (seeks ss rs qs h k .1) (in-scores ss rs qs h k) (sym (f ∙ is-start ss rs qs h k)),
+        )
 
     pub seeks-found : true ≡ startsScene time (i - b) r sum → NextPost w n d b i
     unfolding nextStart
@@ -141,7 +157,8 @@ module _ (w : List ℕ) (n d b sum i : ℕ) (seeks : Seeks w n d b sum i) (after
         record {
           most = omega arith;
           more = omega arith;
-          next = λ ss rs qs h k g. rw (sought-found d ss b i (seeks ss rs qs h k .1) (in-scores ss rs qs h k) (sym (f ∙ is-start ss rs qs h k)));
+          next = λ ss rs qs h k g. rw (sought-found d ss b i (seeks ss rs qs h k .1) (in-scores ss rs qs h k)
+              (sym (f ∙ is-start ss rs qs h k)));
         }
 
   pub seeks-none : i ≡ n → NextPost w n d b n
@@ -150,25 +167,29 @@ module _ (w : List ℕ) (n d b sum i : ℕ) (seeks : Seeks w n d b sum i) (after
       record {
         most = omega arith;
         more = omega arith;
-        next = λ ss rs qs h k g. let z = h .scores .size in rw (sought-none d ss b i (seeks ss rs qs h k .1) (omega arith)) (omega arith);
+        next = λ ss rs qs h k g. let z = h .scores .size in
+            rw (sought-none d ss b i (seeks ss rs qs h k .1) (omega arith)) (omega arith);
       }
 
 -- ---- how many scenes
 
 abbrev pub Tallied : List ℕ → ℕ → ℕ → ℕ → ℕ → Type 0
-Tallied w n d scenes b = (ss : List ℕ) (rs : List Bool) (qs : List ℕ) → Holds w n ss rs qs → d < 2 ^ 32 → scenes + length (scenesFrom d ss rs qs b) ≡ length (scenesOf d ss rs qs)
+Tallied w n d scenes b = (ss : List ℕ) (rs : List Bool) (qs : List ℕ) → Holds w n ss rs qs → d < 2 ^ 32 →
+    scenes + length (scenesFrom d ss rs qs b) ≡ length (scenesOf d ss rs qs)
 
 pub tallied-first : (w : List ℕ) (n d : ℕ) → Tallied w n d 0 0
 tallied-first w n d ss rs qs h k = rw (scenes-first d ss rs qs) (omega arith)
 
-pub tallied-more : (w : List ℕ) (n d scenes b r : ℕ) → Tallied w n d scenes b → b < n → NextPost w n d b r → Tallied w n d (scenes + 1) r
+pub tallied-more : (w : List ℕ) (n d scenes b r : ℕ) → Tallied w n d scenes b → b < n → NextPost w n d b r →
+    Tallied w n d (scenes + 1) r
 tallied-more w n d scenes b r t g p ss rs qs h k =
     let z = h .scores .size in
     let a = t ss rs qs h k in
     let e = ap length (scenes-next d ss rs qs b (omega arith)) in
     rw (p .next ss rs qs h k g) (omega arith)
 
-pub tallied-all : (w : List ℕ) (n d scenes b : ℕ) → Tallied w n d scenes b → n ≤ b → scenes ≤ n → CountPost w n d scenes
+pub tallied-all : (w : List ℕ) (n d scenes b : ℕ) → Tallied w n d scenes b → n ≤ b → scenes ≤ n →
+    CountPost w n d scenes
 tallied-all w n d scenes b t g m =
     record {
       most = m;
@@ -183,9 +204,18 @@ tallied-all w n d scenes b t g m =
 
 abbrev pub rowOf : ℕ → ℕ → ℕ → ℕ → ℕ → ℕ → ℕ → SceneRow
 rowOf i j repeated longest score peak change =
-    record { first = i; pictures = j - i; repeated = repeated; longest = longest; score = score; peak = peak; change = change }
+    record {
+      first = i;
+      pictures = j - i;
+      repeated = repeated;
+      longest = longest;
+      score = score;
+      peak = peak;
+      change = change;
+    }
 
-module _ (w : List ℕ) (i j p l t k q : ℕ) (repeats : RepeatedPost w i j p) (run : LongestPost w i j l) (scores : TotalPost w 100 i j t) (peak : PeakPost w i j k) (changes : TotalPost w 850 i j q) where
+module _ (w : List ℕ) (i j p l t k q : ℕ) (repeats : RepeatedPost w i j p) (run : LongestPost w i j l)
+    (scores : TotalPost w 100 i j t) (peak : PeakPost w i j k) (changes : TotalPost w 850 i j q) where
   pub row-is : RowPost w i j (rowOf i j (p % 2 ^ 32) (l % 2 ^ 32) (t % 2 ^ 32) (k % 2 ^ 32) (q % 2 ^ 32))
   unfolding sceneOf
   row-is n ss rs qs h g f =

@@ -1,4 +1,5 @@
--- The words of a luma side hold its sample's figures: the scores, the changes, and a map whose words have the repeats for their binary digits.
+-- The words of a luma side hold its sample's figures: the scores, the changes, and a map whose words have the repeats
+-- for their binary digits.
 use Prim.Native.Nat.{ℕ, zero, suc, _+_, _/_, _≤_, _<_}
 use native.Mathlib.Omega.{arith}
 use mathlib.Core.Path.{_≡_, sym, _∙_}
@@ -20,7 +21,8 @@ use Rattle.luma_laws.specs.Past.{mapWord}
 use Rattle.luma_laws.proofs.Past.{length-repeats, length-changes, word-bit}
 use Rattle.luma_scenes.specs.Words.{Bits, Holds, bitAt}
 
-map-bits : (w : List ℕ) (n : ℕ) (rs : List Bool) → n ≤ 750 → length rs ≡ n → ((j : ℕ) → j < 12 → getD w (64 + j) 0 ≡ mapWord rs j) → Bits w n rs
+map-bits : (w : List ℕ) (n : ℕ) (rs : List Bool) → n ≤ 750 → length rs ≡ n →
+    ((j : ℕ) → j < 12 → getD w (64 + j) 0 ≡ mapWord rs j) → Bits w n rs
 unfolding bitAt
 map-bits w n rs few e f = record { size = e; bit = at }
   where

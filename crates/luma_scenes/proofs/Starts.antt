@@ -57,7 +57,8 @@ module _ (d : ℕ) (ss : List ℕ) where
       later (no-more f) = no-more f
       later (another j h k f) = another j (omega arith) k f
 
-      go : (t : Bool) → Follow d ss (suc i) (startsFrom d ss n b (suc i)) → Follow d ss i (pick t (i ∷ startsFrom d ss n i (suc i)) (startsFrom d ss n b (suc i)))
+      go : (t : Bool) → Follow d ss (suc i) (startsFrom d ss n b (suc i)) →
+          Follow d ss i (pick t (i ∷ startsFrom d ss n i (suc i)) (startsFrom d ss n b (suc i)))
       go true f =
           let m : n ≡ length ss - suc i = omega arith in
           another i (omega arith) (omega arith) (rw m)
@@ -99,7 +100,8 @@ module _ (d : ℕ) (ss : List ℕ) where
     scenes-next b h = scenes-here b h ∙ go (startsAfter d ss b) (after-follow b)
       where
         go : (is : List ℕ) → Follow d ss (suc b) is →
-            scenesAt ss rs qs (b ∷ is) ≡ sceneOf ss rs qs b (firstOr (length ss) is) ∷ scenesFrom d ss rs qs (firstOr (length ss) is)
+            scenesAt ss rs qs (b ∷ is) ≡ sceneOf ss rs qs b (firstOr (length ss) is)
+            ∷ scenesFrom d ss rs qs (firstOr (length ss) is)
         go is (no-more e) = rw (e, scenes-none (length ss) (omega arith))
         go is (another j k l e) = rw (e, scenes-here j l)
 
@@ -122,7 +124,11 @@ module _ (d : ℕ) (ss : List ℕ) (rs : List Bool) (qs : List ℕ) where
     where
       go : Dec (b < length ss) → drop 1 (scenesFrom d ss rs qs b) ≡ scenesFrom d ss rs qs (nextStart d ss b)
       go (yes h) = rw (scenes-next d ss rs qs b h)
-      go (no h) = rw (scenes-none d ss rs qs b (omega arith), next-none b (omega arith), scenes-none d ss rs qs (length ss) (omega arith))
+      go (no h) = rw (
+        scenes-none d ss rs qs b (omega arith),
+        next-none b (omega arith),
+        scenes-none d ss rs qs (length ss) (omega arith),
+      )
 
   -- behind j scenes are those from the j-th start on
   pub scenes-rest : (j : ℕ) → drop j (scenesOf d ss rs qs) ≡ scenesFrom d ss rs qs (startAt d ss j)
@@ -140,9 +146,12 @@ module _ (d : ℕ) (ss : List ℕ) (rs : List Bool) (qs : List ℕ) where
   unfolding startAt
   scene-at j e h = go (decLt (startAt d ss j) (length ss))
     where
-      rows : getD (scenesOf d ss rs qs) j e ∷ drop (suc j) (scenesOf d ss rs qs) ≡ scenesFrom d ss rs qs (startAt d ss j)
+      rows : getD (scenesOf d ss rs qs) j e ∷ drop (suc j) (scenesOf d ss rs qs)
+          ≡ scenesFrom d ss rs qs (startAt d ss j)
       rows = sym (drop-cons (scenesOf d ss rs qs) j e h) ∙ scenes-rest j
 
-      go : Dec (startAt d ss j < length ss) → getD (scenesOf d ss rs qs) j e ≡ sceneOf ss rs qs (startAt d ss j) (nextStart d ss (startAt d ss j))
+      go : Dec (startAt d ss j < length ss) →
+          getD (scenesOf d ss rs qs) j e ≡ sceneOf ss rs qs (startAt d ss j) (nextStart d ss (startAt d ss j))
       go (yes k) = ap (λ (l : List SceneRow). getD l 0 e) (rows ∙ scenes-next d ss rs qs (startAt d ss j) k)
-      go (no k) = let z = ap length (rows ∙ scenes-none d ss rs qs (startAt d ss j) (omega arith)) in absurd (omega arith)
+      go (no k) =
+          let z = ap length (rows ∙ scenes-none d ss rs qs (startAt d ss j) (omega arith)) in absurd (omega arith)

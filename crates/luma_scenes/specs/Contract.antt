@@ -15,24 +15,29 @@ use Rattle.luma_scenes.specs.Next.{nextStart}
 pub record NextPost (w : List ℕ) (n d b r : ℕ) : Type 0 where
   pub most : r ≤ n
   pub more : b < n → b < r
-  pub next : (ss : List ℕ) (rs : List Bool) (qs : List ℕ) → Holds w n ss rs qs → d < 2 ^ 32 → b < n → r ≡ nextStart d ss b
+  pub next : (ss : List ℕ) (rs : List Bool) (qs : List ℕ) → Holds w n ss rs qs → d < 2 ^ 32 → b < n →
+      r ≡ nextStart d ss b
 
 -- the scene from picture i to before picture j
 abbrev pub RowPost : List ℕ → ℕ → ℕ → SceneRow → Type 0
-RowPost w i j r = (n : ℕ) (ss : List ℕ) (rs : List Bool) (qs : List ℕ) → Holds w n ss rs qs → i < j → j ≤ n → r ≡ sceneOf ss rs qs i j
+RowPost w i j r = (n : ℕ) (ss : List ℕ) (rs : List Bool) (qs : List ℕ) → Holds w n ss rs qs → i < j → j ≤ n →
+    r ≡ sceneOf ss rs qs i j
 
 -- how many scenes there are: no more than pictures
 pub record CountPost (w : List ℕ) (n d r : ℕ) : Type 0 where
   pub most : r ≤ n
-  pub scenes : (ss : List ℕ) (rs : List Bool) (qs : List ℕ) → Holds w n ss rs qs → d < 2 ^ 32 → r ≡ length (scenesOf d ss rs qs)
+  pub scenes : (ss : List ℕ) (rs : List Bool) (qs : List ℕ) → Holds w n ss rs qs → d < 2 ^ 32 →
+      r ≡ length (scenesOf d ss rs qs)
 
 -- ---- of the functions within
 
 abbrev pub TotalPost : List ℕ → ℕ → ℕ → ℕ → ℕ → Type 0
-TotalPost w base i j r = (n most : ℕ) (xs : List ℕ) → Column w base n most xs → most < 2 ^ 32 → i ≤ j → j ≤ n → r ≡ total (span i j xs)
+TotalPost w base i j r =
+    (n most : ℕ) (xs : List ℕ) → Column w base n most xs → most < 2 ^ 32 → i ≤ j → j ≤ n → r ≡ total (span i j xs)
 
 abbrev pub PeakPost : List ℕ → ℕ → ℕ → ℕ → Type 0
-PeakPost w i j r = (n most : ℕ) (xs : List ℕ) → Column w scoresAt n most xs → most < 2 ^ 32 → i ≤ j → j ≤ n → r ≡ greatestOf (span i j xs)
+PeakPost w i j r = (n most : ℕ) (xs : List ℕ) → Column w scoresAt n most xs → most < 2 ^ 32 → i ≤ j → j ≤ n →
+    r ≡ greatestOf (span i j xs)
 
 pub record RepeatedPost (w : List ℕ) (i j r : ℕ) : Type 0 where
   pub most : r ≤ j - i

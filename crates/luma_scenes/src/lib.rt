@@ -5,7 +5,8 @@ ghost use Prim.Native.Nat.{_*_, _%_, _^_, _<_, _≤_};
 ghost use lib.ListN.{getD};
 ghost use Rattle.rules.specs.Scenes.{startsScene};
 ghost use Rattle.luma_scenes.specs.Words.{bitAt};
-ghost use Rattle.luma_scenes.specs.Contract.{NextPost, RowPost, CountPost, TotalPost, PeakPost, RepeatedPost, LongestPost};
+ghost use Rattle.luma_scenes.specs.Contract.{NextPost, RowPost, CountPost, TotalPost, PeakPost, RepeatedPost};
+ghost use Rattle.luma_scenes.specs.Contract.{LongestPost};
 use luma_state::Words;
 use luma_state::layout;
 use rules::SceneRow;
@@ -27,7 +28,8 @@ fn repeat_bit(luma: &Words, i: usize) -> u64
     (word >> (i % layout::MAP_BITS)) % 2
 }
 
-// Whether a picture with the cut score s, n pictures after the last start, is the next start; sum is that of the scores between.
+// Whether a picture with the cut score s, n pictures after the last start, is the next start; sum is
+// that of the scores between.
 fn starts_scene(d: u64, n: u64, s: u64, sum: u64) -> bool
     requires { ⌜ (d < 2 ^ 32) × (1 ≤ n) × (n ≤ 750) × (s < 2 ^ 32) × (sum ≤ 750 * 2 ^ 32) ⌝ }
     ensures { λ r. ⌜ r ≡ startsScene d n s sum ⌝ }

@@ -18,7 +18,8 @@ use Rattle.luma_laws.proofs.Columns.{boundary-is}
 use Rattle.luma_laws.proofs.Full.{full-reduced}
 use Rattle.luma_state.specs.declared.Grid.{Grid}
 use Rattle.luma_state.specs.declared.Progress.{Progress}
-use Rattle.luma_state.specs.State.{Holding, Full, Fits, loaded, openingIn, gridOf, Words, Live, Sane, Stands, refused, live, Means}
+use Rattle.luma_state.specs.State.{Holding, Full, Fits, loaded, openingIn, gridOf, Words, Live, Sane, Stands}
+use Rattle.luma_state.specs.State.{refused, live, Means}
 use Rattle.luma_state.specs.Contract.{Stored, Placed}
 
 -- ---- the sizes of an opening that is not refused
@@ -61,7 +62,8 @@ is-placed h = record { sound = λ e. h; whole = λ e. refl }
 
 sets-kept : (vs l : List ℕ) (i k : ℕ) → i + length vs ≤ k → getD (sets l i vs) k 0 ≡ getD l k 0
 sets-kept [] l i k h = refl
-sets-kept (v ∷ vs) l i k h = sets-kept vs (set l i v) (suc i) k (omega arith) ∙ getD-set-other l i k v 0 (λ e. omega arith)
+sets-kept (v ∷ vs) l i k h =
+    sets-kept vs (set l i v) (suc i) k (omega arith) ∙ getD-set-other l i k v 0 (λ e. omega arith)
 
 abbrev listed : Progress → List ℕ
 listed s =
@@ -88,9 +90,11 @@ stored w s =
     }
 
 opening-kept : (w z : List ℕ) → ((i : ℕ) → 12 ≤ i → getD z i 0 ≡ getD w i 0) → openingIn z ≡ openingIn w
-opening-kept w z k = rw (k 12 (omega arith), k 13 (omega arith), k 14 (omega arith), k 15 (omega arith), k 16 (omega arith))
+opening-kept w z k =
+    rw (k 12 (omega arith), k 13 (omega arith), k 14 (omega arith), k 15 (omega arith), k 16 (omega arith))
 
-words-kept : {o : Opening} {pxs : List (List ℕ)} {w z : List ℕ} → length z ≡ length w → ((i : ℕ) → 12 ≤ i → getD z i 0 ≡ getD w i 0) → Words o pxs w → Words o pxs z
+words-kept : {o : Opening} {pxs : List (List ℕ)} {w z : List ℕ} → length z ≡ length w →
+    ((i : ℕ) → 12 ≤ i → getD z i 0 ≡ getD w i 0) → Words o pxs w → Words o pxs z
 words-kept {o} {pxs} {w} {z} n k h =
     record {
       size = n ∙ h .size;
@@ -100,7 +104,8 @@ words-kept {o} {pxs} {w} {z} n k h =
       repeats = λ j l. k (64 + j) (omega arith) ∙ h .repeats j l;
     }
 
-live-kept : {g : Grid} {o : Opening} {s : Progress} {w z sums bins picture joined : List ℕ} → length z ≡ length w → ((i : ℕ) → 12 ≤ i → getD z i 0 ≡ getD w i 0) →
+live-kept : {g : Grid} {o : Opening} {s : Progress} {w z sums bins picture joined : List ℕ} → length z ≡ length w →
+    ((i : ℕ) → 12 ≤ i → getD z i 0 ≡ getD w i 0) →
     Live g o s w sums bins picture joined → Live g o s z sums bins picture joined
 live-kept n k v =
     record {
@@ -124,19 +129,28 @@ live-kept n k v =
       place = v .place;
     }
 
-stands-kept : {o : Opening} {s : Progress} {w z sums bins picture joined : List ℕ} → length z ≡ length w → ((i : ℕ) → 12 ≤ i → getD z i 0 ≡ getD w i 0) →
+stands-kept : {o : Opening} {s : Progress} {w z sums bins picture joined : List ℕ} → length z ≡ length w →
+    ((i : ℕ) → 12 ≤ i → getD z i 0 ≡ getD w i 0) →
     Stands o s w sums bins picture joined → Stands o s z sums bins picture joined
 stands-kept n k (refused e h f) =
-    refused e h (λ g. record { there = f g .there; pictures = f g .pictures; fresh = f g .fresh; words = words-kept n k (f g .words) })
+    refused e h (λ g.
+    record { there = f g .there; pictures = f g .pictures; fresh = f g .fresh; words = words-kept n k (f g .words) })
 stands-kept n k (live e sane v) = live e sane (live-kept n k v)
 
 -- bytes behind 750 pictures
-pub full-more : {o : Opening} {s : Progress} {luma joined : List ℕ} (piece : List ℕ) → openingFault o ≡ none → Full o s luma joined → Full o s luma (joined ++ piece)
+pub full-more : {o : Opening} {s : Progress} {luma joined : List ℕ} (piece : List ℕ) → openingFault o ≡ none →
+    Full o s luma joined → Full o s luma (joined ++ piece)
 full-more {o} {s} {luma} {joined} piece g f =
     let same : reduced o (joined ++ piece) ≡ reduced o joined = full-reduced o g joined piece (f .there) in
-    record { there = simp length-append (omega (arith, f .there)); pictures = f .pictures; fresh = rw same (f .fresh); words = rw same (f .words) }
+    record {
+      there = simp length-append (omega (arith, f .there));
+      pictures = f .pictures;
+      fresh = rw same (f .fresh);
+      words = rw same (f .words);
+    }
 
-pub means-stored : {o : Opening} {r : Progress} {w z sums bins picture joined : List ℕ} → Stored w r z → Holding o r w sums bins picture joined → Means z sums bins picture o joined
+pub means-stored : {o : Opening} {r : Progress} {w z sums bins picture joined : List ℕ} → Stored w r z →
+    Holding o r w sums bins picture joined → Means z sums bins picture o joined
 means-stored {o} {r} {w} {z} st h =
     record {
       size = st .size ∙ h .size;

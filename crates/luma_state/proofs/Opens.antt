@@ -21,7 +21,8 @@ use Rattle.luma_laws.specs.Past.{previous, lastFrom, ones, mapWord}
 use Rattle.figures.specs.Opening.{numbered, OpeningFault}
 use Rattle.luma_changes.specs.Figures.{Figures}
 use Rattle.luma_state.specs.declared.Progress.{Progress}
-use Rattle.luma_state.specs.State.{Fits, Means, movesIn, openingIn, gridOf, slot, Words, drawing, Live, refused, live}
+use Rattle.luma_state.specs.State.{Fits, Means, movesIn, openingIn, gridOf, slot, Words, drawing, Live, refused}
+use Rattle.luma_state.specs.State.{live}
 use Rattle.luma_state.proofs.Kept.{fits-of}
 
 -- no pixel has moved
@@ -56,7 +57,8 @@ started =
       squares = 0;
     }
 
-no-words : (o : Opening) (luma : List ℕ) → length luma ≡ 1600 → openingIn luma ≡ o → ((i : ℕ) → 17 ≤ i → getD luma i 0 ≡ 0) → Words o [] luma
+no-words : (o : Opening) (luma : List ℕ) → length luma ≡ 1600 → openingIn luma ≡ o →
+    ((i : ℕ) → 17 ≤ i → getD luma i 0 ≡ 0) → Words o [] luma
 unfolding cutScore changes repeats mapWord ones
 no-words o luma n e z =
     record {
@@ -77,7 +79,8 @@ no-words o luma n e z =
     no-bits : (j : ℕ) → mapWord [] j ≡ 0
     no-bits j = rw (drop-nil {A = Bool} (64 * j))
 
-open-live : (o : Opening) {luma sums bins picture : List ℕ} → Fits (gridOf o) → Words o [] luma → length sums ≡ 240 → length bins ≡ 720 → length picture ≡ 14104 →
+open-live : (o : Opening) {luma sums bins picture : List ℕ} → Fits (gridOf o) → Words o [] luma → length sums ≡ 240 →
+    length bins ≡ 720 → length picture ≡ 14104 →
     Zeros sums → Zeros bins → Zeros picture → Live (gridOf o) o started luma sums bins picture []
 unfolding Zeros tally parts count repeats previous lastFrom
 open-live o {luma} {sums} {bins} {picture} f w ls lb lp zs zb zp =
@@ -101,7 +104,8 @@ open-live o {luma} {sums} {bins} {picture} f w ls lb lp zs zb zp =
       drawn = record {
         rows = record { size = lp; each = λ r c h k t. absurd (omega arith) };
         rest = λ q h k. zp q;
-        counts = rw (zero-mul (columns o)) (record { size = lb; each = λ t b h k. rw (zb (slot 0 + (16 * t + b))) refl });
+        counts =
+            rw (zero-mul (columns o)) (record { size = lb; each = λ t b h k. rw (zb (slot 0 + (16 * t + b))) refl });
         moves = rw (zero-mul (columns o)) (still [] started refl refl refl);
       };
       place = drawing (omega (arith, f .high)) (rw (zero-mul (side o), zero-mul (o .width)) refl)
@@ -112,7 +116,8 @@ open-live o {luma} {sums} {bins} {picture} f w ls lb lp zs zb zp =
 
 abbrev pub openedWords : Opening → ℕ → List ℕ
 openedWords o f =
-    set (set (set (set (set (set (replicate 1600 0) 0 f) 12 (o .width)) 13 (o .height)) 14 (o .time)) 15 (o .pid)) 16 (o .edition)
+    set (set (set (set (set (set (replicate 1600 0) 0 f) 12 (o .width)) 13 (o .height)) 14 (o .time)) 15 (o .pid))
+    16 (o .edition)
 
 pub record Small (o : Opening) : Type 0 where
   pub width : o .width < 2 ^ 32
@@ -129,8 +134,10 @@ module _ (o : Opening) (f : ℕ) (small : Small o) where
   unfolding Zeros
   behind i h =
       let l : List ℕ = replicate 1600 0 in
-      getD-set-other (set (set (set (set (set l 0 f) 12 (o .width)) 13 (o .height)) 14 (o .time)) 15 (o .pid)) 16 i (o .edition) 0 (λ e. omega arith)
-      ∙ getD-set-other (set (set (set (set l 0 f) 12 (o .width)) 13 (o .height)) 14 (o .time)) 15 i (o .pid) 0 (λ e. omega arith)
+      getD-set-other (set (set (set (set (set l 0 f) 12 (o .width)) 13 (o .height)) 14 (o .time)) 15 (o .pid)) 16 i
+      (o .edition) 0 (λ e. omega arith)
+      ∙ getD-set-other (set (set (set (set l 0 f) 12 (o .width)) 13 (o .height)) 14 (o .time)) 15 i (o .pid) 0
+      (λ e. omega arith)
       ∙ getD-set-other (set (set (set l 0 f) 12 (o .width)) 13 (o .height)) 14 i (o .time) 0 (λ e. omega arith)
       ∙ getD-set-other (set (set l 0 f) 12 (o .width)) 13 i (o .height) 0 (λ e. omega arith)
       ∙ getD-set-other (set l 0 f) 12 i (o .width) 0 (λ e. omega arith)
@@ -138,9 +145,16 @@ module _ (o : Opening) (f : ℕ) (small : Small o) where
       ∙ zeros 1600 i
 
   opening-in : openingIn (openedWords o f) ≡ o
-  opening-in = rw (mod-eq-of-lt (small .width), mod-eq-of-lt (small .height), mod-eq-of-lt (small .time), mod-eq-of-lt (small .pid), mod-eq-of-lt (small .edition))
+  opening-in = rw (
+    mod-eq-of-lt (small .width),
+    mod-eq-of-lt (small .height),
+    mod-eq-of-lt (small .time),
+    mod-eq-of-lt (small .pid),
+    mod-eq-of-lt (small .edition),
+  )
 
-  pub opened-live : OpeningFault o f → f ≡ 0 → Means (openedWords o f) (replicate 240 0) (replicate 720 0) (replicate 14104 0) o []
+  pub opened-live : OpeningFault o f → f ≡ 0 →
+      Means (openedWords o f) (replicate 240 0) (replicate 720 0) (replicate 14104 0) o []
   opened-live w z =
       let e : openingFault o ≡ none = w .shown ∙ ap numbered z in
       let fits = fits-of o e in
@@ -156,14 +170,21 @@ module _ (o : Opening) (f : ℕ) (small : Small o) where
               col = λ h. omega (arith, fits .least);
               left = λ h. absurd (omega (arith, fits .high));
             })
-            (open-live o fits (rw z at (no-words o (openedWords o f) size opening-in behind)) (length-replicate {A = ℕ} 240 0)
-            (length-replicate {A = ℕ} 720 0) (length-replicate {A = ℕ} 14104 0) (zeros 240) (zeros 720) (zeros 14104)));
+            (open-live o fits (rw z at (no-words o (openedWords o f) size opening-in behind))
+            (length-replicate {A = ℕ} 240 0)
+            (length-replicate {A = ℕ} 720 0) (length-replicate {A = ℕ} 14104 0) (zeros 240) (zeros 720)
+            (zeros 14104)));
       }
 
 never : {p q : ℕ} → fault p q ≡ none → ⊥
 never e = let z : _≡_ {A = ℕ} 0 1 = cc in omega arith
 
-pub opened : (o : Opening) (f : ℕ) → Small o → OpeningFault o f → Means (openedWords o f) (replicate 240 0) (replicate 720 0) (replicate 14104 0) o []
+pub opened : (o : Opening) (f : ℕ) → Small o → OpeningFault o f →
+    Means (openedWords o f) (replicate 240 0) (replicate 720 0) (replicate 14104 0) o []
 opened o zero small w = opened-live o 0 small w refl
 opened o (suc k) small w =
-    record { size = size o (suc k) small; opening = opening-in o (suc k) small; stands = refused (rw (w .shown)) (omega arith) (λ g. absurd (never (sym (w .shown) ∙ g))) }
+    record {
+      size = size o (suc k) small;
+      opening = opening-in o (suc k) small;
+      stands = refused (rw (w .shown)) (omega arith) (λ g. absurd (never (sym (w .shown) ∙ g)));
+    }

@@ -1,6 +1,7 @@
--- What the lent arrays of the luma side stand for. The luma words' scalars are `Progress` and the opening; the other words hold what is known of the whole
--- pictures. `sums` are the block sums of the current block row, `bins` a ring of five pictures' histograms, `picture` the pixels: those of the block rows that
--- are done are the current picture's, the others the previous one's.
+-- What the lent arrays of the luma side stand for. The luma words' scalars are `Progress` and the opening; the other
+-- words hold what is known of the whole pictures. `sums` are the block sums of the current block row, `bins` a ring of
+-- five pictures' histograms, `picture` the pixels: those of the block rows that are done are the current picture's,
+-- the others the previous one's.
 use Prim.Native.Nat.{ℕ, _+_, _*_, _/_, _%_, _^_, _≤_, _<_}
 use mathlib.Core.Path.{_≡_}
 use mathlib.Core.List.{List, [], _++_, map}
@@ -29,8 +30,9 @@ use Rattle.luma_state.specs.Layout.{wordCount, repeatsAt, scoresAt, chan
 
 -- ---- the scalars
 
--- words 0 to 11: the number of the refusal that stands (0: none) and its place; bytes fed; whole pictures, and those of them that are not repeated; of the current
--- picture the block rows that are done, the row in the current one, the column, the bytes left of the surplus rows, and the sums of its pixels' rises, falls and squares
+-- words 0 to 11: the number of the refusal that stands (0: none) and its place; bytes fed; whole pictures, and those
+-- of them that are not repeated; of the current picture the block rows that are done, the row in the current one, the
+-- column, the bytes left of the surplus rows, and the sums of its pixels' rises, falls and squares
 abbrev pub loaded : List ℕ → Progress
 loaded w =
     record {
@@ -98,7 +100,8 @@ pub record Fits (g : Grid) : Type 0 where
 
 -- ---- whole pictures, with the pixels pxs
 
--- what the words hold: the opening, and of the pictures every cut score that is settled and every change, 0 elsewhere, and the map of repeats
+-- what the words hold: the opening, and of the pictures every cut score that is settled and every change, 0 elsewhere,
+-- and the map of repeats
 pub record Words (o : Opening) (pxs : List (List ℕ)) (luma : List ℕ) : Type 0 where
   pub size : length luma ≡ wordCount
   pub opening : openingIn luma ≡ o
@@ -112,18 +115,22 @@ slot i = 144 * (i % 5)
 
 -- the ring has the last four pictures' histograms
 abbrev pub Ring : Grid → List (List ℕ) → List ℕ → Type 0
-Ring g pxs bins = (j : ℕ) → j < length pxs → length pxs ≤ j + 4 → Counts (g .columns) (g .lines) (slot j) (getD pxs j []) bins
+Ring g pxs bins =
+    (j : ℕ) → j < length pxs → length pxs ≤ j + 4 → Counts (g .columns) (g .lines) (slot j) (getD pxs j []) bins
 
 -- ---- the current picture, of which the bytes cur are there
 
--- the pixels of the block rows that are done, their histograms, and how they moved against the previous picture; the other pixels are the previous picture's
+-- the pixels of the block rows that are done, their histograms, and how they moved against the previous picture; the
+-- other pixels are the previous picture's
 pub record Drawn (g : Grid) (s : Progress) (pxs : List (List ℕ)) (cur bins picture : List ℕ) : Type 0 where
   pub rows : RowsOf (g .width) (g .side) (g .columns) (s .line) cur picture
-  pub rest : (q : ℕ) → s .line * g .columns ≤ q → q < g .lines * g .columns → getD picture q 0 ≡ getD (previous pxs) q 0
+  pub rest : (q : ℕ) → s .line * g .columns ≤ q → q < g .lines * g .columns →
+      getD picture q 0 ≡ getD (previous pxs) q 0
   pub counts : Counts (g .columns) (g .lines) (slot (length pxs)) (take (s .line * g .columns) picture) bins
   pub moves : Figures (previous pxs) (take (s .line * g .columns) picture) (movesIn s)
 
--- where it ends: in a block row, whose block sums these are, or in the surplus rows behind the last block row, of which `left` bytes are to come
+-- where it ends: in a block row, whose block sums these are, or in the surplus rows behind the last block row, of
+-- which `left` bytes are to come
 pub data Place (g : Grid) (s : Progress) (cur sums : List ℕ) : Type 0 where
   drawing : s .line < g .lines → length cur ≡ (s .line * g .side + s .row) * g .width + s .col →
       SumsOf (g .width) (g .side) (g .columns) (s .line) cur sums → Place g s cur sums
@@ -168,11 +175,14 @@ pub record Full (o : Opening) (s : Progress) (luma joined : List ℕ) : Type 0 w
   pub fresh : s .fresh ≡ count not (repeats (reduced o joined)) % 2 ^ 64
   pub words : Words o (reduced o joined) luma
 
--- The arrays stand for the opening o and the joined bytes: a refusal stands, the opening's or 10, with its place; or none
+-- The arrays stand for the opening o and the joined bytes: a refusal stands, the opening's or
+-- 10, with its place; or none
 pub data Stands (o : Opening) (s : Progress) (luma sums bins picture joined : List ℕ) : Type 0 where
-  refused : openingFault o orElse lumaFault o joined ≡ fault (s .status) (s .place) → 0 < s .status → (openingFault o ≡ none → Full o s luma joined) →
+  refused : openingFault o orElse lumaFault o joined ≡ fault (s .status) (s .place) → 0 < s .status →
+      (openingFault o ≡ none → Full o s luma joined) →
       Stands o s luma sums bins picture joined
-  live : openingFault o ≡ none → Sane (gridOf o) s → Live (gridOf o) o s luma sums bins picture joined → Stands o s luma sums bins picture joined
+  live : openingFault o ≡ none → Sane (gridOf o) s → Live (gridOf o) o s luma sums bins picture joined →
+      Stands o s luma sums bins picture joined
 
 -- what the lent arrays stand for: the opening and the joined bytes
 pub record Means (luma sums bins picture : List ℕ) (o : Opening) (joined : List ℕ) : Type 0 where
@@ -189,6 +199,8 @@ pub record Holding (o : Opening) (s : Progress) (luma sums bins picture joined :
   pub stands : Stands o s luma sums bins picture joined
 
 -- from one state of the arrays, by the bytes of chunk, to another, whatever the opening and the joined bytes
-abbrev pub Goes : Grid → Progress → List ℕ → List ℕ → List ℕ → List ℕ → List ℕ → Progress → List ℕ → List ℕ → List ℕ → List ℕ → Type 0
+abbrev pub Goes : Grid → Progress → List ℕ → List ℕ → List ℕ → List ℕ → List ℕ → Progress → List ℕ → List ℕ → List ℕ →
+    List ℕ → Type 0
 Goes g s luma sums bins picture chunk r luma′ sums′ bins′ picture′ =
-    (o : Opening) (joined : List ℕ) → Live g o s luma sums bins picture joined → Live g o r luma′ sums′ bins′ picture′ (joined ++ chunk)
+    (o : Opening) (joined : List ℕ) → Live g o s luma sums bins picture joined →
+    Live g o r luma′ sums′ bins′ picture′ (joined ++ chunk)

@@ -1,4 +1,5 @@
-// What the lent arrays of the luma side mean: its scalars, the sizes of its pictures, where everything stands, and how it is opened, read and kept between calls.
+// What the lent arrays of the luma side mean: its scalars, the sizes of its pictures, where everything stands, and how
+// it is opened, read and kept between calls.
 ghost use mathlib.Core.Path.{_≡_};
 ghost use Prim.Native.Nat.{_+_, _*_, _%_, _^_, _≤_};
 
@@ -15,7 +16,8 @@ pub use stored::opening_in;
 pub use stored::placed;
 pub use stored::store;
 
-// The sizes of a sample's pictures: rows of `width` bytes, blocks of `side` by `side` of them, `columns` by `lines` pixels, `bytes` in all.
+// The sizes of a sample's pictures: rows of `width` bytes, blocks of `side` by `side` of them, `columns` by `lines`
+// pixels, `bytes` in all.
 // The second and the third tile column begin at the columns `second` and `third`.
 pub struct Grid {
     pub width: usize,
@@ -27,8 +29,8 @@ pub struct Grid {
     pub third: usize,
 }
 
-// The scalars of the state: the refusal that stands, bytes fed, whole pictures and those that are not repeated, the place in the current picture, and how its
-// pixels moved so far.
+// The scalars of the state: the refusal that stands, bytes fed, whole pictures and those that are not repeated, the
+// place in the current picture, and how its pixels moved so far.
 pub struct Progress {
     pub status: u64,
     pub place: u64,

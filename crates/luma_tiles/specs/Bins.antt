@@ -1,4 +1,5 @@
--- The histograms of a reduced picture, by counting. The picture is the list of its pixels, w in each of h rows. Five pictures' bins, 144 each, lie in one ring.
+-- The histograms of a reduced picture, by counting. The picture is the list of its pixels, w in each of h rows. Five
+-- pictures' bins, 144 each, lie in one ring.
 use Prim.Native.Nat.{ℕ, _+_, _*_, _%_, _^_, _≤_, _<_}
 use mathlib.Core.Path.{_≡_}
 use mathlib.Core.List.{List, [], _++_}
@@ -10,7 +11,8 @@ use Rattle.rules.specs.Columns.{Boundary}
 use Rattle.luma_laws.specs.Tallies.{binTally}
 use Rattle.luma_blocks.specs.Sums.{run}
 
--- The 144 counts from `base` on stand for the first pixels p of a picture: bin b of tile t is count 16 t + b, modulo 2 ^ 32
+-- The 144 counts from `base` on stand for the first pixels p of a picture: bin b of tile t is
+-- count 16 t + b, modulo 2 ^ 32
 pub record Counts (w h base : ℕ) (p counts : List ℕ) : Type 0 where
   pub size : length counts ≡ 720
   pub each : (t b : ℕ) → t < 9 → b < 16 → getD counts (base + (16 * t + b)) 0 % 2 ^ 32 ≡ binTally w h t b p % 2 ^ 32
@@ -39,12 +41,14 @@ pub record Grown (base : ℕ) (f : ℕ → ℕ → ℕ) (before after : List ℕ
 -- by m pixels of each of the three tiles from t on, which stand from these three places on
 abbrev pub Three : ℕ → ℕ → List ℕ → ℕ → ℕ → ℕ → ℕ → List ℕ → List ℕ → Type 0
 Three base t pixels x y z m =
-    Grown base (λ u b. inTile t (run pixels x m) u b + inTile (t + 1) (run pixels y m) u b + inTile (t + 2) (run pixels z m) u b)
+    Grown base
+    (λ u b. inTile t (run pixels x m) u b + inTile (t + 1) (run pixels y m) u b + inTile (t + 2) (run pixels z m) u b)
 
 -- a row of pixels more
 pub record CountedRow (w h r base : ℕ) (pixels before after : List ℕ) : Type 0 where
   pub kept : Kept base before after
-  pub more : (p : List ℕ) → length p ≡ r * w → Counts w h base p before → Counts w h base (p ++ run pixels (r * w) w) after
+  pub more : (p : List ℕ) → length p ≡ r * w → Counts w h base p before →
+      Counts w h base (p ++ run pixels (r * w) w) after
 
 -- what `count_row` asks
 pub record Row (w h r base second third : ℕ) (pixels : List ℕ) : Type 0 where

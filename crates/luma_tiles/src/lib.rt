@@ -1,4 +1,5 @@
-// The histograms of a reduced picture: 16 bins for each of nine tiles. Five pictures' counts, 144 each, lie in one array, as a ring.
+// The histograms of a reduced picture: 16 bins for each of nine tiles. Five pictures' counts, 144 each,
+// lie in one array, as a ring.
 ghost use mathlib.Core.Path.{_≡_};
 ghost use mathlib.Core.List.{[], _∷_};
 ghost use Prim.Native.Nat.{_+_, _≤_, _<_};
@@ -47,7 +48,8 @@ fn count(counts: &mut Bins, base: usize, t: usize, v: u8)
     counts[i] = std::num::wrapping_add_u32(counts[i], 1);
 }
 
-// m pixels of each of the three tiles from t on, from x, y and z on. One tile after the other, so that a count is rarely raised twice in a row: it would have to wait.
+// m pixels of each of the three tiles from t on, from x, y and z on. One tile after the other, so that a count is
+// rarely raised twice in a row: it would have to wait.
 fn count_columns(
     counts: &mut Bins,
     base: usize,
@@ -73,14 +75,16 @@ fn count_columns(
 // The pixel that a tile has more than the others in a row, or none: m from `from` on.
 fn count_last(counts: &mut Bins, base: usize, t: usize, pixels: &[u8], from: usize, m: usize)
     requires { ⌜ (base + 144 ≤ 720) × (t < 9) × (m ≤ 1) × (from + m ≤ length (now pixels)) ⌝ }
-    ensures { λ _. ⌜ Grown base (inTile t (run (now (pixels .entry)) from m)) (now (counts .entry)) (now (counts .exit)) ⌝ }
+    ensures { λ _. ⌜ Grown base (inTile t (run (now (pixels .entry)) from m)) (now (counts .entry))
+        (now (counts .exit)) ⌝ }
 {
     if 0 < m {
         count(counts, base, t, pixels[from]);
     }
 }
 
-// Row r of the pixels, in the counts from `base` on. The tiles' columns begin at 0 and at the two boundaries, and no tile has fewer than the last.
+// Row r of the pixels, in the counts from `base` on. The tiles' columns begin at 0 and at the two boundaries, and no
+// tile has fewer than the last.
 pub fn count_row(
     counts: &mut Bins,
     base: usize,

@@ -48,7 +48,8 @@ fn hint(number: u64) {
     }
 }
 
-// Seals, and writes the record or says why there is none. No record is longer than the buffer: 64 bytes, and 32 for each of 750 units and 250 scenes.
+// Seals, and writes the record or says why there is none. No record is longer than the buffer: 64 bytes, and 32 for
+// each of 750 units and 250 scenes.
 fn seal(
     walk: &WalkWords,
     kept: &Collected,

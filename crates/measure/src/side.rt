@@ -1,4 +1,5 @@
-// Feeding a side from a file or from standard input, until its end or until it is refused: what comes later is ignored.
+// Feeding a side from a file or from standard input, until its end or until it is refused:
+// what comes later is ignored.
 use crate::arguments::is_dash;
 use capture::Numbers;
 use capture_units::Table;
@@ -77,8 +78,8 @@ fn luma_turn(
     turn_of(sample::feed_luma(luma, sums, bins, picture, &piece[..n]))
 }
 
-// Feeds the whole capture; answers whether it could be read. A proved loop has to end, and nothing says that a file does: the turns are counted down
-// from a number that no run uses up.
+// Feeds the whole capture; answers whether it could be read. A proved loop has to end, and nothing says that a file
+// does: the turns are counted down from a number that no run uses up.
 pub fn feed_capture(
     name: &[u8],
     piece: &mut [u8],

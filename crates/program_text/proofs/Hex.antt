@@ -29,10 +29,16 @@ hexText-more : (bs : List ℕ) (i : ℕ) → i < length bs →
 unfolding hexText endToEnd
 hexText-more bs i h =
     let two : ℕ → List ℕ = λ b. digit (b / 16) ∷ digit (b % 16) ∷ [] in
-    rw (add-one i, take-suc bs i 0 h, map-append two (take i bs) (getD bs i 0 ∷ []), endToEnd-append (map two (take i bs)) (two (getD bs i 0) ∷ []))
+    rw (
+      add-one i,
+      take-suc bs i 0 h,
+      map-append two (take i bs) (getD bs i 0 ∷ []),
+      endToEnd-append (map two (take i bs)) (two (getD bs i 0) ∷ []),
+    )
     refl
 
-module _ (bs s t : List ℕ) (i : ℕ) (inside : i < length bs) (room : 2 * length bs ≤ length s) (is : t ≡ over (hexText (take i bs)) s) where
+module _ (bs s t : List ℕ) (i : ℕ) (inside : i < length bs) (room : 2 * length bs ≤ length s)
+    (is : t ≡ over (hexText (take i bs)) s) where
   written-so-far : length (hexText (take i bs)) ≡ 2 * i
   written-so-far = omega (arith, length-hexText (take i bs), length-take-le i bs (omega arith))
 
@@ -55,7 +61,8 @@ pub none-yet : (bs s : List ℕ) → s ≡ over (hexText (take 0 bs)) s
 unfolding over hexText endToEnd
 none-yet bs s = refl
 
-pub all-written : (bs s t : List ℕ) (i : ℕ) → i ≤ length bs → length bs ≤ i → t ≡ over (hexText (take i bs)) s → (2 * i ≡ 2 * length bs) × (t ≡ over (hexText bs) s)
+pub all-written : (bs s t : List ℕ) (i : ℕ) → i ≤ length bs → length bs ≤ i → t ≡ over (hexText (take i bs)) s →
+    (2 * i ≡ 2 * length bs) × (t ≡ over (hexText bs) s)
 all-written bs s t i h k e =
     let n : i ≡ length bs = omega arith in
     (omega arith, e ∙ rw (n, take-all (length bs) bs (omega arith)))

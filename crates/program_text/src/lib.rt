@@ -1,4 +1,5 @@
-// What programs print of an answer and of bytes. Each line, and each run of digits, is made in a buffer and written at once to standard output.
+// What programs print of an answer and of bytes. Each line, and each run of digits, is made in a buffer and written at
+// once to standard output.
 ghost use mathlib.Core.Path.{_≡_};
 ghost use Prim.Native.Nat.{_+_, _*_, _≤_, _<_};
 ghost use lib.ListN.{length};
@@ -11,7 +12,10 @@ use rules::Answer;
 // A word, numbers and an end, at the front of the line.
 fn put_line(line: &mut [u8], word: &[u8], numbers: &[u64], end: &[u8]) -> usize
     requires { ⌜ length (now word) + 21 * length (now numbers) + length (now end) ≤ length (now line) ⌝ }
-    ensures { λ r. ⌜ (r ≡ length (lineOf (now (word .entry)) (now (numbers .entry)) (now (end .entry)))) × Counts r (now (line .exit)) × (now (line .exit) ≡ over (lineOf (now (word .entry)) (now (numbers .entry)) (now (end .entry))) (now (line .entry))) ⌝ }
+    ensures { λ r. ⌜ (r ≡ length (lineOf (now (word .entry)) (now (numbers .entry)) (now (end .entry))))
+        × Counts r (now (line .exit))
+        × (now (line .exit)
+        ≡ over (lineOf (now (word .entry)) (now (numbers .entry)) (now (end .entry))) (now (line .entry))) ⌝ }
 {
     let start = record_text::put_text(line, 0, word);
     let figures = record_text::put_fields(line, start, numbers);
@@ -22,7 +26,10 @@ fn put_line(line: &mut [u8], word: &[u8], numbers: &[u64], end: &[u8]) -> usize
 fn put_answer(line: &mut [u8], done: &[u8], refused: &[u8], a: Answer, end: &[u8]) -> usize
     requires { ⌜ length (now done) + 42 + length (now end) ≤ length (now line) ⌝ }
     requires { ⌜ length (now refused) + 42 + length (now end) ≤ length (now line) ⌝ }
-    ensures { λ r. ⌜ (r ≡ length (answerText (now (done .entry)) (now (refused .entry)) a (now (end .entry)))) × Counts r (now (line .exit)) × (now (line .exit) ≡ over (answerText (now (done .entry)) (now (refused .entry)) a (now (end .entry))) (now (line .entry))) ⌝ }
+    ensures { λ r. ⌜ (r ≡ length (answerText (now (done .entry)) (now (refused .entry)) a (now (end .entry))))
+        × Counts r (now (line .exit))
+        × (now (line .exit)
+        ≡ over (answerText (now (done .entry)) (now (refused .entry)) a (now (end .entry))) (now (line .entry))) ⌝ }
 {
     match a {
         Answer::Done(n) => put_line(line, done, &[n], end),
@@ -72,7 +79,9 @@ fn digit(d: u8) -> u8
 // Each byte as two hexadecimal digits.
 fn put_hex(text: &mut [u8], bytes: &[u8]) -> usize
     requires { ⌜ 2 * length (now bytes) ≤ length (now text) ⌝ }
-    ensures { λ r. ⌜ (r ≡ 2 * length (now (bytes .entry))) × Counts r (now (text .exit)) × (now (text .exit) ≡ over (hexText (now (bytes .entry))) (now (text .entry))) ⌝ }
+    ensures { λ r. ⌜ (r ≡ 2 * length (now (bytes .entry)))
+        × Counts r (now (text .exit))
+        × (now (text .exit) ≡ over (hexText (now (bytes .entry))) (now (text .entry))) ⌝ }
 {
     let mut i = 0;
     while i < bytes.len() {

@@ -24,7 +24,8 @@ module _ {A : Type 0} (test : A → Bool) where
   parted (x ∷ xs) = go (test x) (parted xs)
     where
       go : (b : Bool) → length xs ≡ length (only test xs) + count (λ x. not (test x)) xs →
-          suc (length xs) ≡ length (pick b (x ∷ only test xs) (only test xs)) + (pick (not b) 1 0 + count (λ x. not (test x)) xs)
+          suc (length xs)
+          ≡ length (pick b (x ∷ only test xs) (only test xs)) + (pick (not b) 1 0 + count (λ x. not (test x)) xs)
       go true h = omega arith
       go false h = omega arith
 
@@ -51,9 +52,14 @@ cells-told place (f ∷ fs) = go (carries f) (cells-told (place + length f) fs)
     here = packetsFrom (cellsIn f) (frameTime f) (place + 58) (drop 42 (body f))
 
     go : (b : Bool) → length (packets (place + length f) fs) ≡ total (map cellsIn (only carries fs)) →
-        length (pick b here [] ++ packets (place + length f) fs) ≡ total (map cellsIn (pick b (f ∷ only carries fs) (only carries fs)))
+        length (pick b here [] ++ packets (place + length f) fs)
+        ≡ total (map cellsIn (pick b (f ∷ only carries fs) (only carries fs)))
     go true h =
-        rw (length-append here (packets (place + length f) fs), length-from (cellsIn f) (frameTime f) (place + 58) (drop 42 (body f)), h)
+        rw (
+          length-append here (packets (place + length f) fs),
+          length-from (cellsIn f) (frameTime f) (place + 58) (drop 42 (body f)),
+          h,
+        )
     go false h = h
 
 -- ---- each is counted once

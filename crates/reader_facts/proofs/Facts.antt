@@ -42,7 +42,8 @@ use Rattle.reader_facts.proofs.Rows.{packets-words, damaged-words, rows
 
 -- ---- of a record that can be sealed
 
-module _ (o : Opening) (capture luma : List ℕ) (w : Sealable o capture luma) (bc : Bytes capture) (bl : Bytes luma) where
+module _ (o : Opening) (capture luma : List ℕ) (w : Sealable o capture luma) (bc : Bytes capture)
+    (bl : Bytes luma) where
   abbrev r : List ℕ
   r = sealed o capture luma
 
@@ -93,12 +94,14 @@ module _ (o : Opening) (capture luma : List ℕ) (w : Sealable o capture luma) (
       }
 
   abbrev value : Float
-  value = indexOf (unrepeated o luma) (pictureCount o luma) (allPackets (units o capture)) (allLost (units o capture)) .value
+  value = indexOf (unrepeated o luma) (pictureCount o luma) (allPackets (units o capture))
+      (allLost (units o capture)) .value
 
   index-back : indexIn r ≡ value
   unfolding indexIn indexBits index indexFrom indexOf valueOf
   index-back =
-      let b : word64 r 56 ≡ indexBits (index o capture luma) = unfold headerOf header in ap (λ (x : Header). x .index) told in
+      let b : word64 r 56 ≡ indexBits (index o capture luma) =
+      unfold headerOf header in ap (λ (x : Header). x .index) told in
       rw b (ofBits-toBits binary64 value (add-fits binary64 (float 1) _))
 
   one-to-five : OneToFive r
@@ -118,8 +121,10 @@ same-units o capture luma luma′ w w′ bc bl bl′ =
     let f = figures-fit o capture luma w bc bl in
     let f′ = figures-fit o capture luma′ w′ bc bl′ in
     record {
-      units = units-told (header o capture luma) us (scenes o luma) f ∙ sym (units-told (header o capture luma′) us (scenes o luma′) f′);
-      rows = rows-bytes (header o capture luma) us (scenes o luma) f ∙ sym (rows-bytes (header o capture luma′) us (scenes o luma′) f′);
+      units = units-told (header o capture luma) us (scenes o luma) f
+          ∙ sym (units-told (header o capture luma′) us (scenes o luma′) f′);
+      rows = rows-bytes (header o capture luma) us (scenes o luma) f
+          ∙ sym (rows-bytes (header o capture luma′) us (scenes o luma′) f′);
     }
 
 -- ---- of every successful seal
@@ -135,10 +140,12 @@ left o capture luma r s =
     let l = s .luma-is in
     let e =
     rw (c, l) at
-    (sealed-last o (s .opened) (s .first) (s .last) (s .calls) (s .outcomes) (s .before) (s .after) (s .answer) (s .opens) (s .runs)) in
+    (sealed-last o (s .opened) (s .first) (s .last) (s .calls) (s .outcomes) (s .before) (s .after) (s .answer)
+    (s .opens) (s .runs)) in
     record {
       is = s .is ∙ in-front o capture luma (s .before) (s .after) (s .answer) e;
-      well = sealable o capture luma (length (s .before)) (sealed-well o capture luma (s .before) (s .after) (s .answer) e .0);
+      well = sealable o capture luma (length (s .before))
+          (sealed-well o capture luma (s .before) (s .after) (s .answer) e .0);
     }
 
 pub every-seal-counts : EverySealCounts

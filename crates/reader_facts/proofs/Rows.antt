@@ -13,7 +13,8 @@ use Rattle.rules.specs.Bytes.{word32, total, table, endToEnd}
 use Rattle.rules.specs.Record.{headerBytes, unitBytes, sceneBytes, recordBytes}
 use Rattle.rules.specs.Reading.{headerOf, unitPlace, unitAt}
 use Rattle.record_laws.proofs.Words.{word32-drop}
-use Rattle.record_laws.proofs.Record.{Figures, unit-read, length-header, length-unit, length-rows, parts-of, header-read}
+use Rattle.record_laws.proofs.Record.{Figures, unit-read, length-header, length-unit, length-rows, parts-of}
+use Rattle.record_laws.proofs.Record.{header-read}
 use Rattle.reader_facts.specs.Facts.{unitWords, unitRows}
 
 -- a table whose entries are those of a list
@@ -71,7 +72,12 @@ module _ (h : Header) (us : List UnitRow) (ss : List SceneRow) (f : Figures h us
   pub rows-bytes : unitRows made ≡ endToEnd (map unitBytes us)
   unfolding unitRows
   rows-bytes =
-      rw (units-told, parts-of h us ss, drop-at (headerBytes h) (endToEnd (map unitBytes us) ++ endToEnd (map sceneBytes ss)) 64 (length-header h), ← length-rows unitBytes length-unit us)
+      rw (
+        units-told,
+        parts-of h us ss,
+        drop-at (headerBytes h) (endToEnd (map unitBytes us) ++ endToEnd (map sceneBytes ss)) 64 (length-header h),
+        ← length-rows unitBytes length-unit us,
+      )
       (take-front (endToEnd (map unitBytes us)) (endToEnd (map sceneBytes ss)))
     where
       take-front : (xs ys : List ℕ) → take (length xs) (xs ++ ys) ≡ xs

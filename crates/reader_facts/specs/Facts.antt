@@ -79,7 +79,8 @@ pub record SealedBy (o : Opening) (capture luma r : List ℕ) : Type 0 where
   pub after : List ℕ
   pub answer : ℕ
   pub opens : OpenPost o opened first
-  pub runs : Runs first (calls ++ ask (seal before) ∷ []) (outcomes ++ replied (sealedInto (Done answer) after) ∷ []) last
+  pub runs : Runs first (calls ++ ask (seal before) ∷ [])
+      (outcomes ++ replied (sealedInto (Done answer) after) ∷ []) last
   pub capture-is : captureFed calls ≡ capture
   pub luma-is : lumaFed calls ≡ luma
   pub capture-bytes : Bytes capture

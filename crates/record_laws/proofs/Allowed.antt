@@ -1,4 +1,5 @@
--- What the reader allows: of a record that was made of figures, exactly figures that meet the conditions; and a record that is allowed is the record of the figures read from it.
+-- What the reader allows: of a record that was made of figures, exactly figures that meet the conditions; and a record
+-- that is allowed is the record of the figures read from it.
 use Prim.Native.Nat.{ℕ, zero, suc, _+_, _*_, _^_, _≤_, _<_}
 use native.Mathlib.Omega.{arith}
 use native.Mathlib.Nat.{add-zero}
@@ -58,7 +59,8 @@ goodUnits known (u ∷ us) = goodUnit known u && goodUnits known us
 -- from picture `from` on, without gap, to picture N
 unfoldable pub goodScenes : ℕ → ℕ → List SceneRow → Bool
 goodScenes pictures from [] = eqb from pictures
-goodScenes pictures from (s ∷ ss) = (eqb (s .first) from && leb 1 (s .pictures)) && goodScenes pictures (from + s .pictures) ss
+goodScenes pictures from (s ∷ ss) =
+    (eqb (s .first) from && leb 1 (s .pictures)) && goodScenes pictures (from + s .pictures) ss
 
 unfoldable pub goodFigures : Header → List UnitRow → List SceneRow → Bool
 goodFigures h us ss = goodHeader h && (goodUnits (knowsDamage (h .edition)) us && goodScenes (h .pictures) 0 ss)
@@ -85,7 +87,8 @@ header-words h t f =
       figures = header-back h t f;
     }
 
-allowed-header : (h : Header) (r : List ℕ) (n : ℕ) → Words h r → n ≡ recordLength (h .units) (h .scenes) → allowedHeader n r ≡ goodHeader h
+allowed-header : (h : Header) (r : List ℕ) (n : ℕ) → Words h r → n ≡ recordLength (h .units) (h .scenes) →
+    allowedHeader n r ≡ goodHeader h
 unfolding allowedHeader goodHeader headerOf
 allowed-header h r n w e =
     let u : word32 r 8 ≡ h .units = ap (λ (x : Header). x .units) (w .figures) in
@@ -113,7 +116,8 @@ allowed-units known (u ∷ us) t f =
       allowed-units known us t (f .1),
     )
 
-allowed-scene : (from : ℕ) (s : SceneRow) (t : List ℕ) → SceneFits s → allowedScene from (sceneBytes s ++ t) ≡ (eqb (s .first) from && leb 1 (s .pictures))
+allowed-scene : (from : ℕ) (s : SceneRow) (t : List ℕ) → SceneFits s →
+    allowedScene from (sceneBytes s ++ t) ≡ (eqb (s .first) from && leb 1 (s .pictures))
 unfolding allowedScene sceneIn
 allowed-scene from s t f =
     let at : SceneRow → Bool = λ x. eqb (x .first) from && leb 1 (x .pictures) in
@@ -126,24 +130,36 @@ unfolding allowedScenes goodScenes endToEnd sceneIn
 allowed-scenes pictures from [] t f = refl
 allowed-scenes pictures from (s ∷ ss) t f =
     let more = endToEnd (map sceneBytes ss) ++ t in
-    let n : word32 (sceneBytes s ++ more) 4 ≡ s .pictures = ap (λ (x : SceneRow). x .pictures) (scene-back s more (f .0)) in
-    rw (append-assoc (sceneBytes s) (endToEnd (map sceneBytes ss)) t, drop-at (sceneBytes s) more 32 (length-scene s), allowed-scene from s more (f .0), n, allowed-scenes pictures (from + s .pictures) ss t (f .1))
+    let n : word32 (sceneBytes s ++ more) 4 ≡ s .pictures =
+    ap (λ (x : SceneRow). x .pictures) (scene-back s more (f .0)) in
+    rw (
+      append-assoc (sceneBytes s) (endToEnd (map sceneBytes ss)) t,
+      drop-at (sceneBytes s) more 32 (length-scene s),
+      allowed-scene from s more (f .0),
+      n,
+      allowed-scenes pictures (from + s .pictures) ss t (f .1),
+    )
 
 -- the rows' bytes
-rows-place : (h : Header) (us : List UnitRow) (ss : List SceneRow) → drop 64 (recordBytes h us ss) ≡ endToEnd (map unitBytes us) ++ endToEnd (map sceneBytes ss)
-rows-place h us ss = rw (parts-of h us ss) (drop-at (headerBytes h) (endToEnd (map unitBytes us) ++ endToEnd (map sceneBytes ss)) 64 (length-header h))
+rows-place : (h : Header) (us : List UnitRow) (ss : List SceneRow) →
+    drop 64 (recordBytes h us ss) ≡ endToEnd (map unitBytes us) ++ endToEnd (map sceneBytes ss)
+rows-place h us ss = rw (parts-of h us ss)
+    (drop-at (headerBytes h) (endToEnd (map unitBytes us) ++ endToEnd (map sceneBytes ss)) 64 (length-header h))
 
-scenes-place : (h : Header) (us : List UnitRow) (ss : List SceneRow) → drop (sceneOffset (length us)) (recordBytes h us ss) ≡ endToEnd (map sceneBytes ss)
+scenes-place : (h : Header) (us : List UnitRow) (ss : List SceneRow) →
+    drop (sceneOffset (length us)) (recordBytes h us ss) ≡ endToEnd (map sceneBytes ss)
 unfolding recordBytes sceneOffset
 scenes-place h us ss =
     drop-at (headerBytes h ++ endToEnd (map unitBytes us)) (endToEnd (map sceneBytes ss)) (64 + 32 * length us)
     (simp (length-append, length-header, length-rows unitBytes length-unit))
 
-pub allowed-figures : (h : Header) (us : List UnitRow) (ss : List SceneRow) → Figures h us ss → allowed (recordBytes h us ss) ≡ goodFigures h us ss
+pub allowed-figures : (h : Header) (us : List UnitRow) (ss : List SceneRow) → Figures h us ss →
+    allowed (recordBytes h us ss) ≡ goodFigures h us ss
 unfolding allowed allowedRows goodFigures headerOf
 allowed-figures h us ss f =
     let r = recordBytes h us ss in
-    let w : Words h r = rw (parts-of h us ss) (header-words h (endToEnd (map unitBytes us) ++ endToEnd (map sceneBytes ss)) (f .header)) in
+    let w : Words h r =
+    rw (parts-of h us ss) (header-words h (endToEnd (map unitBytes us) ++ endToEnd (map sceneBytes ss)) (f .header)) in
     let n : length r ≡ recordLength (h .units) (h .scenes) = length-record h us ss ∙ (rw (f .units, f .scenes)) in
     let u : word32 r 8 ≡ length us = ap (λ (x : Header). x .units) (w .figures) ∙ sym (f .units) in
     let s : word32 r 16 ≡ length ss = ap (λ (x : Header). x .scenes) (w .figures) ∙ sym (f .scenes) in
@@ -153,7 +169,8 @@ allowed-figures h us ss f =
     ≡ goodUnits (knowsDamage (h .edition)) us =
     rw (e, u, rows-place h us ss)
     (allowed-units (knowsDamage (h .edition)) us (endToEnd (map sceneBytes ss)) (f .unitRows)) in
-    let scenes : allowedScenes (word32 r 40) (word32 r 16) 0 (drop (sceneOffset (word32 r 8)) r) ≡ goodScenes (h .pictures) 0 ss =
+    let scenes : allowedScenes (word32 r 40) (word32 r 16) 0 (drop (sceneOffset (word32 r 8)) r)
+    ≡ goodScenes (h .pictures) 0 ss =
     rw (p, s, u, scenes-place h us ss) (rw append-nil at (allowed-scenes (h .pictures) 0 ss [] (f .sceneRows))) in
     rw (pick-and, allowed-header h r (length r) w n, units, scenes)
 
@@ -213,20 +230,39 @@ header-allowed n r e =
 bytes-drop : (n : ℕ) (r : List ℕ) → EachByte r → EachByte (drop n r)
 bytes-drop n r b i = rw (getD-drop n r i 0) (b (n + i))
 
-header-again : (r : List ℕ) → EachByte r → 64 ≤ length r → HeaderAllowed (length r) r → headerBytes (headerOf r) ++ drop 64 r ≡ r
+header-again : (r : List ℕ) → EachByte r → 64 ≤ length r → HeaderAllowed (length r) r →
+    headerBytes (headerOf r) ++ drop 64 r ≡ r
 unfolding headerBytes headerOf
 header-again r b k a =
-    let at : (i : ℕ) → i + 4 ≤ 64 → bytesOf 4 (word32 r i) ++ drop (i + 4) r ≡ drop i r = λ i l. bytes-word32 r i b (omega arith) in
+    let at : (i : ℕ) → i + 4 ≤ 64 → bytesOf 4 (word32 r i) ++ drop (i + 4) r ≡ drop i r =
+    λ i l. bytes-word32 r i b (omega arith) in
     let a4 = rw (a .whole) at (at 4 (omega arith)) in
     let a12 = rw (a .unitOffset) at (at 12 (omega arith)) in
     let a20 = rw (a .scenesFrom) at (at 20 (omega arith)) in
     simp append-assoc
-    (rw (bytes-word64 r 56 b k, at 52 (omega arith), at 48 (omega arith), at 44 (omega arith), at 40 (omega arith), at 36 (omega arith), at 32 (omega arith), at 28 (omega arith), at 24 (omega arith), a20, at 16 (omega arith), a12, at 8 (omega arith), a4, at 0 (omega arith)))
+    (rw (
+      bytes-word64 r 56 b k,
+      at 52 (omega arith),
+      at 48 (omega arith),
+      at 44 (omega arith),
+      at 40 (omega arith),
+      at 36 (omega arith),
+      at 32 (omega arith),
+      at 28 (omega arith),
+      at 24 (omega arith),
+      a20,
+      at 16 (omega arith),
+      a12,
+      at 8 (omega arith),
+      a4,
+      at 0 (omega arith),
+    ))
 
 unit-again : (b : List ℕ) → EachByte b → 32 ≤ length b → unitBytes (unitIn b) ++ drop 32 b ≡ b
 unfolding unitBytes unitIn
 unit-again b y k =
-    let at : (i : ℕ) → i + 4 ≤ 32 → bytesOf 4 (word32 b i) ++ drop (i + 4) b ≡ drop i b = λ i l. bytes-word32 b i y (omega arith) in
+    let at : (i : ℕ) → i + 4 ≤ 32 → bytesOf 4 (word32 b i) ++ drop (i + 4) b ≡ drop i b =
+    λ i l. bytes-word32 b i y (omega arith) in
     simp append-assoc (rw (
       at 28 (omega arith),
       at 24 (omega arith),
@@ -239,21 +275,33 @@ unit-again b y k =
 scene-again : (b : List ℕ) → EachByte b → 32 ≤ length b → word32 b 28 ≡ 0 → sceneBytes (sceneIn b) ++ drop 32 b ≡ b
 unfolding sceneBytes sceneIn
 scene-again b y k z =
-    let at : (i : ℕ) → i + 4 ≤ 32 → bytesOf 4 (word32 b i) ++ drop (i + 4) b ≡ drop i b = λ i l. bytes-word32 b i y (omega arith) in
+    let at : (i : ℕ) → i + 4 ≤ 32 → bytesOf 4 (word32 b i) ++ drop (i + 4) b ≡ drop i b =
+    λ i l. bytes-word32 b i y (omega arith) in
     let a28 = rw z at (at 28 (omega arith)) in
     simp append-assoc
-    (rw (a28, at 24 (omega arith), at 20 (omega arith), at 16 (omega arith), at 12 (omega arith), at 8 (omega arith), at 4 (omega arith), at 0 (omega arith)))
+    (rw (
+      a28,
+      at 24 (omega arith),
+      at 20 (omega arith),
+      at 16 (omega arith),
+      at 12 (omega arith),
+      at 8 (omega arith),
+      at 4 (omega arith),
+      at 0 (omega arith),
+    ))
 
 -- n rows of any kind from row j on, of a string whose rows begin at place p
 module _ {A : Type 0} (row : A → List ℕ) (r : List ℕ) (p : ℕ) (read : ℕ → A) where
-  rows-again : (n j : ℕ) → ((i : ℕ) → j ≤ i → i < j + n → row (read i) ++ drop (p + 32 * i + 32) r ≡ drop (p + 32 * i) r) →
+  rows-again : (n j : ℕ) →
+      ((i : ℕ) → j ≤ i → i < j + n → row (read i) ++ drop (p + 32 * i + 32) r ≡ drop (p + 32 * i) r) →
       endToEnd (map row (table n j read)) ++ drop (p + 32 * (j + n)) r ≡ drop (p + 32 * j) r
   unfolding endToEnd table
   rows-again zero j h = rw (add-zero j)
   rows-again (suc n) j h =
       let e : p + 32 * (j + suc n) ≡ p + 32 * (suc j + n) = omega arith in
       let g : p + 32 * j + 32 ≡ p + 32 * suc j = omega arith in
-      rw (append-assoc (row (read j)), e, rows-again n (suc j) (λ i a b. h i (omega arith) (omega arith)), ← g) (h j (omega arith) (omega arith))
+      rw (append-assoc (row (read j)), e, rows-again n (suc j) (λ i a b. h i (omega arith) (omega arith)), ← g)
+      (h j (omega arith) (omega arith))
 
   rows-all : (n : ℕ) → ((i : ℕ) → i < n → row (read i) ++ drop (p + 32 * i + 32) r ≡ drop (p + 32 * i) r) →
       endToEnd (map row (table n 0 read)) ++ drop (p + 32 * n) r ≡ drop p r
@@ -265,17 +313,21 @@ module _ {A : Type 0} (row : A → List ℕ) (r : List ℕ) (p : ℕ) (read : �
 -- every scene row of an allowed record is allowed, so its word 28 is zero
 scene-zero-allowed : (from : ℕ) (b : List ℕ) → allowedScene from b ≡ true → word32 b 28 ≡ 0
 unfolding allowedScene
-scene-zero-allowed from b e = eqb-true (word32 b 28) 0 (both (eqb (word32 b 0) from && leb 1 (word32 b 4)) (eqb (word32 b 28) 0) e .1)
+scene-zero-allowed from b e =
+    eqb-true (word32 b 28) 0 (both (eqb (word32 b 0) from && leb 1 (word32 b 4)) (eqb (word32 b 28) 0) e .1)
 
-scenes-allowed : (pictures n from : ℕ) (b : List ℕ) → allowedScenes pictures n from b ≡ true → (i : ℕ) → i < n → word32 (drop (32 * i) b) 28 ≡ 0
+scenes-allowed : (pictures n from : ℕ) (b : List ℕ) → allowedScenes pictures n from b ≡ true → (i : ℕ) → i < n →
+    word32 (drop (32 * i) b) 28 ≡ 0
 unfolding allowedScenes
 scenes-allowed pictures zero from b e i h = absurd (omega arith)
 scenes-allowed pictures (suc n) from b e zero h =
-    scene-zero-allowed from b (both (allowedScene from b) (allowedScenes pictures n (from + word32 b 4) (drop 32 b)) e .0)
+    scene-zero-allowed from b
+    (both (allowedScene from b) (allowedScenes pictures n (from + word32 b 4) (drop 32 b)) e .0)
 scenes-allowed pictures (suc n) from b e (suc i) h =
     let g : 32 * suc i ≡ 32 + 32 * i = omega arith in
     let x = both (allowedScene from b) (allowedScenes pictures n (from + word32 b 4) (drop 32 b)) e in
-    rw (g, ← drop-drop (32 * i) 32 b) (scenes-allowed pictures n (from + word32 b 4) (drop 32 b) (x .1) i (omega arith))
+    rw (g, ← drop-drop (32 * i) 32 b)
+    (scenes-allowed pictures n (from + word32 b 4) (drop 32 b) (x .1) i (omega arith))
 
 -- an allowed record's header and rows
 pub record RecordAllowed (r : List ℕ) : Type 0 where
@@ -311,7 +363,8 @@ module _ (r : List ℕ) (b : EachByte r) (a : RecordAllowed r) where
       rw (drop-drop 32 (64 + 32 * i) r) at
       (unit-again (drop (64 + 32 * i) r) (bytes-drop (64 + 32 * i) r b) (simp length-drop (omega arith))))
 
-  scenes-again : endToEnd (map sceneBytes (scenesRead r)) ++ drop (64 + 32 * word32 r 8 + 32 * word32 r 16) r ≡ drop (64 + 32 * word32 r 8) r
+  scenes-again : endToEnd (map sceneBytes (scenesRead r)) ++ drop (64 + 32 * word32 r 8 + 32 * word32 r 16) r
+      ≡ drop (64 + 32 * word32 r 8) r
   unfolding scenesRead sceneAt scenePlace sceneIn sceneOffset
   scenes-again =
       let n = long-enough in
@@ -322,7 +375,8 @@ module _ (r : List ℕ) (b : EachByte r) (a : RecordAllowed r) where
       rows-all sceneBytes r (64 + 32 * word32 r 8) (sceneAt r) (word32 r 16)
       (λ i k.
       rw (drop-drop 32 (64 + 32 * word32 r 8 + 32 * i) r) at
-      (scene-again (drop (64 + 32 * word32 r 8 + 32 * i) r) (bytes-drop (64 + 32 * word32 r 8 + 32 * i) r b) (simp length-drop (omega arith)) (zero-at i k)))
+      (scene-again (drop (64 + 32 * word32 r 8 + 32 * i) r) (bytes-drop (64 + 32 * word32 r 8 + 32 * i) r b)
+      (simp length-drop (omega arith)) (zero-at i k)))
 
   rest-again : drop (64 + 32 * word32 r 8 + 32 * word32 r 16) r ≡ []
   rest-again =
@@ -335,10 +389,12 @@ module _ (r : List ℕ) (b : EachByte r) (a : RecordAllowed r) where
       let n = long-enough in
       let s : endToEnd (map sceneBytes (scenesRead r)) ≡ drop (64 + 32 * word32 r 8) r =
       rw append-nil at (rw rest-again at scenes-again) in
-      rw (parts-of (headerOf r) (unitsRead r) (scenesRead r), s, units-again) (header-again r b (omega arith) (a .header))
+      rw (parts-of (headerOf r) (unitsRead r) (scenesRead r), s, units-again)
+      (header-again r b (omega arith) (a .header))
 
 -- an allowed record is the record of the figures read from it
-pub record-again : (r : List ℕ) → EachByte r → allowed r ≡ true → recordBytes (headerOf r) (unitsRead r) (scenesRead r) ≡ r
+pub record-again : (r : List ℕ) → EachByte r → allowed r ≡ true →
+    recordBytes (headerOf r) (unitsRead r) (scenesRead r) ≡ r
 record-again r b e = again r b (record-allowed r e)
 
 -- ---- the figures read from an allowed record fit their words, and meet the conditions
@@ -405,5 +461,7 @@ figures-read r b e =
       sceneRows = each-table SceneFits (sceneAt r) (scene-fits r b) (word32 r 16) 0;
     }
 
-pub good-read : (r : List ℕ) → EachByte r → allowed r ≡ true → goodFigures (headerOf r) (unitsRead r) (scenesRead r) ≡ true
-good-read r b e = sym (allowed-figures (headerOf r) (unitsRead r) (scenesRead r) (figures-read r b e)) ∙ (ap allowed (record-again r b e) ∙ e)
+pub good-read : (r : List ℕ) → EachByte r → allowed r ≡ true →
+    goodFigures (headerOf r) (unitsRead r) (scenesRead r) ≡ true
+good-read r b e = sym (allowed-figures (headerOf r) (unitsRead r) (scenesRead r) (figures-read r b e))
+    ∙ (ap allowed (record-again r b e) ∙ e)

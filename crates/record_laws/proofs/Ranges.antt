@@ -24,7 +24,8 @@ use Rattle.rules.specs.Packets.{Packet, packetsFrom, packetsOf, packets, isWant
 use Rattle.rules.specs.Units.{Arrival, setApart, firstArrival, damagedArrival, laterArrival, arrivalsAfter, arrivals}
 use Rattle.rules.specs.Units.{beforeUnits}
 use Rattle.rules.specs.Units.{intoFirst, groups, cellsOf, leastTime, unitOf, unitsOf}
-use Rattle.rules.specs.Capture.{wholeFrames, unfinished, allFrames, wholeWanted, units, showing, wrongFrameHeader, wrongFrame, captureFault, captureInside}
+use Rattle.rules.specs.Capture.{wholeFrames, unfinished, allFrames, wholeWanted, units, showing, wrongFrameHeader}
+use Rattle.rules.specs.Capture.{wrongFrame, captureFault, captureInside}
 use Rattle.rules.specs.Pictures.{pictureCount, lumaFault}
 use Rattle.rules.specs.Scenes.{span, isTrue, starts, sceneOf, scenesAt, scenesOf}
 use Rattle.rules.specs.Histograms.{histograms}
@@ -33,7 +34,8 @@ use Rattle.rules.specs.Editions.{roundsToNearest}
 use Rattle.rules.specs.Changes.{repeats, changes}
 use Rattle.rules.specs.Index.{float, valueOf, indexOf, indexBits}
 use Rattle.rules.specs.Record.{recordLength}
-use Rattle.rules.specs.Seal.{reduced, scenesIn, scenes, indexFrom, index, header, captureUnfinished, noPacket, lumaUnfinished, noPicture, sealFault}
+use Rattle.rules.specs.Seal.{reduced, scenesIn, scenes, indexFrom, index, header, captureUnfinished, noPacket}
+use Rattle.rules.specs.Seal.{lumaUnfinished, noPicture, sealFault}
 use Rattle.luma_laws.proofs.Pictures.{bytes-take, bytes-drop}
 use Rattle.record_laws.proofs.Words.{word32-fits}
 use Rattle.rules.proofs.Laws.Frames.{size-least, by-frames, frames-none, frames-one}
@@ -49,7 +51,8 @@ use Rattle.rules.proofs.Laws.UnitsMore.{units-beginnings, packets-total, lost-s
 use Rattle.rules.proofs.Laws.Damage.{cells-groups, zero-units}
 use Rattle.record_laws.proofs.Record.{Each, UnitFits, SceneFits, Figures}
 use Rattle.luma_laws.proofs.Spans.{longest-most, peak-most}
-use Rattle.luma_laws.proofs.Scenes.{Apart, last, next, starts-apart, below-length, starts-first, sample-scores, sample-few, pictures-most}
+use Rattle.luma_laws.proofs.Scenes.{Apart, last, next, starts-apart, below-length, starts-first, sample-scores}
+use Rattle.luma_laws.proofs.Scenes.{sample-few, pictures-most}
 
 -- ---- what a seal that is not refused tells
 
@@ -85,7 +88,8 @@ not-inside capture = go (captureInside capture)
     go true e = absurd (not-none e)
     go false e = refl
 
-pub sealable : (o : Opening) (capture luma : List ℕ) (n : ℕ) → sealFault o capture luma n ≡ none → Sealable o capture luma
+pub sealable : (o : Opening) (capture luma : List ℕ) (n : ℕ) → sealFault o capture luma n ≡ none →
+    Sealable o capture luma
 unfolding sealFault
 sealable o capture luma n e =
     let a = else-none (openingFault o) _ e in
@@ -116,20 +120,24 @@ no-elements (x ∷ xs) e = absurd (omega arith)
 -- neither inside the header nor inside a frame
 header-there : (capture : List ℕ) → captureInside capture ≡ false → 24 ≤ length capture
 unfolding captureInside
-header-there capture e = ltb-false (length capture) 24 (neither (ltb (length capture) 24) (ltb 0 (length (unfinished capture))) e .0)
+header-there capture e =
+    ltb-false (length capture) 24 (neither (ltb (length capture) 24) (ltb 0 (length (unfinished capture))) e .0)
 
 pub between : (capture : List ℕ) → captureInside capture ≡ false → unfinished capture ≡ []
 unfolding captureInside
 between capture e =
-    let h = ltb-false 0 (length (unfinished capture)) (neither (ltb (length capture) 24) (ltb 0 (length (unfinished capture))) e .1) in
+    let h = ltb-false 0 (length (unfinished capture))
+    (neither (ltb (length capture) 24) (ltb 0 (length (unfinished capture))) e .1) in
     no-elements (unfinished capture) (omega arith)
 
-pub all-reached : (d : ℕ) → 0 < d → d ≤ 188 → (s : List ℕ) → unfinished s ≡ [] → reached d s ≡ packets 24 (wholeFrames s)
+pub all-reached : (d : ℕ) → 0 < d → d ≤ 188 → (s : List ℕ) → unfinished s ≡ [] →
+    reached d s ≡ packets 24 (wholeFrames s)
 all-reached d some small s e =
     layout d some small s
     ∙ rw (e, of-none d some small (base s) [] (omega arith)) (append-nil (packets 24 (wholeFrames s)))
 
-pub wanted-between : (o : Opening) (s : List ℕ) → unfinished s ≡ [] → wholeWanted o s ≡ wantedOf o (packets 24 (wholeFrames s))
+pub wanted-between : (o : Opening) (s : List ℕ) → unfinished s ≡ [] →
+    wholeWanted o s ≡ wantedOf o (packets 24 (wholeFrames s))
 wanted-between o s e = wanted-of o s ∙ rw (all-reached 188 (omega arith) (omega arith) s e)
 
 pub units-most : (o : Opening) (capture luma : List ℕ) → Sealable o capture luma → length (units o capture) ≤ 750
@@ -137,7 +145,8 @@ unfolding units
 units-most o capture luma h =
     let e = between capture (h .inside) in
     let n = sym (nine-of o capture) ∙ clear-of o capture (h .clear) .units in
-    let f = few-begin o (packets 24 (wholeFrames capture)) (rw (all-reached 4 (omega arith) (omega arith) capture e) at n) in
+    let f =
+    few-begin o (packets 24 (wholeFrames capture)) (rw (all-reached 4 (omega arith) (omega arith) capture e) at n) in
     rw (units-beginnings (o .edition) (wholeWanted o capture), wanted-between o capture e) f
 
 -- ---- times: seconds below 2^32 and microseconds up to 999,999
@@ -161,10 +170,12 @@ frames-bytes =
     (λ x h ih b. rw (frames-one x h) (and (bytes-take (frameSize x) x b) (ih (bytes-drop (frameSize x) x b))))
 
 -- a whole frame with no refusal 7
-header-micro : (n place : ℕ) (f : List ℕ) → place + 16 ≤ n → wrongFrameHeader n place f ≡ none → microseconds f ≤ 999999
+header-micro : (n place : ℕ) (f : List ℕ) → place + 16 ≤ n → wrongFrameHeader n place f ≡ none →
+    microseconds f ≤ 999999
 unfolding wrongFrameHeader
 header-micro n place f h e =
-    let b = none-both (showing n 7 (place + 7) (ltb 999999 (microseconds f))) (showing n 8 (place + 11) (ltb 65535 (storedLength f))) e in
+    let b = none-both (showing n 7 (place + 7) (ltb 999999 (microseconds f)))
+    (showing n 8 (place + 11) (ltb 65535 (storedLength f))) e in
     ltb-false 999999 (microseconds f) (shows n 7 (place + 7) (ltb 999999 (microseconds f)) (omega arith) (b .0))
 
 frames-timed : (n place : ℕ) (fs gs : List (List ℕ)) → All Whole fs → All Bytes fs → place + length (endToEnd fs) ≤ n →
@@ -175,7 +186,8 @@ frames-timed n place (f ∷ fs) gs (and w ws) (and b bs) h e =
     let x = none-both (wrongFrameHeader n place f) (wrongFrame n (place + length f) (fs ++ gs)) e in
     let l = length-append f (endToEnd fs) in
     let k = size-least f in
-    and (frame-time f b (header-micro n place f (omega arith) (x .0))) (frames-timed n (place + length f) fs gs ws bs (omega arith) (x .1))
+    and (frame-time f b (header-micro n place f (omega arith) (x .0)))
+    (frames-timed n (place + length f) fs gs ws bs (omega arith) (x .1))
 
 abbrev Timed : Packet → Type 0
 Timed p = p .time ≤ lastTime
@@ -185,20 +197,24 @@ unfolding packetsFrom
 from-timed zero time place s h = empty
 from-timed (suc n) time place s h = and h (from-timed n time (place + 188) (drop 188 s) h)
 
-packets-timed : (place : ℕ) (fs : List (List ℕ)) → All (λ (f : List ℕ). frameTime f ≤ lastTime) fs → All Timed (packets place fs)
+packets-timed : (place : ℕ) (fs : List (List ℕ)) → All (λ (f : List ℕ). frameTime f ≤ lastTime) fs →
+    All Timed (packets place fs)
 unfolding packets
 packets-timed place [] h = empty
 packets-timed place (f ∷ fs) (and h hs) =
-    let here : All Timed (packetsOf place f) = rw (of-from place f) (from-timed _ (frameTime f) (place + 58) (drop 58 f) h) in
+    let here : All Timed (packetsOf place f) =
+    rw (of-from place f) (from-timed _ (frameTime f) (place + 58) (drop 58 f) h) in
     all-append here (packets-timed (place + length f) fs hs)
 
-wanted-timed : (o : Opening) (s : List ℕ) → Bytes s → captureFault o s ≡ none → captureInside s ≡ false → All Timed (wholeWanted o s)
+wanted-timed : (o : Opening) (s : List ℕ) → Bytes s → captureFault o s ≡ none → captureInside s ≡ false →
+    All Timed (wholeWanted o s)
 unfolding wantedOf
 wanted-timed o s h c i =
     let fs = wholeFrames s in
     let whole-bytes : All Bytes fs = unfold wholeFrames behindHeader in frames-bytes (drop 24 s) (bytes-drop 24 s h) in
     let room : 24 + length (endToEnd fs) ≤ length s = unfold base in omega (arith, base-sum s (header-there s i)) in
-    let fine : wrongFrame (length s) 24 (fs ++ unfinished s ∷ []) ≡ none = unfold allFrames in clear-of o s c .frames in
+    let fine : wrongFrame (length s) 24 (fs ++ unfinished s ∷ []) ≡ none =
+    unfold allFrames in clear-of o s c .frames in
     rw (wanted-between o s (between s i))
     (only-all (λ (p : Packet). isWanted o (p .bytes))
     (packets-timed 24 fs (frames-timed (length s) 24 fs (unfinished s ∷ []) (frames-whole s) whole-bytes room fine)))
@@ -249,7 +265,8 @@ all-groups [] h = empty
 all-groups (a ∷ []) h = and (group h) empty
 all-groups (a ∷ b ∷ xs) (and h hs) = go (b .begins) (all-groups (b ∷ xs) hs)
   where
-    go : (t : Bool) → All Group (groups (b ∷ xs)) → All Group (pick t ((a ∷ []) ∷ groups (b ∷ xs)) (intoFirst a (groups (b ∷ xs))))
+    go : (t : Bool) → All Group (groups (b ∷ xs)) →
+        All Group (pick t ((a ∷ []) ∷ groups (b ∷ xs)) (intoFirst a (groups (b ∷ xs))))
     go true g = and (group (and h empty)) g
     go false g = intoFirst-group a h g
 
@@ -313,7 +330,8 @@ units-each n (g ∷ gs) (and h hs) p l d = (
   units-each n gs hs (omega arith) (omega arith) (omega arith),
 )
 
-pub unit-ranges : (o : Opening) (capture luma : List ℕ) → Sealable o capture luma → Bytes capture → Each (UnitRange (length capture)) (units o capture)
+pub unit-ranges : (o : Opening) (capture luma : List ℕ) → Sealable o capture luma → Bytes capture →
+    Each (UnitRange (length capture)) (units o capture)
 unfolding units unitsOf
 unit-ranges o capture luma h b =
     let ps = wholeWanted o capture in
@@ -406,7 +424,8 @@ module _ (ss : List ℕ) (rs : List Bool) (qs : List ℕ) where
         go (yes h) =
             unfold scenesOf in
             rw (starts-first d ss h)
-            (each-scene (SceneRange (length ss)) scene-range h (starts-apart d ss 1 (length ss) some (below-length ss) (length ss - 1) 0 1 (omega arith)))
+            (each-scene (SceneRange (length ss)) scene-range h
+            (starts-apart d ss 1 (length ss) some (below-length ss) (length ss - 1) 0 1 (omega arith)))
         go (no h) = let e = no-elements ss (omega arith) in unfold scenesOf starts scenesAt in rw e tt
 
 -- ---- the scenes of a sample
@@ -423,7 +442,15 @@ module _ (o : Opening) (luma : List ℕ) (bytes : Bytes luma) where
 
 pub scene-fits : {n : ℕ} {s : SceneRow} → n ≤ 750 → SceneRange n s → SceneFits s
 scene-fits {n} {s} h r =
-    record { first = omega arith; pictures = omega arith; repeated = omega arith; longest = omega arith; score = omega arith; peak = omega arith; change = omega arith }
+    record {
+      first = omega arith;
+      pictures = omega arith;
+      repeated = omega arith;
+      longest = omega arith;
+      score = omega arith;
+      peak = omega arith;
+      change = omega arith;
+    }
 
 -- ---- the index's bits, and the header
 

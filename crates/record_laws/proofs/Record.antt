@@ -1,4 +1,5 @@
--- Reading back: a record's header figures, its rows and its zero words are those that were written, and two sets of figures never have one record.
+-- Reading back: a record's header figures, its rows and its zero words are those that were written, and two sets of
+-- figures never have one record.
 use Prim.Native.Nat.{ℕ, zero, suc, _+_, _*_, _^_, _≤_, _<_}
 use native.Mathlib.Omega.{arith}
 use mathlib.Core.Path.{_≡_, refl, sym, ap, _∙_}
@@ -68,7 +69,20 @@ long x h = word64-bytes [] [] x h
 pub header-back : (h : Header) (t : List ℕ) → HeaderFits h → headerOf (headerBytes h ++ t) ≡ h
 unfolding headerOf headerBytes word32 word64 bytesOf recordLength
 header-back h t f =
-    rw (word (h .edition) (f .edition), word (h .units) (omega (arith, f .length)), word (h .scenes) (omega (arith, f .length)), word (h .width) (f .width), word (h .height) (f .height), word (h .time) (f .time), word (h .pid) (f .pid), word (h .pictures) (f .pictures), word (h .frames) (f .frames), word (h .skipped) (f .skipped), word (h .bad) (f .bad), long (h .index) (f .index))
+    rw (
+      word (h .edition) (f .edition),
+      word (h .units) (omega (arith, f .length)),
+      word (h .scenes) (omega (arith, f .length)),
+      word (h .width) (f .width),
+      word (h .height) (f .height),
+      word (h .time) (f .time),
+      word (h .pid) (f .pid),
+      word (h .pictures) (f .pictures),
+      word (h .frames) (f .frames),
+      word (h .skipped) (f .skipped),
+      word (h .bad) (f .bad),
+      long (h .index) (f .index),
+    )
 
 pub unit-back : (u : UnitRow) (t : List ℕ) → UnitFits u → unitIn (unitBytes u ++ t) ≡ u
 unfolding unitIn unitBytes word32 word64 bytesOf
@@ -85,7 +99,15 @@ unit-back u t f =
 pub scene-back : (s : SceneRow) (t : List ℕ) → SceneFits s → sceneIn (sceneBytes s ++ t) ≡ s
 unfolding sceneIn sceneBytes word32 bytesOf
 scene-back s t f =
-    rw (word (s .first) (f .first), word (s .pictures) (f .pictures), word (s .repeated) (f .repeated), word (s .longest) (f .longest), word (s .score) (f .score), word (s .peak) (f .peak), word (s .change) (f .change))
+    rw (
+      word (s .first) (f .first),
+      word (s .pictures) (f .pictures),
+      word (s .repeated) (f .repeated),
+      word (s .longest) (f .longest),
+      word (s .score) (f .score),
+      word (s .peak) (f .peak),
+      word (s .change) (f .change),
+    )
 
 -- word 28 of a scene is zero
 pub scene-zero : (s : SceneRow) (t : List ℕ) → word32 (sceneBytes s ++ t) 28 ≡ 0
@@ -114,23 +136,29 @@ module _ {A : Type 0} (f : A → List ℕ) (wide : (x : A) → length (f x) ≡ 
   length-rows (x ∷ xs) = rw (length-append (f x) (endToEnd (map f xs)), wide x, length-rows xs) (omega arith)
 
   -- behind j rows stands row j
-  pub drop-rows : (xs : List A) (t : List ℕ) (j : ℕ) → j ≤ length xs → drop (32 * j) (endToEnd (map f xs) ++ t) ≡ endToEnd (map f (drop j xs)) ++ t
+  pub drop-rows : (xs : List A) (t : List ℕ) (j : ℕ) → j ≤ length xs →
+      drop (32 * j) (endToEnd (map f xs) ++ t) ≡ endToEnd (map f (drop j xs)) ++ t
   unfolding endToEnd
   drop-rows xs t zero h = refl
   drop-rows [] t (suc j) h = absurd (omega arith)
   drop-rows (x ∷ xs) t (suc j) h =
       let e : 32 * suc j ≡ length (f x) + 32 * j = omega (arith, wide x) in
-      rw (e, append-assoc (f x) (endToEnd (map f xs)) t, drop-append-add (f x) (endToEnd (map f xs) ++ t) (32 * j)) (drop-rows xs t j (omega arith))
+      rw (e, append-assoc (f x) (endToEnd (map f xs)) t, drop-append-add (f x) (endToEnd (map f xs) ++ t) (32 * j))
+      (drop-rows xs t j (omega arith))
 
-  pub row-at : (xs : List A) (t : List ℕ) (j : ℕ) (z : A) → j < length xs → drop (32 * j) (endToEnd (map f xs) ++ t) ≡ f (getD xs j z) ++ (endToEnd (map f (drop (suc j) xs)) ++ t)
+  pub row-at : (xs : List A) (t : List ℕ) (j : ℕ) (z : A) → j < length xs →
+      drop (32 * j) (endToEnd (map f xs) ++ t) ≡ f (getD xs j z) ++ (endToEnd (map f (drop (suc j) xs)) ++ t)
   unfolding endToEnd
   row-at xs t j z h =
-      rw (drop-rows xs t j (omega arith), drop-cons xs j z h) (append-assoc (f (getD xs j z)) (endToEnd (map f (drop (suc j) xs))) t)
+      rw (drop-rows xs t j (omega arith), drop-cons xs j z h)
+      (append-assoc (f (getD xs j z)) (endToEnd (map f (drop (suc j) xs))) t)
 
-pub length-record : (h : Header) (us : List UnitRow) (ss : List SceneRow) → length (recordBytes h us ss) ≡ recordLength (length us) (length ss)
+pub length-record : (h : Header) (us : List UnitRow) (ss : List SceneRow) →
+    length (recordBytes h us ss) ≡ recordLength (length us) (length ss)
 unfolding recordBytes recordLength
 length-record h us ss =
-    simp (length-append, length-header, length-rows unitBytes length-unit, length-rows sceneBytes length-scene) (omega arith)
+    simp (length-append, length-header, length-rows unitBytes length-unit, length-rows sceneBytes length-scene)
+    (omega arith)
 
 -- ---- the whole record
 
@@ -143,45 +171,56 @@ pub record Figures (h : Header) (us : List UnitRow) (ss : List SceneRow) : Type 
   pub sceneRows : Each SceneFits ss
 
 -- the record in its three parts
-pub parts-of : (h : Header) (us : List UnitRow) (ss : List SceneRow) → recordBytes h us ss ≡ headerBytes h ++ (endToEnd (map unitBytes us) ++ endToEnd (map sceneBytes ss))
+pub parts-of : (h : Header) (us : List UnitRow) (ss : List SceneRow) →
+    recordBytes h us ss ≡ headerBytes h ++ (endToEnd (map unitBytes us) ++ endToEnd (map sceneBytes ss))
 unfolding recordBytes
 parts-of h us ss = append-assoc (headerBytes h) (endToEnd (map unitBytes us)) (endToEnd (map sceneBytes ss))
 
 -- what stands at unit row j, and at scene row j
 pub unit-place : (h : Header) (us : List UnitRow) (ss : List SceneRow) (j : ℕ) (z : UnitRow) → j < length us →
-    drop (unitPlace j) (recordBytes h us ss) ≡ unitBytes (getD us j z) ++ (endToEnd (map unitBytes (drop (suc j) us)) ++ endToEnd (map sceneBytes ss))
+    drop (unitPlace j) (recordBytes h us ss)
+    ≡ unitBytes (getD us j z) ++ (endToEnd (map unitBytes (drop (suc j) us)) ++ endToEnd (map sceneBytes ss))
 unfolding unitPlace
 unit-place h us ss j z k =
     let e : 64 + 32 * j ≡ length (headerBytes h) + 32 * j = omega (arith, length-header h) in
-    rw (parts-of h us ss, e, drop-append-add (headerBytes h) (endToEnd (map unitBytes us) ++ endToEnd (map sceneBytes ss)) (32 * j))
+    rw (
+      parts-of h us ss,
+      e,
+      drop-append-add (headerBytes h) (endToEnd (map unitBytes us) ++ endToEnd (map sceneBytes ss)) (32 * j),
+    )
     (row-at unitBytes length-unit us (endToEnd (map sceneBytes ss)) j z k)
 
 pub scene-place : (h : Header) (us : List UnitRow) (ss : List SceneRow) (j : ℕ) (z : SceneRow) → j < length ss →
-    drop (sceneOffset (length us) + 32 * j) (recordBytes h us ss) ≡ sceneBytes (getD ss j z) ++ endToEnd (map sceneBytes (drop (suc j) ss))
+    drop (sceneOffset (length us) + 32 * j) (recordBytes h us ss)
+    ≡ sceneBytes (getD ss j z) ++ endToEnd (map sceneBytes (drop (suc j) ss))
 unfolding recordBytes sceneOffset
 scene-place h us ss j z k =
     let p = headerBytes h ++ endToEnd (map unitBytes us) in
     let n : length p ≡ 64 + 32 * length us = simp (length-append, length-header, length-rows unitBytes length-unit) in
     let e : 64 + 32 * length us + 32 * j ≡ length p + 32 * j = omega arith in
     rw (e, drop-append-add p (endToEnd (map sceneBytes ss)) (32 * j))
-    (rw (append-nil (endToEnd (map sceneBytes ss)), append-nil (endToEnd (map sceneBytes (drop (suc j) ss)))) at (row-at sceneBytes length-scene ss [] j z k))
+    (rw (append-nil (endToEnd (map sceneBytes ss)), append-nil (endToEnd (map sceneBytes (drop (suc j) ss))))
+    at (row-at sceneBytes length-scene ss [] j z k))
 
 module _ (h : Header) (us : List UnitRow) (ss : List SceneRow) (f : Figures h us ss) where
   pub header-read : headerOf (recordBytes h us ss) ≡ h
-  header-read = rw (parts-of h us ss) (header-back h (endToEnd (map unitBytes us) ++ endToEnd (map sceneBytes ss)) (f .header))
+  header-read =
+      rw (parts-of h us ss) (header-back h (endToEnd (map unitBytes us) ++ endToEnd (map sceneBytes ss)) (f .header))
 
   pub unit-read : (j : ℕ) (z : UnitRow) → j < length us → unitAt (recordBytes h us ss) j ≡ getD us j z
   unfolding unitAt unitIn
   unit-read j z k =
       ap unitIn (unit-place h us ss j z k)
-      ∙ unit-back (getD us j z) (endToEnd (map unitBytes (drop (suc j) us)) ++ endToEnd (map sceneBytes ss)) (each-at UnitFits us j z (f .unitRows) k)
+      ∙ unit-back (getD us j z) (endToEnd (map unitBytes (drop (suc j) us)) ++ endToEnd (map sceneBytes ss))
+      (each-at UnitFits us j z (f .unitRows) k)
 
   units-read : word32 (recordBytes h us ss) 8 ≡ length us
   unfolding headerOf
   units-read = ap (λ (x : Header). x .units) header-read ∙ sym (f .units)
 
   scene-place-read : (j : ℕ) (z : SceneRow) → j < length ss →
-      drop (scenePlace (recordBytes h us ss) j) (recordBytes h us ss) ≡ sceneBytes (getD ss j z) ++ endToEnd (map sceneBytes (drop (suc j) ss))
+      drop (scenePlace (recordBytes h us ss) j) (recordBytes h us ss)
+      ≡ sceneBytes (getD ss j z) ++ endToEnd (map sceneBytes (drop (suc j) ss))
   unfolding scenePlace
   scene-place-read j z k = rw units-read (scene-place h us ss j z k)
 
@@ -189,10 +228,13 @@ module _ (h : Header) (us : List UnitRow) (ss : List SceneRow) (f : Figures h us
   unfolding sceneAt sceneIn
   scene-read j z k =
       ap sceneIn (scene-place-read j z k)
-      ∙ scene-back (getD ss j z) (endToEnd (map sceneBytes (drop (suc j) ss))) (each-at SceneFits ss j z (f .sceneRows) k)
+      ∙ scene-back (getD ss j z) (endToEnd (map sceneBytes (drop (suc j) ss)))
+      (each-at SceneFits ss j z (f .sceneRows) k)
 
-  pub scene-zero-read : (j : ℕ) → SceneRow → j < length ss → word32 (drop (scenePlace (recordBytes h us ss) j) (recordBytes h us ss)) 28 ≡ 0
-  scene-zero-read j z k = rw (scene-place-read j z k) (scene-zero (getD ss j z) (endToEnd (map sceneBytes (drop (suc j) ss))))
+  pub scene-zero-read : (j : ℕ) → SceneRow → j < length ss →
+      word32 (drop (scenePlace (recordBytes h us ss) j) (recordBytes h us ss)) 28 ≡ 0
+  scene-zero-read j z k =
+      rw (scene-place-read j z k) (scene-zero (getD ss j z) (endToEnd (map sceneBytes (drop (suc j) ss))))
 
 -- two sets of figures that fit never have one record
 noUnit : UnitRow
@@ -201,7 +243,8 @@ noUnit = record { least = 0; greatest = 0; size = 0; packets = 0; lost = 0; dama
 noScene : SceneRow
 noScene = record { first = 0; pictures = 0; repeated = 0; longest = 0; score = 0; peak = 0; change = 0 }
 
-pub record-injective : (h h′ : Header) (us us′ : List UnitRow) (ss ss′ : List SceneRow) → Figures h us ss → Figures h′ us′ ss′ →
+pub record-injective : (h h′ : Header) (us us′ : List UnitRow) (ss ss′ : List SceneRow) → Figures h us ss →
+    Figures h′ us′ ss′ →
     recordBytes h us ss ≡ recordBytes h′ us′ ss′ → (h ≡ h′) × (us ≡ us′) × (ss ≡ ss′)
 record-injective h h′ us us′ ss ss′ f f′ e =
     let eh : h ≡ h′ = sym (header-read h us ss f) ∙ (ap headerOf e ∙ header-read h′ us′ ss′ f′) in
@@ -209,7 +252,9 @@ record-injective h h′ us us′ ss ss′ f f′ e =
     let es : length ss ≡ length ss′ = f .scenes ∙ (ap (λ (x : Header). x .scenes) eh ∙ sym (f′ .scenes)) in (
       eh,
       ext-getD noUnit us us′ eu
-          (λ j k. sym (unit-read h us ss f j noUnit k) ∙ (ap (λ (r : List ℕ). unitAt r j) e ∙ unit-read h′ us′ ss′ f′ j noUnit (omega arith))),
+          (λ j k. sym (unit-read h us ss f j noUnit k)
+          ∙ (ap (λ (r : List ℕ). unitAt r j) e ∙ unit-read h′ us′ ss′ f′ j noUnit (omega arith))),
       ext-getD noScene ss ss′ es
-          (λ j k. sym (scene-read h us ss f j noScene k) ∙ (ap (λ (r : List ℕ). sceneAt r j) e ∙ scene-read h′ us′ ss′ f′ j noScene (omega arith))),
+          (λ j k. sym (scene-read h us ss f j noScene k)
+          ∙ (ap (λ (r : List ℕ). sceneAt r j) e ∙ scene-read h′ us′ ss′ f′ j noScene (omega arith))),
     )

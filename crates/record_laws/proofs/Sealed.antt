@@ -21,10 +21,12 @@ use Rattle.rules.specs.Opening.{goodSize, goodTime, goodPid, openingFault}
 use Rattle.rules.specs.Capture.{units, frameCount, skippedCount}
 use Rattle.rules.specs.Pictures.{pictureCount}
 use Rattle.rules.specs.Record.{recordLength}
-use Rattle.rules.specs.Reading.{headerOf, unitAt, sceneAt, allowed, readingFault, rowFault, unitFault, sceneFault, headerAnswer, unitAnswer, sceneAnswer}
+use Rattle.rules.specs.Reading.{headerOf, unitAt, sceneAt, allowed, readingFault, rowFault, unitFault, sceneFault}
+use Rattle.rules.specs.Reading.{headerAnswer, unitAnswer, sceneAnswer}
 use Rattle.rules.specs.Seal.{scenes, header, sealed, sealedLength, sealFault}
 use Rattle.record_laws.proofs.Record.{Each, Figures, length-record, header-read, unit-read, scene-read}
-use Rattle.record_laws.proofs.Allowed.{goodHeader, goodUnit, goodUnits, goodScenes, goodFigures, allowed-figures, record-allowed}
+use Rattle.record_laws.proofs.Allowed.{goodHeader, goodUnit, goodUnits, goodScenes, goodFigures}
+use Rattle.record_laws.proofs.Allowed.{allowed-figures, record-allowed}
 use Rattle.rules.proofs.Laws.Bounds.{skipped-few}
 use Rattle.luma_laws.proofs.Scenes.{Joins, pictures-most, sample-joins, sample-few}
 use Rattle.record_laws.proofs.Ranges.{Sealable, sealable, UnitRange, units-most, unit-ranges, unit-zeros}
@@ -33,7 +35,8 @@ use Rattle.record_laws.proofs.Ranges.{figures-fit}
 -- ---- the conditions on figures
 
 opened : (o : Opening) → openingFault o ≡ none →
-    (goodSize (o .width) (o .height) ≡ true) × (goodTime (o .time) ≡ true) × (goodPid (o .pid) ≡ true) × (isEdition (o .edition) ≡ true)
+    (goodSize (o .width) (o .height) ≡ true) × (goodTime (o .time) ≡ true) × (goodPid (o .pid) ≡ true)
+    × (isEdition (o .edition) ≡ true)
 unfolding openingFault
 opened o = go (goodSize (o .width) (o .height)) (goodTime (o .time)) (goodPid (o .pid)) (isEdition (o .edition))
   where
@@ -81,7 +84,8 @@ some-scene : (n : ℕ) (ss : List SceneRow) → 1 ≤ n → Joins n 0 ss → 1 �
 some-scene n [] h e = absurd (omega arith)
 some-scene n (s ∷ ss) h j = omega arith
 
-module _ (o : Opening) (capture luma : List ℕ) (h : Sealable o capture luma) (bc : Bytes capture) (bl : Bytes luma) where
+module _ (o : Opening) (capture luma : List ℕ) (h : Sealable o capture luma) (bc : Bytes capture)
+    (bl : Bytes luma) where
   joins : Joins (pictureCount o luma) 0 (scenes o luma)
   joins = sample-joins o luma (h .picture)
 
@@ -89,7 +93,16 @@ module _ (o : Opening) (capture luma : List ℕ) (h : Sealable o capture luma) (
   unfolding goodHeader header
   good-header =
       let g = opened o (h .opened) in
-      rw (g .3, inside 1 750 (length (units o capture)) (h .unit) (units-most o capture luma h), inside 1 250 (length (scenes o luma)) (some-scene (pictureCount o luma) (scenes o luma) (h .picture) joins) (sample-few o luma (h .opened)), inside 1 750 (pictureCount o luma) (h .picture) (pictures-most o luma), g .0, g .1, g .2)
+      rw (
+        g .3,
+        inside 1 750 (length (units o capture)) (h .unit) (units-most o capture luma h),
+        inside 1 250 (length (scenes o luma)) (some-scene (pictureCount o luma) (scenes o luma) (h .picture) joins)
+            (sample-few o luma (h .opened)),
+        inside 1 750 (pictureCount o luma) (h .picture) (pictures-most o luma),
+        g .0,
+        g .1,
+        g .2,
+      )
       (le-leb (skippedCount capture) (frameCount capture) (skipped-few capture))
 
   known : goodUnits (knowsDamage (header o capture luma .edition)) (units o capture) ≡ true
@@ -111,15 +124,18 @@ module _ (o : Opening) (capture luma : List ℕ) (h : Sealable o capture luma) (
 
 -- ---- THE LAW: what a seal writes, the reader allows
 
-pub sealed-allowed : (o : Opening) (capture luma : List ℕ) (n : ℕ) → sealFault o capture luma n ≡ none → Bytes capture → Bytes luma →
+pub sealed-allowed : (o : Opening) (capture luma : List ℕ) (n : ℕ) → sealFault o capture luma n ≡ none →
+    Bytes capture → Bytes luma →
     allowed (sealed o capture luma) ≡ true
 sealed-allowed o capture luma n e bc bl = allowed-sealed o capture luma (sealable o capture luma n e) bc bl
 
-pub sealed-length : (o : Opening) (capture luma : List ℕ) → length (sealed o capture luma) ≡ sealedLength o capture luma
+pub sealed-length : (o : Opening) (capture luma : List ℕ) →
+    length (sealed o capture luma) ≡ sealedLength o capture luma
 unfolding sealed sealedLength
 sealed-length o capture luma = length-record (header o capture luma) (units o capture) (scenes o luma)
 
-pub sealed-read : (o : Opening) (capture luma : List ℕ) (n : ℕ) → sealFault o capture luma n ≡ none → Bytes capture → Bytes luma →
+pub sealed-read : (o : Opening) (capture luma : List ℕ) (n : ℕ) → sealFault o capture luma n ≡ none →
+    Bytes capture → Bytes luma →
     readingFault (sealed o capture luma) ≡ none
 unfolding readingFault
 sealed-read o capture luma n e bc bl =
@@ -131,7 +147,8 @@ sealed-read o capture luma n e bc bl =
 
 -- ---- and reads back as the figures that were sealed
 
-module _ (o : Opening) (capture luma : List ℕ) (n : ℕ) (e : sealFault o capture luma n ≡ none) (bc : Bytes capture) (bl : Bytes luma) where
+module _ (o : Opening) (capture luma : List ℕ) (n : ℕ) (e : sealFault o capture luma n ≡ none) (bc : Bytes capture)
+    (bl : Bytes luma) where
   sealed-figures : Figures (header o capture luma) (units o capture) (scenes o luma)
   sealed-figures = figures-fit o capture luma (sealable o capture luma n e) bc bl
 
@@ -143,18 +160,22 @@ module _ (o : Opening) (capture luma : List ℕ) (n : ℕ) (e : sealFault o capt
   unfolding headerAnswer
   sealed-header = rw (sealed-read o capture luma n e bc bl, header-sealed)
 
-  pub sealed-unit : (j : ℕ) (z : UnitRow) → j < length (units o capture) → unitAnswer (sealed o capture luma) j ≡ of-unit.Given (getD (units o capture) j z)
+  pub sealed-unit : (j : ℕ) (z : UnitRow) → j < length (units o capture) →
+      unitAnswer (sealed o capture luma) j ≡ of-unit.Given (getD (units o capture) j z)
   unfolding unitAnswer unitFault rowFault
   sealed-unit j z h =
-      let u : word32 (sealed o capture luma) 8 ≡ length (units o capture) = unfold headerOf header in ap (λ (x : Header). x .units) header-sealed in
+      let u : word32 (sealed o capture luma) 8 ≡ length (units o capture) =
+      unfold headerOf header in ap (λ (x : Header). x .units) header-sealed in
       let r : unitAt (sealed o capture luma) j ≡ getD (units o capture) j z =
       unfold sealed in unit-read (header o capture luma) (units o capture) (scenes o luma) sealed-figures j z h in
       rw (sealed-read o capture luma n e bc bl, u, lt-ltb j (length (units o capture)) h, r)
 
-  pub sealed-scene : (j : ℕ) (z : SceneRow) → j < length (scenes o luma) → sceneAnswer (sealed o capture luma) j ≡ of-scene.Given (getD (scenes o luma) j z)
+  pub sealed-scene : (j : ℕ) (z : SceneRow) → j < length (scenes o luma) →
+      sceneAnswer (sealed o capture luma) j ≡ of-scene.Given (getD (scenes o luma) j z)
   unfolding sceneAnswer sceneFault rowFault
   sealed-scene j z h =
-      let u : word32 (sealed o capture luma) 16 ≡ length (scenes o luma) = unfold headerOf header in ap (λ (x : Header). x .scenes) header-sealed in
+      let u : word32 (sealed o capture luma) 16 ≡ length (scenes o luma) =
+      unfold headerOf header in ap (λ (x : Header). x .scenes) header-sealed in
       let r : sceneAt (sealed o capture luma) j ≡ getD (scenes o luma) j z =
       unfold sealed in scene-read (header o capture luma) (units o capture) (scenes o luma) sealed-figures j z h in
       rw (sealed-read o capture luma n e bc bl, u, lt-ltb j (length (scenes o luma)) h, r)

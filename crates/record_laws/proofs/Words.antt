@@ -1,4 +1,5 @@
--- Numbers in bytes, the lowest byte first: one law over the width and the place for reading what was written, one for writing what was read.
+-- Numbers in bytes, the lowest byte first: one law over the width and the place for reading what was written, one for
+-- writing what was read.
 use Prim.Native.Nat.{ℕ, zero, suc, _+_, _*_, _/_, _%_, _^_, _≤_, _<_}
 use native.Mathlib.Omega.{arith}
 use native.Mathlib.Nat.{pow-suc, div-lt-iff-lt-mul, add-assoc, add-zero}
@@ -25,7 +26,8 @@ word32-number s i = rw (add-assoc i 1 1, add-assoc i 2 1) (omega arith)
 pub word64-number : (s : List ℕ) (i : ℕ) → word64 s i ≡ number 8 s i
 unfolding word32 word64 number
 word64-number s i =
-    rw (add-assoc i 1 1, add-assoc i 2 1, add-assoc i 3 1, add-assoc i 4 1, add-assoc i 5 1, add-assoc i 6 1) (simp add-assoc (omega arith))
+    rw (add-assoc i 1 1, add-assoc i 2 1, add-assoc i 3 1, add-assoc i 4 1, add-assoc i 5 1, add-assoc i 6 1)
+    (simp add-assoc (omega arith))
 
 -- ---- reading what was written
 
@@ -39,7 +41,8 @@ pub number-behind : (n : ℕ) (p s : List ℕ) (i : ℕ) → number n (p ++ s) (
 unfolding number
 number-behind zero p s i = refl
 number-behind (suc n) p s i =
-    let h : number n (p ++ s) (length p + i + 1) ≡ number n s (i + 1) = rw (add-assoc (length p) i 1) (number-behind n p s (i + 1)) in
+    let h : number n (p ++ s) (length p + i + 1) ≡ number n s (i + 1) =
+    rw (add-assoc (length p) i 1) (number-behind n p s (i + 1)) in
     omega (arith, getD-append-add p s i 0)
 
 -- n bytes of x at the front read as x
@@ -47,7 +50,8 @@ number-front : (n x : ℕ) (t : List ℕ) → x < 256 ^ n → number n (bytesOf 
 unfolding number bytesOf
 number-front zero x t h = omega arith
 number-front (suc n) x t h =
-    let below : x / 256 < 256 ^ n = div-lt-iff-lt-mul {k = 256} {x = x} {y = 256 ^ n} (omega arith) .1 (omega (arith, pow-suc 256 n)) in
+    let below : x / 256 < 256 ^ n =
+    div-lt-iff-lt-mul {k = 256} {x = x} {y = 256 ^ n} (omega arith) .1 (omega (arith, pow-suc 256 n)) in
     let rest : number n (x % 256 ∷ bytesOf n (x / 256) ++ t) 1 ≡ number n (bytesOf n (x / 256) ++ t) 0 =
     number-behind n (x % 256 ∷ []) (bytesOf n (x / 256) ++ t) 0 in
     omega (arith, number-front n (x / 256) t below)
@@ -60,14 +64,16 @@ number-bytes n p t x h =
 -- ---- writing what was read
 
 -- n bytes read and written again are the bytes that stood there
-pub bytes-number : (n : ℕ) (s : List ℕ) (i : ℕ) → EachByte s → i + n ≤ length s → bytesOf n (number n s i) ++ drop (i + n) s ≡ drop i s
+pub bytes-number : (n : ℕ) (s : List ℕ) (i : ℕ) → EachByte s → i + n ≤ length s →
+    bytesOf n (number n s i) ++ drop (i + n) s ≡ drop i s
 unfolding number bytesOf
 bytes-number zero s i b h = rw (add-zero i)
 bytes-number (suc n) s i b h =
     let k = b i in
     let e : (byte s i + 256 * number n s (i + 1)) % 256 ≡ byte s i = omega arith in
     let f : (byte s i + 256 * number n s (i + 1)) / 256 ≡ number n s (i + 1) = omega arith in
-    let more : bytesOf n (number n s (i + 1)) ++ drop (i + 1 + n) s ≡ drop (i + 1) s = bytes-number n s (i + 1) b (omega arith) in
+    let more : bytesOf n (number n s (i + 1)) ++ drop (i + 1 + n) s ≡ drop (i + 1) s =
+    bytes-number n s (i + 1) b (omega arith) in
     let g : i + suc n ≡ i + 1 + n = omega arith in
     rw (e, f, g, more, add-one i) (sym (drop-cons s i 0 (omega arith)))
 
@@ -79,10 +85,12 @@ word32-bytes p t x h = word32-number (p ++ bytesOf 4 x ++ t) (length p) ∙ numb
 pub word64-bytes : (p t : List ℕ) (x : ℕ) → x < 2 ^ 64 → word64 (p ++ bytesOf 8 x ++ t) (length p) ≡ x
 word64-bytes p t x h = word64-number (p ++ bytesOf 8 x ++ t) (length p) ∙ number-bytes 8 p t x h
 
-pub bytes-word32 : (s : List ℕ) (i : ℕ) → EachByte s → i + 4 ≤ length s → bytesOf 4 (word32 s i) ++ drop (i + 4) s ≡ drop i s
+pub bytes-word32 : (s : List ℕ) (i : ℕ) → EachByte s → i + 4 ≤ length s →
+    bytesOf 4 (word32 s i) ++ drop (i + 4) s ≡ drop i s
 bytes-word32 s i b h = rw (word32-number s i) (bytes-number 4 s i b h)
 
-pub bytes-word64 : (s : List ℕ) (i : ℕ) → EachByte s → i + 8 ≤ length s → bytesOf 8 (word64 s i) ++ drop (i + 8) s ≡ drop i s
+pub bytes-word64 : (s : List ℕ) (i : ℕ) → EachByte s → i + 8 ≤ length s →
+    bytesOf 8 (word64 s i) ++ drop (i + 8) s ≡ drop i s
 bytes-word64 s i b h = rw (word64-number s i) (bytes-number 8 s i b h)
 
 -- a word behind the first i bytes

@@ -17,7 +17,9 @@ use Rattle.rules.specs.Bytes.{pick, word32}
 use Rattle.rules.specs.Refusals.{Fault, none, fault, unless, _orElse_}
 use Rattle.rules.specs.Record.{recordLength, sceneOffset}
 use Rattle.rules.specs.Editions.{isEdition, knowsDamage}
-use Rattle.rules.specs.Reading.{headerOf, unitAt, sceneAt, allowedHeader, allowedUnits, allowedScenes, allowedRows, allowed, readingFault, rowFault, unitFault, sceneFault, headerAnswer, unitAnswer, sceneAnswer}
+use Rattle.rules.specs.Reading.{headerOf, unitAt, sceneAt, allowedHeader, allowedUnits, allowedScenes, allowedRows}
+use Rattle.rules.specs.Reading.{allowed, readingFault, rowFault, unitFault, sceneFault, headerAnswer, unitAnswer}
+use Rattle.rules.specs.Reading.{sceneAnswer}
 use Rattle.record_laws.proofs.Allowed.{header-allowed, record-allowed}
 use Rattle.record_reader.specs.declared.Opened.{Opened}
 use Rattle.record_reader.specs.declared.Opened.the-variants.{Accepted, Refused}
@@ -139,7 +141,8 @@ module _ (r : List ℕ) (o : Opened) (e : o ≡ openedAs r) where
 
 -- ---- the answers of reading
 
-pub header-given : (r : List ℕ) (h : Header) → readingFault r ≡ none → h ≡ headerOf r → of-header.Given h ≡ headerAnswer r
+pub header-given : (r : List ℕ) (h : Header) → readingFault r ≡ none → h ≡ headerOf r →
+    of-header.Given h ≡ headerAnswer r
 unfolding headerAnswer
 header-given r h e g = rw (e, g)
 
@@ -148,7 +151,8 @@ unfolding headerAnswer
 header-refused r k p e = rw e
 
 module _ (r : List ℕ) (j : ℕ) where
-  pub unit-given : (u s : ℕ) (x : UnitRow) → AcceptedAs r u s → j < u → x ≡ unitAt r j → of-unit.Given x ≡ unitAnswer r j
+  pub unit-given : (u s : ℕ) (x : UnitRow) → AcceptedAs r u s → j < u → x ≡ unitAt r j →
+      of-unit.Given x ≡ unitAnswer r j
   unfolding unitAnswer unitFault rowFault
   unit-given u s x a h g = rw (a .fault, lt-ltb j (word32 r 8) (omega (arith, a .units)), g)
 
@@ -160,7 +164,8 @@ module _ (r : List ℕ) (j : ℕ) where
   unfolding unitAnswer unitFault
   unit-refused k p e = rw e
 
-  pub scene-given : (u s : ℕ) (x : SceneRow) → AcceptedAs r u s → j < s → x ≡ sceneAt r j → of-scene.Given x ≡ sceneAnswer r j
+  pub scene-given : (u s : ℕ) (x : SceneRow) → AcceptedAs r u s → j < s → x ≡ sceneAt r j →
+      of-scene.Given x ≡ sceneAnswer r j
   unfolding sceneAnswer sceneFault rowFault
   scene-given u s x a h g = rw (a .fault, lt-ltb j (word32 r 16) (omega (arith, a .scenes)), g)
 

@@ -51,7 +51,8 @@ units-end known n j all b h e = let z : n - j ≡ 0 = omega arith in sym (e ∙ 
 
 module _ (r : List ℕ) (p pictures n j from : ℕ) (h : j < n) where
   scenes-step : allowedScenes pictures (n - j) from (drop (p + 32 * j) r) ≡
-      (allowedScene from (drop (p + 32 * j) r) && allowedScenes pictures (n - (j + 1)) (from + word32 (drop (p + 32 * j) r) 4) (drop (p + 32 * (j + 1)) r))
+      (allowedScene from (drop (p + 32 * j) r)
+      && allowedScenes pictures (n - (j + 1)) (from + word32 (drop (p + 32 * j) r) 4) (drop (p + 32 * (j + 1)) r))
   unfolding allowedScenes
   scenes-step = rw (more-rows n j h, next-row p j r)
 
@@ -61,14 +62,17 @@ module _ (r : List ℕ) (p pictures n j from : ℕ) (h : j < n) where
         all ≡ allowedScenes pictures (n - (j + 1)) (from + w) (drop (p + 32 * (j + 1)) r)
     scenes-more w k t =
         let x : word32 (drop (p + 32 * j) r) 4 ≡ w = sym (k ∙ ap (λ (l : List ℕ). word32 l 4) (part (p + 32 * j) r)) in
-        let y : allowedScene from (drop (p + 32 * j) r) ≡ true = sym (ap (allowedScene from) (part (p + 32 * j) r)) ∙ (sym e ∙ t) in
+        let y : allowedScene from (drop (p + 32 * j) r) ≡ true =
+        sym (ap (allowedScene from) (part (p + 32 * j) r)) ∙ (sym e ∙ t) in
         rest ∙ (scenes-step ∙ rw (x, y))
 
     pub scenes-stop : b ≡ false → false ≡ all
     scenes-stop f =
-        let y : allowedScene from (drop (p + 32 * j) r) ≡ false = sym (ap (allowedScene from) (part (p + 32 * j) r)) ∙ (sym e ∙ f) in
+        let y : allowedScene from (drop (p + 32 * j) r) ≡ false =
+        sym (ap (allowedScene from) (part (p + 32 * j) r)) ∙ (sym e ∙ f) in
         sym (rest ∙ (scenes-step ∙ rw y))
 
-pub scenes-end : (pictures n j from : ℕ) (all : Bool) (b : List ℕ) → n ≤ j → all ≡ allowedScenes pictures (n - j) from b → eqb from pictures ≡ all
+pub scenes-end : (pictures n j from : ℕ) (all : Bool) (b : List ℕ) → n ≤ j →
+    all ≡ allowedScenes pictures (n - j) from b → eqb from pictures ≡ all
 unfolding allowedScenes
 scenes-end pictures n j from all b h e = let z : n - j ≡ 0 = omega arith in sym (e ∙ rw z)

@@ -46,30 +46,38 @@ opened-allowed r u s e = accepted-as r u s e .allowed
 
 -- ---- reading what was written
 
-module _ (h : Header) (us : List UnitRow) (ss : List SceneRow) (f : Figures h us ss) (good : goodFigures h us ss ≡ true) where
+module _ (h : Header) (us : List UnitRow) (ss : List SceneRow) (f : Figures h us ss)
+    (good : goodFigures h us ss ≡ true) where
   is-allowed : allowed (recordBytes h us ss) ≡ true
   is-allowed = allowed-figures h us ss f ∙ good
 
   counts : (word32 (recordBytes h us ss) 8 ≡ length us) × (word32 (recordBytes h us ss) 16 ≡ length ss)
   unfolding headerOf
-  counts =
-      (ap (λ (x : Header). x .units) (header-read h us ss f) ∙ sym (f .units), ap (λ (x : Header). x .scenes) (header-read h us ss f) ∙ sym (f .scenes))
+  counts = (
+    ap (λ (x : Header). x .units) (header-read h us ss f) ∙ sym (f .units),
+    ap (λ (x : Header). x .scenes) (header-read h us ss f) ∙ sym (f .scenes),
+  )
 
   pub opens : openedAs (recordBytes h us ss) ≡ Accepted (length us) (length ss)
   opens = rw (counts .0, counts .1) at (allowed-opened (recordBytes h us ss) is-allowed)
 
   pub header-back : headerAnswer (recordBytes h us ss) ≡ of-header.Given h
-  header-back = sym (header-given (recordBytes h us ss) h (allowed-accepted (recordBytes h us ss) is-allowed) (sym (header-read h us ss f)))
+  header-back = sym (header-given (recordBytes h us ss) h (allowed-accepted (recordBytes h us ss) is-allowed)
+      (sym (header-read h us ss f)))
 
-  pub unit-back : (j : ℕ) (z : UnitRow) → j < length us → unitAnswer (recordBytes h us ss) j ≡ of-unit.Given (getD us j z)
+  pub unit-back : (j : ℕ) (z : UnitRow) → j < length us →
+      unitAnswer (recordBytes h us ss) j ≡ of-unit.Given (getD us j z)
   unit-back j z k =
       let a = accepted-as (recordBytes h us ss) (length us) (length ss) opens in
-      sym (unit-given (recordBytes h us ss) j (length us) (length ss) (getD us j z) a k (sym (unit-read h us ss f j z k)))
+      sym (unit-given (recordBytes h us ss) j (length us) (length ss) (getD us j z) a k
+      (sym (unit-read h us ss f j z k)))
 
-  pub scene-back : (j : ℕ) (z : SceneRow) → j < length ss → sceneAnswer (recordBytes h us ss) j ≡ of-scene.Given (getD ss j z)
+  pub scene-back : (j : ℕ) (z : SceneRow) → j < length ss →
+      sceneAnswer (recordBytes h us ss) j ≡ of-scene.Given (getD ss j z)
   scene-back j z k =
       let a = accepted-as (recordBytes h us ss) (length us) (length ss) opens in
-      sym (scene-given (recordBytes h us ss) j (length us) (length ss) (getD ss j z) a k (sym (scene-read h us ss f j z k)))
+      sym (scene-given (recordBytes h us ss) j (length us) (length ss) (getD ss j z) a k
+      (sym (scene-read h us ss f j z k)))
 
 -- the record is what stands before the unaltered bytes of a buffer
 pub front : (r b : List ℕ) → take (length r) (over r b) ≡ r
@@ -78,7 +86,8 @@ front r b = take-append-seam r (drop (length r) b)
 
 -- ---- one record, one set of figures
 
-pub injective : (h h′ : Header) (us us′ : List UnitRow) (ss ss′ : List SceneRow) → Figures h us ss → Figures h′ us′ ss′ →
+pub injective : (h h′ : Header) (us us′ : List UnitRow) (ss ss′ : List SceneRow) → Figures h us ss →
+    Figures h′ us′ ss′ →
     recordBytes h us ss ≡ recordBytes h′ us′ ss′ → (h ≡ h′) × (us ≡ us′) × (ss ≡ ss′)
 injective h h′ us us′ ss ss′ f f′ e = record-injective h h′ us us′ ss ss′ f f′ e
 
@@ -90,6 +99,7 @@ same-reading r t b d e f h u s =
 
 -- ---- read and written again
 
-pub again : (r b : List ℕ) → EachByte r → readingFault r ≡ none → over (recordBytes (headerOf r) (unitsRead r) (scenesRead r)) b ≡ r ++ drop (length r) b
+pub again : (r b : List ℕ) → EachByte r → readingFault r ≡ none →
+    over (recordBytes (headerOf r) (unitsRead r) (scenesRead r)) b ≡ r ++ drop (length r) b
 unfolding over
 again r b d e = rw (record-again r d (fault-allowed r e))

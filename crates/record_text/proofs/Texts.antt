@@ -55,7 +55,8 @@ decimal-digit d h = rw (lt-ltb d 10 h)
 one-le : (k : ℕ) → 1 ≤ 10 ^ k
 one-le k = pow-le-pow-right {n = 10} (omega arith) {i = 0} {j = k} (omega arith)
 
-spelled : (k most n : ℕ) → 1 ≤ k → k ≤ most → n < 10 ^ k → (1 < k → 10 ^ (k - 1) ≤ n) → digits 10 k n ≡ decimalIn most n
+spelled : (k most n : ℕ) → 1 ≤ k → k ≤ most → n < 10 ^ k → (1 < k → 10 ^ (k - 1) ≤ n) →
+    digits 10 k n ≡ decimalIn most n
 unfolding decimalIn
 spelled zero most n a b c d = absurd (omega arith)
 spelled (suc k) zero n a b c d = absurd (omega arith)
@@ -65,12 +66,18 @@ spelled (suc zero) (suc most) n a b c d =
 spelled (suc (suc k)) (suc most) n a b c d =
     let e : suc (suc k) - 1 ≡ suc k = omega arith in
     let low : 10 ^ suc k ≤ n = rw e at (d (omega arith)) in
-    let high : n / 10 < 10 ^ suc k = div-lt-iff-lt-mul {k = 10} {x = n} {y = 10 ^ suc k} (omega arith) .1 (omega (arith, pow-suc 10 (suc k))) in
+    let high : n / 10 < 10 ^ suc k =
+    div-lt-iff-lt-mul {k = 10} {x = n} {y = 10 ^ suc k} (omega arith) .1 (omega (arith, pow-suc 10 (suc k))) in
     let ten : 10 ≤ n = omega (arith, pow-suc 10 k, one-le k) in
     let g : suc k - 1 ≡ k = omega arith in
-    let down : 10 ^ k ≤ n / 10 = le-div-iff-mul-le {k = 10} {x = 10 ^ k} {y = n} (omega arith) .1 (omega (arith, pow-suc 10 k)) in
+    let down : 10 ^ k ≤ n / 10 =
+    le-div-iff-mul-le {k = 10} {x = 10 ^ k} {y = n} (omega arith) .1 (omega (arith, pow-suc 10 k)) in
     let less : 1 < suc k → 10 ^ (suc k - 1) ≤ n / 10 = λ _. rw g down in
-    rw (le-ltb n 10 ten, decimal-digit (n % 10) (omega arith), spelled (suc k) most (n / 10) (omega arith) (omega arith) high less)
+    rw (
+      le-ltb n 10 ten,
+      decimal-digit (n % 10) (omega arith),
+      spelled (suc k) most (n / 10) (omega arith) (omega arith) high less,
+    )
 
 pub decimal-digits : (n k : ℕ) → n < 2 ^ 64 → Fewest 10 1 n k → digits 10 k n ≡ decimal n
 unfolding decimal
@@ -102,12 +109,17 @@ capital-digit d h = go (ltb d 10) refl
 pub capitals : (k n : ℕ) → map capital (digits 16 k n) ≡ hexIn k n
 unfolding hexIn
 capitals zero n = refl
-capitals (suc k) n = rw (map-append capital (digits 16 k (n / 16)) (glyph (n % 16) ∷ []), capitals k (n / 16), capital-digit (n % 16) (omega arith))
+capitals (suc k) n = rw (
+  map-append capital (digits 16 k (n / 16)) (glyph (n % 16) ∷ []),
+  capitals k (n / 16),
+  capital-digit (n % 16) (omega arith),
+)
 
 pub length-hex : (k n : ℕ) → length (hexIn k n) ≡ k
 unfolding hexIn
 length-hex zero n = refl
-length-hex (suc k) n = rw (length-append (hexIn k (n / 16)) (hexDigit (n % 16) ∷ []), length-hex k (n / 16)) (omega arith)
+length-hex (suc k) n =
+    rw (length-append (hexIn k (n / 16)) (hexDigit (n % 16) ∷ []), length-hex k (n / 16)) (omega arith)
 
 -- ---- fields
 
@@ -116,7 +128,8 @@ unfolding decimalIn
 length-decimal zero n = omega arith
 length-decimal (suc k) n = go (ltb n 10) (length-decimal k (n / 10))
   where
-    go : (b : Bool) → length (decimalIn k (n / 10)) ≤ k → length (pick b ((48 + n) ∷ []) (decimalIn k (n / 10) ++ ((48 + n % 10) ∷ []))) ≤ suc k
+    go : (b : Bool) → length (decimalIn k (n / 10)) ≤ k →
+        length (pick b ((48 + n) ∷ []) (decimalIn k (n / 10) ++ ((48 + n % 10) ∷ []))) ≤ suc k
     go true h = omega arith
     go false h = rw (length-append (decimalIn k (n / 10)) ((48 + n % 10) ∷ [])) (omega arith)
 
@@ -124,19 +137,27 @@ pub length-field : (n : ℕ) → length (field n) ≤ 21
 unfolding field decimal
 length-field n = omega (arith, length-decimal 20 n)
 
-pub field-more : (ns : List ℕ) (i : ℕ) → i < length ns → fields (take (i + 1) ns) ≡ fields (take i ns) ++ field (getD ns i 0)
+pub field-more : (ns : List ℕ) (i : ℕ) → i < length ns →
+    fields (take (i + 1) ns) ≡ fields (take i ns) ++ field (getD ns i 0)
 unfolding fields endToEnd
 field-more ns i h =
-    rw (add-one i, take-suc ns i 0 h, map-append field (take i ns) (getD ns i 0 ∷ []), endToEnd-append (map field (take i ns)) (field (getD ns i 0) ∷ []))
+    rw (
+      add-one i,
+      take-suc ns i 0 h,
+      map-append field (take i ns) (getD ns i 0 ∷ []),
+      endToEnd-append (map field (take i ns)) (field (getD ns i 0) ∷ []),
+    )
     (ap (λ (x : List ℕ). endToEnd (map field (take i ns)) ++ x) (append-nil (field (getD ns i 0))))
 
 -- ---- a line
 
-pub line-more : (p x s s₁ s₂ : List ℕ) (n : ℕ) → s₁ ≡ over p s → n ≡ length p → n ≤ length s → s₂ ≡ written n x s₁ → s₂ ≡ over (p ++ x) s
+pub line-more : (p x s s₁ s₂ : List ℕ) (n : ℕ) → s₁ ≡ over p s → n ≡ length p → n ≤ length s → s₂ ≡ written n x s₁ →
+    s₂ ≡ over (p ++ x) s
 line-more p x s s₁ s₂ n e l k f = f ∙ (rw e (behind p x s n (sym l) k))
 
 -- one hexadecimal digit more
-pub capital-more : (s text : List ℕ) (at i x : ℕ) → at + length text ≤ length s → i < length text → x ≡ capital (getD text i 0) →
+pub capital-more : (s text : List ℕ) (at i x : ℕ) → at + length text ≤ length s → i < length text →
+    x ≡ capital (getD text i 0) →
     set (written at (take i (map capital text)) s) (at + i) x ≡ written at (take (i + 1) (map capital text)) s
 capital-more s text at i x k h e =
     let n : length (map capital text) ≡ length text = length-map text capital in
@@ -149,7 +170,8 @@ module _ (s : List ℕ) (at : ℕ) where
   space : at < length s → set s at 32 ≡ written at (32 ∷ []) s
   space k = written-sets at (32 ∷ []) s (omega arith)
 
-  module _ (n k : ℕ) (t : List ℕ) (fits : n < 2 ^ 64) (few-digits : Fewest 10 1 n k) (is : take k t ≡ digits 10 k n) (room : at + 21 ≤ length s) where
+  module _ (n k : ℕ) (t : List ℕ) (fits : n < 2 ^ 64) (few-digits : Fewest 10 1 n k) (is : take k t ≡ digits 10 k n)
+      (room : at + 21 ≤ length s) where
     field-digits : take k t ≡ decimal n
     field-digits = is ∙ decimal-digits n k fits few-digits
 
@@ -157,15 +179,20 @@ module _ (s : List ℕ) (at : ℕ) where
     unfolding field
     field-room = rw (field-digits, length-set s at 32) (omega (arith, length-field n))
 
-    pub field-written : (r : ℕ) (s₂ : List ℕ) → (r ≡ at + 1 + length (take k t)) × (s₂ ≡ written (at + 1) (take k t) (set s at 32)) →
+    pub field-written : (r : ℕ) (s₂ : List ℕ) →
+        (r ≡ at + 1 + length (take k t)) × (s₂ ≡ written (at + 1) (take k t) (set s at 32)) →
         (r ≡ at + length (field n)) × (r ≤ at + 21) × (s₂ ≡ written at (field n) s)
     unfolding field
     field-written r s₂ e =
         let e₀ : r ≡ at + 1 + length (decimal n) = rw field-digits at (e .0) in
-        let e₁ : s₂ ≡ written (at + 1) (decimal n) (set s at 32) = rw field-digits at (e .1) in
-        (omega arith, omega (arith, length-field n), next at 1 (32 ∷ []) (decimal n) s refl (omega arith) (space (omega arith)) e₁)
+        let e₁ : s₂ ≡ written (at + 1) (decimal n) (set s at 32) = rw field-digits at (e .1) in (
+          omega arith,
+          omega (arith, length-field n),
+          next at 1 (32 ∷ []) (decimal n) s refl (omega arith) (space (omega arith)) e₁,
+        )
 
-  module _ (n k : ℕ) (t : List ℕ) (fits : n < 2 ^ 64) (few-digits : Fewest 16 16 n k) (is : take k t ≡ digits 16 k n) (room : at + 17 ≤ length s) where
+  module _ (n k : ℕ) (t : List ℕ) (fits : n < 2 ^ 64) (few-digits : Fewest 16 16 n k) (is : take k t ≡ digits 16 k n)
+      (room : at + 17 ≤ length s) where
     hex-digits : map capital (take k t) ≡ hexIn 16 n
     hex-digits = rw (is, sixteen n k fits few-digits) (capitals 16 n)
 
@@ -175,7 +202,8 @@ module _ (s : List ℕ) (at : ℕ) where
     pub hex-room : at + 1 + length (take k t) ≤ length (set s at 32)
     hex-room = rw (hex-length, length-set s at 32) (omega arith)
 
-    pub hex-written : (r : ℕ) (s₂ : List ℕ) → (r ≡ at + 1 + length (take k t)) × (s₂ ≡ written (at + 1) (map capital (take k t)) (set s at 32)) →
+    pub hex-written : (r : ℕ) (s₂ : List ℕ) →
+        (r ≡ at + 1 + length (take k t)) × (s₂ ≡ written (at + 1) (map capital (take k t)) (set s at 32)) →
         (r ≡ at + 17) × (s₂ ≡ written at (32 ∷ hexIn 16 n) s)
     hex-written r s₂ e =
         let e₀ : r ≡ at + 1 + 16 = rw hex-length at (e .0) in
@@ -184,13 +212,16 @@ module _ (s : List ℕ) (at : ℕ) where
 
 -- ---- fields one by one
 
-pub no-fields : (s ns : List ℕ) (at : ℕ) → (at ≡ at + length (fields (take 0 ns))) × (s ≡ written at (fields (take 0 ns)) s)
+pub no-fields : (s ns : List ℕ) (at : ℕ) →
+    (at ≡ at + length (fields (take 0 ns))) × (s ≡ written at (fields (take 0 ns)) s)
 unfolding fields endToEnd
 no-fields s ns at = (omega arith, none-yet s [] at)
 
 module _ (ns s s₁ s₂ : List ℕ) (at i end r : ℕ) (h : i < length ns) (room : end ≤ length s) where
-  pub fields-step : end ≡ at + length (fields (take i ns)) → s₁ ≡ written at (fields (take i ns)) s → r ≡ end + length (field (getD ns i 0)) →
-      s₂ ≡ written end (field (getD ns i 0)) s₁ → (r ≡ at + length (fields (take (i + 1) ns))) × (s₂ ≡ written at (fields (take (i + 1) ns)) s)
+  pub fields-step : end ≡ at + length (fields (take i ns)) → s₁ ≡ written at (fields (take i ns)) s →
+      r ≡ end + length (field (getD ns i 0)) →
+      s₂ ≡ written end (field (getD ns i 0)) s₁ → (r ≡ at + length (fields (take (i + 1) ns)))
+      × (s₂ ≡ written at (fields (take (i + 1) ns)) s)
   fields-step e f g k =
       let p = fields (take i ns) in
       let x = field (getD ns i 0) in
@@ -204,7 +235,8 @@ all-fields ns i h = ap fields (take-all i ns h)
 -- ---- a line of three parts, and of four
 
 module _ (a b c s s₁ s₂ s₃ : List ℕ) (n₁ n₂ n₃ : ℕ) (first : n₁ ≤ length s) (second : n₂ ≤ length s) where
-  pub line-of-three : (n₁ ≡ 0 + length a) × (s₁ ≡ written 0 a s) → n₂ ≡ n₁ + length b → s₂ ≡ written n₁ b s₁ → (n₃ ≡ n₂ + length c) × (s₃ ≡ written n₂ c s₂) →
+  pub line-of-three : (n₁ ≡ 0 + length a) × (s₁ ≡ written 0 a s) → n₂ ≡ n₁ + length b → s₂ ≡ written n₁ b s₁ →
+      (n₃ ≡ n₂ + length c) × (s₃ ≡ written n₂ c s₂) →
       (n₃ ≡ length (a ++ b ++ c)) × (s₃ ≡ over (a ++ b ++ c) s)
   line-of-three e f g k =
       let x = length-append a b in
@@ -213,9 +245,12 @@ module _ (a b c s s₁ s₂ s₃ : List ℕ) (n₁ n₂ n₃ : ℕ) (first : n�
       let t₂ : s₂ ≡ over (a ++ b) s = line-more a b s s₁ s₂ n₁ t₁ (omega (arith, e .0)) first g in
       (omega (arith, e .0, k .0), line-more (a ++ b) c s s₂ s₃ n₂ t₂ (omega (arith, e .0)) second (k .1))
 
-module _ (a b c d s s₁ s₂ s₃ s₄ : List ℕ) (n₁ n₂ n₃ n₄ : ℕ) (first : n₁ ≤ length s) (second : n₂ ≤ length s) (third : n₃ ≤ length s) where
-  pub line-of-four : (n₁ ≡ 0 + length a) × (s₁ ≡ written 0 a s) → n₂ ≡ n₁ + length b → s₂ ≡ written n₁ b s₁ → n₃ ≡ n₂ + length c → s₃ ≡ written n₂ c s₂ →
-      (n₄ ≡ n₃ + length d) × (s₄ ≡ written n₃ d s₃) → (n₄ ≡ length (a ++ b ++ c ++ d)) × (s₄ ≡ over (a ++ b ++ c ++ d) s)
+module _ (a b c d s s₁ s₂ s₃ s₄ : List ℕ) (n₁ n₂ n₃ n₄ : ℕ) (first : n₁ ≤ length s) (second : n₂ ≤ length s)
+    (third : n₃ ≤ length s) where
+  pub line-of-four : (n₁ ≡ 0 + length a) × (s₁ ≡ written 0 a s) → n₂ ≡ n₁ + length b → s₂ ≡ written n₁ b s₁ →
+      n₃ ≡ n₂ + length c → s₃ ≡ written n₂ c s₂ →
+      (n₄ ≡ n₃ + length d) × (s₄ ≡ written n₃ d s₃) → (n₄ ≡ length (a ++ b ++ c ++ d))
+      × (s₄ ≡ over (a ++ b ++ c ++ d) s)
   line-of-four e f g i j k =
       let z = line-of-three a b c s s₁ s₂ s₃ n₁ n₂ n₃ first second e f g (i, j) in
       let y = length-append (a ++ b ++ c) d in

@@ -24,7 +24,8 @@ sampleLine h =
 
 -- `unit`, the row's number and its fields
 unfoldable pub unitLine : ℕ → UnitRow → List ℕ
-unitLine j u = (117 ∷ 110 ∷ 105 ∷ 116 ∷ []) ++ fields (j ∷ u .least ∷ u .greatest ∷ u .size ∷ u .packets ∷ u .lost ∷ []) ++ (10 ∷ [])
+unitLine j u = (117 ∷ 110 ∷ 105 ∷ 116 ∷ [])
+    ++ fields (j ∷ u .least ∷ u .greatest ∷ u .size ∷ u .packets ∷ u .lost ∷ []) ++ (10 ∷ [])
 
 -- `scene`, the row's number and its fields
 unfoldable pub sceneLine : ℕ → SceneRow → List ℕ

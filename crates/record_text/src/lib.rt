@@ -1,4 +1,5 @@
-// The text of document 01's lines, made into a lent buffer: each function answers how many bytes it put at the front; the rest of the buffer stands unaltered.
+// The text of document 01's lines, made into a lent buffer: each function answers how many bytes it put at the front;
+// the rest of the buffer stands unaltered.
 ghost use mathlib.Core.Path.{_≡_};
 ghost use mathlib.Core.List.{_∷_, map};
 ghost use Prim.Native.Nat.{_+_, _*_, _≤_};
@@ -15,7 +16,8 @@ use rules::UnitRow;
 // Some bytes at a place; the answer is the place behind them.
 pub fn put_text(buffer: &mut [u8], at: usize, text: &[u8]) -> usize
     requires { ⌜ at + length (now text) ≤ length (now buffer) ⌝ }
-    ensures { λ r. ⌜ (r ≡ at + length (now (text .entry))) × (now (buffer .exit) ≡ written at (now (text .entry)) (now (buffer .entry))) ⌝ }
+    ensures { λ r. ⌜ (r ≡ at + length (now (text .entry)))
+        × (now (buffer .exit) ≡ written at (now (text .entry)) (now (buffer .entry))) ⌝ }
 {
     let mut i = 0;
     while i < text.len() {
@@ -41,7 +43,8 @@ fn capital(b: u8) -> u8
 // Hexadecimal digits at a place, letters capital.
 fn put_capitals(buffer: &mut [u8], at: usize, text: &[u8]) -> usize
     requires { ⌜ at + length (now text) ≤ length (now buffer) ⌝ }
-    ensures { λ r. ⌜ (r ≡ at + length (now (text .entry))) × (now (buffer .exit) ≡ written at (map capitalOf (now (text .entry))) (now (buffer .entry))) ⌝ }
+    ensures { λ r. ⌜ (r ≡ at + length (now (text .entry)))
+        × (now (buffer .exit) ≡ written at (map capitalOf (now (text .entry))) (now (buffer .entry))) ⌝ }
 {
     let mut i = 0;
     while i < text.len() {
@@ -54,7 +57,9 @@ fn put_capitals(buffer: &mut [u8], at: usize, text: &[u8]) -> usize
 // A space and a number.
 fn put_field(buffer: &mut [u8], at: usize, n: u64) -> usize
     requires { ⌜ at + 21 ≤ length (now buffer) ⌝ }
-    ensures { λ r. ⌜ (r ≡ at + length (field n)) × (r ≤ at + 21) × (now (buffer .exit) ≡ written at (field n) (now (buffer .entry))) ⌝ }
+    ensures { λ r. ⌜ (r ≡ at + length (field n))
+        × (r ≤ at + 21)
+        × (now (buffer .exit) ≡ written at (field n) (now (buffer .entry))) ⌝ }
 {
     buffer[at] = 32;
     let mut digits = [0u8; 20];
@@ -65,7 +70,9 @@ fn put_field(buffer: &mut [u8], at: usize, n: u64) -> usize
 // Each number with a space before it.
 pub fn put_fields(buffer: &mut [u8], at: usize, numbers: &[u64]) -> usize
     requires { ⌜ at + 21 * length (now numbers) ≤ length (now buffer) ⌝ }
-    ensures { λ r. ⌜ (r ≡ at + length (fields (now (numbers .entry)))) × (r ≤ at + 21 * length (now (numbers .entry))) × (now (buffer .exit) ≡ written at (fields (now (numbers .entry))) (now (buffer .entry))) ⌝ }
+    ensures { λ r. ⌜ (r ≡ at + length (fields (now (numbers .entry))))
+        × (r ≤ at + 21 * length (now (numbers .entry)))
+        × (now (buffer .exit) ≡ written at (fields (now (numbers .entry))) (now (buffer .entry))) ⌝ }
 {
     let mut end = at;
     let mut i = 0;
@@ -129,7 +136,8 @@ pub fn unit_line(buffer: &mut [u8], j: u64, u: UnitRow) -> usize
 // The line of scene row j.
 pub fn scene_line(buffer: &mut [u8], j: u64, s: SceneRow) -> usize
     requires { ⌜ 200 ≤ length (now buffer) ⌝ }
-    ensures { λ r. ⌜ (r ≡ length (sceneLine j s)) × (now (buffer .exit) ≡ over (sceneLine j s) (now (buffer .entry))) ⌝ }
+    ensures { λ r. ⌜ (r ≡ length (sceneLine j s))
+        × (now (buffer .exit) ≡ over (sceneLine j s) (now (buffer .entry))) ⌝ }
 {
     let numbers = [
         j,
@@ -149,7 +157,8 @@ pub fn scene_line(buffer: &mut [u8], j: u64, s: SceneRow) -> usize
 // The line of a refusal.
 pub fn refused_line(buffer: &mut [u8], number: u64) -> usize
     requires { ⌜ 200 ≤ length (now buffer) ⌝ }
-    ensures { λ r. ⌜ (r ≡ length (refusedLine number)) × (now (buffer .exit) ≡ over (refusedLine number) (now (buffer .entry))) ⌝ }
+    ensures { λ r. ⌜ (r ≡ length (refusedLine number))
+        × (now (buffer .exit) ≡ over (refusedLine number) (now (buffer .entry))) ⌝ }
 {
     let word = put_text(buffer, 0, b"refused");
     let figure = put_field(buffer, word, number);

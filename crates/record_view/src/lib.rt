@@ -1,4 +1,5 @@
-// A view of one record: its bytes with its counts, made by opening it. Its functions are thin: each hands the slice and the numbers to a function over those.
+// A view of one record: its bytes with its counts, made by opening it. Its functions are thin: each hands the slice
+// and the numbers to a function over those.
 ghost use mathlib.Core.Path.{_≡_};
 ghost use Rattle.rules.specs.Reading.{headerAnswer, unitAnswer, sceneAnswer};
 ghost use Rattle.record_view.specs.Seen.{unitsOf, scenesOf, fits, HeaderSeen, UnitSeen, SceneSeen, ViewOf};
@@ -59,7 +60,8 @@ fn fit(bytes: &[u8], units: usize, scenes: usize) -> bool
     words::word32(bytes, 8) as usize == units
 }
 
-// The header's figures, or the refusal. Where the counts do not fit, as a refused record's do not, the whole record is read.
+// The header's figures, or the refusal. Where the counts do not fit, as a refused record's do
+// not, the whole record is read.
 fn header_at(bytes: &[u8], units: usize, scenes: usize) -> HeaderAnswer
     ensures { λ r. ⌜ HeaderSeen (now (bytes .entry)) units scenes r ⌝ }
 {

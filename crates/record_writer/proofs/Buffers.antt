@@ -22,12 +22,15 @@ pub length-four : (a b c d : ℕ) → length (four a b c d) ≡ 16
 length-four a b c d = simp (length-append, length-bytes)
 
 module _ (at a b c d : ℕ) (s : List ℕ) {s₁ s₂ s₃ s₄ : List ℕ} (fits : at + 16 ≤ length s) where
-  pub four-written : s₁ ≡ written at (bytesOf 4 a) s → s₂ ≡ written (at + 4) (bytesOf 4 b) s₁ → s₃ ≡ written (at + 8) (bytesOf 4 c) s₂ →
+  pub four-written : s₁ ≡ written at (bytesOf 4 a) s → s₂ ≡ written (at + 4) (bytesOf 4 b) s₁ →
+      s₃ ≡ written (at + 8) (bytesOf 4 c) s₂ →
       s₄ ≡ written (at + 12) (bytesOf 4 d) s₃ → s₄ ≡ written at (four a b c d) s
   four-written e₁ e₂ e₃ e₄ =
-      let f₂ : s₂ ≡ written at (bytesOf 4 a ++ bytesOf 4 b) s = next at 4 (bytesOf 4 a) (bytesOf 4 b) s (length-bytes 4 a) (omega arith) e₁ e₂ in
+      let f₂ : s₂ ≡ written at (bytesOf 4 a ++ bytesOf 4 b) s =
+      next at 4 (bytesOf 4 a) (bytesOf 4 b) s (length-bytes 4 a) (omega arith) e₁ e₂ in
       let n₂ : length (bytesOf 4 a ++ bytesOf 4 b) ≡ 8 = simp (length-append, length-bytes) in
-      let f₃ : s₃ ≡ written at (bytesOf 4 a ++ bytesOf 4 b ++ bytesOf 4 c) s = next at 8 (bytesOf 4 a ++ bytesOf 4 b) (bytesOf 4 c) s n₂ (omega arith) f₂ e₃ in
+      let f₃ : s₃ ≡ written at (bytesOf 4 a ++ bytesOf 4 b ++ bytesOf 4 c) s =
+      next at 8 (bytesOf 4 a ++ bytesOf 4 b) (bytesOf 4 c) s n₂ (omega arith) f₂ e₃ in
       let n₃ : length (bytesOf 4 a ++ bytesOf 4 b ++ bytesOf 4 c) ≡ 12 = simp (length-append, length-bytes) in
       next at 12 (bytesOf 4 a ++ bytesOf 4 b ++ bytesOf 4 c) (bytesOf 4 d) s n₃ (omega arith) f₃ e₄
 
@@ -36,7 +39,8 @@ module _ (h : Header) (s : List ℕ) {s₁ s₂ s₃ s₄ s₅ s₆ : List ℕ} 
   pub header-written : s₁ ≡ written 0 (four (h .edition) (recordLength (h .units) (h .scenes)) (h .units) 64) s →
       s₂ ≡ written 16 (four (h .scenes) (sceneOffset (h .units)) (h .width) (h .height)) s₁ →
       s₃ ≡ written 32 (four (h .time) (h .pid) (h .pictures) (h .frames)) s₂ →
-      s₄ ≡ written 48 (bytesOf 4 (h .skipped)) s₃ → s₅ ≡ written 52 (bytesOf 4 (h .bad)) s₄ → s₆ ≡ written 56 (bytesOf 8 (h .index)) s₅ →
+      s₄ ≡ written 48 (bytesOf 4 (h .skipped)) s₃ → s₅ ≡ written 52 (bytesOf 4 (h .bad)) s₄ →
+      s₆ ≡ written 56 (bytesOf 8 (h .index)) s₅ →
       s₆ ≡ over (headerBytes h) s
   unfolding headerBytes
   header-written e₁ e₂ e₃ e₄ e₅ e₆ =
@@ -74,5 +78,6 @@ module _ (at : ℕ) (x : SceneRow) (s : List ℕ) {s₁ s₂ : List ℕ} (fits :
       s₂ ≡ written (at + 16) (four (x .score) (x .peak) (x .change) 0) s₁ → s₂ ≡ written at (sceneBytes x) s
   unfolding sceneBytes
   scene-written e₁ e₂ =
-      next at 16 (four (x .first) (x .pictures) (x .repeated) (x .longest)) (four (x .score) (x .peak) (x .change) 0) s (length-four _ _ _ _) (omega arith) e₁ e₂
+      next at 16 (four (x .first) (x .pictures) (x .repeated) (x .longest)) (four (x .score) (x .peak) (x .change) 0) s
+      (length-four _ _ _ _) (omega arith) e₁ e₂
       ∙ ap (λ (y : List ℕ). written at y s) (simp append-assoc)

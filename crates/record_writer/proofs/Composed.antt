@@ -1,4 +1,5 @@
--- What the calls of writing come to, one after the other: header, unit rows and scene rows make up the record, and every byte behind it stands unaltered.
+-- What the calls of writing come to, one after the other: header, unit rows and scene rows make up the record, and
+-- every byte behind it stands unaltered.
 use Prim.Native.Nat.{ℕ, suc, _+_, _*_, _≤_}
 use native.Mathlib.Omega.{arith}
 use mathlib.Core.Path.{_≡_, refl, sym}
@@ -17,7 +18,8 @@ use Rattle.words.specs.Written.{written}
 use Rattle.words.proofs.Behind.{behind}
 
 -- one row more
-map-snoc : {A : Type 0} (f : A → List ℕ) (xs : List A) (x : A) → endToEnd (map f (xs ++ (x ∷ []))) ≡ endToEnd (map f xs) ++ f x
+map-snoc : {A : Type 0} (f : A → List ℕ) (xs : List A) (x : A) →
+    endToEnd (map f (xs ++ (x ∷ []))) ≡ endToEnd (map f xs) ++ f x
 unfolding endToEnd
 map-snoc f [] x = append-nil (f x)
 map-snoc f (y ∷ xs) x = rw (map-snoc f xs x) (sym (append-assoc (f y) (endToEnd (map f xs)) (f x)))
@@ -25,13 +27,20 @@ map-snoc f (y ∷ xs) x = rw (map-snoc f xs x) (sym (append-assoc (f y) (endToEn
 module _ (h : Header) (us : List UnitRow) where
   record-unit : (u : UnitRow) → recordBytes h us [] ++ unitBytes u ≡ recordBytes h (us ++ (u ∷ [])) []
   unfolding recordBytes endToEnd
-  record-unit u = rw (map-snoc unitBytes us u, append-nil (headerBytes h ++ endToEnd (map unitBytes us)), append-nil (headerBytes h ++ (endToEnd (map unitBytes us) ++ unitBytes u))) (append-assoc (headerBytes h) (endToEnd (map unitBytes us)) (unitBytes u))
+  record-unit u = rw (
+    map-snoc unitBytes us u,
+    append-nil (headerBytes h ++ endToEnd (map unitBytes us)),
+    append-nil (headerBytes h ++ (endToEnd (map unitBytes us) ++ unitBytes u)),
+  ) (append-assoc (headerBytes h) (endToEnd (map unitBytes us)) (unitBytes u))
 
-  record-scene : (ss : List SceneRow) (s : SceneRow) → recordBytes h us ss ++ sceneBytes s ≡ recordBytes h us (ss ++ (s ∷ []))
+  record-scene : (ss : List SceneRow) (s : SceneRow) →
+      recordBytes h us ss ++ sceneBytes s ≡ recordBytes h us (ss ++ (s ∷ []))
   unfolding recordBytes
-  record-scene ss s = rw (map-snoc sceneBytes ss s) (append-assoc (headerBytes h ++ endToEnd (map unitBytes us)) (endToEnd (map sceneBytes ss)) (sceneBytes s))
+  record-scene ss s = rw (map-snoc sceneBytes ss s)
+      (append-assoc (headerBytes h ++ endToEnd (map unitBytes us)) (endToEnd (map sceneBytes ss)) (sceneBytes s))
 
--- the header, then unit row after unit row, then scene row after scene row: with so many rows written, the buffer is their record over what it was
+-- the header, then unit row after unit row, then scene row after scene row: with so many rows written, the buffer is
+-- their record over what it was
 module _ (h : Header) (b : List ℕ) where
   pub header-first : over (headerBytes h) b ≡ over (recordBytes h [] []) b
   unfolding recordBytes endToEnd
@@ -44,8 +53,10 @@ module _ (h : Header) (b : List ℕ) where
       let n : length (recordBytes h us []) ≡ 64 + 32 * j = omega (arith, length-record h us [], e) in
       rw (← record-unit h us u) (behind (recordBytes h us []) (unitBytes u) b (64 + 32 * j) n k)
 
-  pub scene-next : (us : List UnitRow) (ss : List SceneRow) (s : SceneRow) (m j : ℕ) → length us ≡ m → length ss ≡ j → sceneOffset m + 32 * j ≤ length b →
-      written (sceneOffset m + 32 * j) (sceneBytes s) (over (recordBytes h us ss) b) ≡ over (recordBytes h us (ss ++ (s ∷ []))) b
+  pub scene-next : (us : List UnitRow) (ss : List SceneRow) (s : SceneRow) (m j : ℕ) → length us ≡ m → length ss ≡ j →
+      sceneOffset m + 32 * j ≤ length b →
+      written (sceneOffset m + 32 * j) (sceneBytes s) (over (recordBytes h us ss) b)
+      ≡ over (recordBytes h us (ss ++ (s ∷ []))) b
   unfolding sceneOffset recordLength
   scene-next us ss s m j e f k =
       let n : length (recordBytes h us ss) ≡ 64 + 32 * m + 32 * j = omega (arith, length-record h us ss, e, f) in
@@ -69,17 +80,20 @@ module _ (h : Header) (b : List ℕ) where
       rw (unit-next h b us u j e (omega arith), ← append-snoc us u more)
       (units-on (us ++ (u ∷ [])) more (suc j) (rw (length-append us (u ∷ [])) (omega (arith, e))) (omega arith))
 
-  scenes-on : (us : List UnitRow) (ss more : List SceneRow) (m j : ℕ) → length us ≡ m → length ss ≡ j → recordLength m (j + length more) ≤ length b →
+  scenes-on : (us : List UnitRow) (ss more : List SceneRow) (m j : ℕ) → length us ≡ m → length ss ≡ j →
+      recordLength m (j + length more) ≤ length b →
       scenesOn m j more (over (recordBytes h us ss) b) ≡ over (recordBytes h us (ss ++ more)) b
   unfolding scenesOn recordLength sceneOffset
   scenes-on us ss [] m j e f k = rw (append-nil ss)
   scenes-on us ss (s ∷ more) m j e f k =
       rw (scene-next h b us ss s m j e f (omega arith), ← append-snoc ss s more)
-      (scenes-on us (ss ++ (s ∷ [])) more m (suc j) e (rw (length-append ss (s ∷ [])) (omega (arith, f))) (omega arith))
+      (scenes-on us (ss ++ (s ∷ [])) more m (suc j) e (rw (length-append ss (s ∷ [])) (omega (arith, f)))
+      (omega arith))
 
   -- the whole record
   pub written-whole : (us : List UnitRow) (ss : List SceneRow) → recordLength (length us) (length ss) ≤ length b →
       scenesOn (length us) 0 ss (unitsOn 0 us (over (headerBytes h) b)) ≡ over (recordBytes h us ss) b
   unfolding recordLength
   written-whole us ss k =
-      rw (header-first h b, units-on [] us 0 refl (omega arith)) (scenes-on us [] ss (length us) 0 refl refl (omega arith))
+      rw (header-first h b, units-on [] us 0 refl (omega arith))
+      (scenes-on us [] ss (length us) 0 refl refl (omega arith))

@@ -15,7 +15,8 @@ use rules::UnitRow;
 // Four words from a place on.
 fn put_four(s: &mut [u8], at: usize, a: u32, b: u32, c: u32, d: u32)
     requires { ⌜ at + 16 ≤ length (now s) ⌝ }
-    ensures { λ _. ⌜ now (s .exit) ≡ written at (bytesOf 4 a ++ bytesOf 4 b ++ bytesOf 4 c ++ bytesOf 4 d) (now (s .entry)) ⌝ }
+    ensures { λ _. ⌜ now (s .exit)
+        ≡ written at (bytesOf 4 a ++ bytesOf 4 b ++ bytesOf 4 c ++ bytesOf 4 d) (now (s .entry)) ⌝ }
 {
     words::put32(s, at, a);
     words::put32(s, at + 4, b);

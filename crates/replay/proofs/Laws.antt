@@ -20,7 +20,8 @@ use Rattle.sample.specs.Calls.{Runs, done, next}
 use Rattle.sample.proofs.Lists.{every-list}
 use Rattle.replay.specs.declared.reading.Head.{Head}
 use Rattle.replay.specs.declared.reading.Head.the-variants.{Stop, Capture, Luma, Seal, Index, Repeats}
-use Rattle.replay.specs.Script.{openingOf, headBy, passageBy, headAt, callsWith, callsBy, callsOf, code, codeOf, codes, room, roomFor, replayed, Replayed, nextOf, sizeOf, CallPost, Played, All}
+use Rattle.replay.specs.Script.{openingOf, headBy, passageBy, headAt, callsWith, callsBy, callsOf, code, codeOf}
+use Rattle.replay.specs.Script.{codes, room, roomFor, replayed, Replayed, nextOf, sizeOf, CallPost, Played, All}
 
 -- ---- heads
 
@@ -56,19 +57,23 @@ fits left kind n = a (ltb left 5) refl
     d true p q = omega arith
     d false p q = omega arith
 
-    e : (b : Bool) → 5 ≤ left → n ≤ left - 5 → bytesOfHead (pick b (Capture n) (pick (eqb kind 76) (Luma n) Stop)) ≤ left
+    e : (b : Bool) → 5 ≤ left → n ≤ left - 5 →
+        bytesOfHead (pick b (Capture n) (pick (eqb kind 76) (Luma n) Stop)) ≤ left
     e true p q = omega arith
     e false p q = d (eqb kind 76) p q
 
-    f : (b : Bool) → ltb (left - 5) n ≡ b → 5 ≤ left → bytesOfHead (pick b Stop (pick (eqb kind 67) (Capture n) (pick (eqb kind 76) (Luma n) Stop))) ≤ left
+    f : (b : Bool) → ltb (left - 5) n ≡ b → 5 ≤ left →
+        bytesOfHead (pick b Stop (pick (eqb kind 67) (Capture n) (pick (eqb kind 76) (Luma n) Stop))) ≤ left
     f true g p = omega arith
     f false g p = e (eqb kind 67) p (ltb-false (left - 5) n g)
 
-    s : (b : Bool) → 5 ≤ left → bytesOfHead (pick b (Seal n) (pick (ltb (left - 5) n) Stop (pick (eqb kind 67) (Capture n) (pick (eqb kind 76) (Luma n) Stop)))) ≤ left
+    s : (b : Bool) → 5 ≤ left → bytesOfHead (pick b (Seal n)
+        (pick (ltb (left - 5) n) Stop (pick (eqb kind 67) (Capture n) (pick (eqb kind 76) (Luma n) Stop)))) ≤ left
     s true p = omega arith
     s false p = f (ltb (left - 5) n) refl p
 
-    a : (b : Bool) → ltb left 5 ≡ b → bytesOfHead (pick b Stop (pick (eqb kind 83) (Seal n) (pick (ltb (left - 5) n) Stop (pick (eqb kind 67) (Capture n) (pick (eqb kind 76) (Luma n) Stop))))) ≤ left
+    a : (b : Bool) → ltb left 5 ≡ b → bytesOfHead (pick b Stop (pick (eqb kind 83) (Seal n)
+        (pick (ltb (left - 5) n) Stop (pick (eqb kind 67) (Capture n) (pick (eqb kind 76) (Luma n) Stop))))) ≤ left
     a true g = omega arith
     a false g = s (eqb kind 83) (ltb-false left 5 g)
 
@@ -134,7 +139,8 @@ code-size a = simp (length-append, length-bytesOf)
 codes-snoc : (os : List Outcome) (o : Outcome) → codes (os ++ o ∷ []) ≡ codes os ++ codeOf o
 unfolding codes
 codes-snoc [] o = append-nil (codeOf o)
-codes-snoc (p ∷ os) o = ap (λ (x : List ℕ). codeOf p ++ x) (codes-snoc os o) ∙ sym (append-assoc (codeOf p) (codes os) (codeOf o))
+codes-snoc (p ∷ os) o =
+    ap (λ (x : List ℕ). codeOf p ++ x) (codes-snoc os o) ∙ sym (append-assoc (codeOf p) (codes os) (codeOf o))
 
 room-append : (cs ds : List Call) → room (cs ++ ds) ≡ room cs + room ds
 unfolding room
@@ -166,7 +172,8 @@ next-on (Seal n) at = omega arith
 next-on Index at = omega arith
 next-on (Repeats a b) at = omega arith
 
-takes-on : (h : Head) (script : List ℕ) (at : ℕ) (more : ℕ → List Call) → 0 < sizeOf h → room (callsWith h script at more) ≡ sizeOf h + room (more (nextOf h at))
+takes-on : (h : Head) (script : List ℕ) (at : ℕ) (more : ℕ → List Call) → 0 < sizeOf h →
+    room (callsWith h script at more) ≡ sizeOf h + room (more (nextOf h at))
 unfolding room
 takes-on Stop script at more z = absurd (omega arith)
 takes-on (Capture n) script at more z = refl
@@ -188,23 +195,28 @@ taken-start script = record { fuel = length script; enough = omega arith; sum = 
 module _ (script : List ℕ) (at to most : ℕ) (f : Taken script at to) (below : to ≤ most) where
   pub taken-end : length script ≤ at → true ≡ leb (roomFor script) most
   unfolding room
-  taken-end h = let e = calls-end (f .fuel) script at h in let z : roomFor script ≡ to + 0 = f .sum ∙ rw e in sym (le-leb (roomFor script) most (omega arith))
+  taken-end h =
+      let e = calls-end (f .fuel) script at h in
+      let z : roomFor script ≡ to + 0 = f .sum ∙ rw e in sym (le-leb (roomFor script) most (omega arith))
 
   module _ (inside : at < length script) where
     pub taken-stop : sizeOf (headAt script at) ≡ 0 → true ≡ leb (roomFor script) most
     unfolding room
     taken-stop z =
         let s = calls-on (f .fuel) script at inside (f .enough) in
-        let e : roomFor script ≡ to + 0 = f .sum ∙ rw (s .2, no-call (headAt script at) script at (callsBy (s .0) script) z) in
+        let e : roomFor script ≡ to + 0 =
+        f .sum ∙ rw (s .2, no-call (headAt script at) script at (callsBy (s .0) script) z) in
         sym (le-leb (roomFor script) most (omega arith))
 
     pub taken-full : most - to < sizeOf (headAt script at) → false ≡ leb (roomFor script) most
     taken-full less =
         let s = calls-on (f .fuel) script at inside (f .enough) in
-        let e : roomFor script ≡ to + room (callsWith (headAt script at) script at (callsBy (s .0) script)) = f .sum ∙ rw (s .2) in
+        let e : roomFor script ≡ to + room (callsWith (headAt script at) script at (callsBy (s .0) script)) =
+        f .sum ∙ rw (s .2) in
         sym (lt-leb (roomFor script) most (omega (arith, takes (headAt script at) script at (callsBy (s .0) script))))
 
-    pub taken-on : 0 < sizeOf (headAt script at) → Taken script (nextOf (headAt script at) at) (to + sizeOf (headAt script at))
+    pub taken-on : 0 < sizeOf (headAt script at) →
+        Taken script (nextOf (headAt script at) at) (to + sizeOf (headAt script at))
     taken-on some =
         let s = calls-on (f .fuel) script at inside (f .enough) in
         let h = headAt script at in
@@ -215,14 +227,16 @@ module _ (script : List ℕ) (at to most : ℕ) (f : Taken script at to) (below 
           sum = omega (arith, e, takes-on h script at (callsBy (s .0) script) some);
         }
 
--- ---- a run so far: from the state st₀, by the calls before `at`, to the state st, with their outcomes at the front of out, up to `to`
+-- ---- a run so far: from the state st₀, by the calls before `at`, to the state st, with their outcomes at
+-- the front of out, up to `to`
 pub record Sofar (st₀ : State) (script out₀ : List ℕ) (at to : ℕ) (st : State) (out : List ℕ) : Type 0 where
   pub before : List Call
   pub outcomes : List Outcome
   pub fuel : ℕ
   pub enough : length script ≤ at + fuel
   pub split : callsOf script ≡ before ++ callsBy fuel script at
-  pub ran : (cs : List Call) (os : List Outcome) (end : State) → Runs st cs os end → Runs st₀ (before ++ cs) (outcomes ++ os) end
+  pub ran : (cs : List Call) (os : List Outcome) (end : State) → Runs st cs os end →
+      Runs st₀ (before ++ cs) (outcomes ++ os) end
   pub count : to ≡ room before
   pub head : take to out ≡ codes outcomes
   pub tail : drop to out ≡ drop to out₀
@@ -243,7 +257,8 @@ start st script out =
     }
 
 -- the calls so far were all
-ended : (st₀ : State) (script out₀ : List ℕ) (at to : ℕ) (st : State) (out : List ℕ) (f : Sofar st₀ script out₀ at to st out) →
+ended : (st₀ : State) (script out₀ : List ℕ) (at to : ℕ) (st : State) (out : List ℕ)
+    (f : Sofar st₀ script out₀ at to st out) →
     callsOf script ≡ f .before → Played st₀ script out₀ out
 ended st₀ script out₀ at to st out f all =
     record {
@@ -253,20 +268,26 @@ ended st₀ script out₀ at to st out f all =
       wrote = sym (take-append-drop to out) ∙ rw (f .head, f .tail, f .count, ← all);
     }
 
-module _ (st₀ : State) (script out₀ : List ℕ) (at to : ℕ) (st : State) (out : List ℕ) (f : Sofar st₀ script out₀ at to st out) (inside : at < length script) where
-  pub go-on : (at′ end : ℕ) (st′ : State) (part : List ℕ) → end ≡ to + sizeOf (headAt script at) → end ≤ length out → length part ≡ end - to →
-      CallPost st script at (headAt script at) at′ st′ part → Sofar st₀ script out₀ at′ end st′ (putMid to (end - to) out part)
+module _ (st₀ : State) (script out₀ : List ℕ) (at to : ℕ) (st : State) (out : List ℕ)
+    (f : Sofar st₀ script out₀ at to st out) (inside : at < length script) where
+  pub go-on : (at′ end : ℕ) (st′ : State) (part : List ℕ) → end ≡ to + sizeOf (headAt script at) → end ≤ length out →
+      length part ≡ end - to →
+      CallPost st script at (headAt script at) at′ st′ part →
+      Sofar st₀ script out₀ at′ end st′ (putMid to (end - to) out part)
   unfolding room
   go-on at′ end st′ part z r size n =
       let s = calls-on (f .fuel) script at inside (f .enough) in
       let p = take to out ++ codeOf (n .outcome) in
       let q = drop end out in
       let same : length (codeOf (n .outcome)) ≡ end - to = sym (ap length (n .wrote)) ∙ size in
-      let long : length p ≡ end = length-append (take to out) (codeOf (n .outcome)) ∙ rw (length-take-le to out (omega arith), same) (omega arith) in
-      let whole : putMid to (end - to) out part ≡ p ++ q = rw (post-is to end out (omega arith), n .wrote, append-assoc (take to out) (codeOf (n .outcome)) q) in
+      let long : length p ≡ end = length-append (take to out) (codeOf (n .outcome))
+      ∙ rw (length-take-le to out (omega arith), same) (omega arith) in
+      let whole : putMid to (end - to) out part ≡ p ++ q =
+      rw (post-is to end out (omega arith), n .wrote, append-assoc (take to out) (codeOf (n .outcome)) q) in
       let after : to + (end - to) ≡ end = omega arith in
       let more : drop end out ≡ drop end out₀ =
-      ap (λ (k : ℕ). drop k out) (sym after) ∙ sym (drop-drop (end - to) to out) ∙ ap (drop (end - to)) (f .tail) ∙ drop-drop (end - to) to out₀
+      ap (λ (k : ℕ). drop k out) (sym after) ∙ sym (drop-drop (end - to) to out) ∙ ap (drop (end - to)) (f .tail)
+      ∙ drop-drop (end - to) to out₀
       ∙ ap (λ (k : ℕ). drop k out₀) after
       in
       record {
@@ -274,7 +295,11 @@ module _ (st₀ : State) (script out₀ : List ℕ) (at to : ℕ) (st : State) (
         outcomes = f .outcomes ++ n .outcome ∷ [];
         fuel = s .0;
         enough = omega (arith, s .1, f .enough, n .on);
-        split = f .split ∙ rw (s .2, n .first (callsBy (s .0) script), append-snoc (f .before) (n .call) (callsBy (s .0) script at′));
+        split = f .split ∙ rw (
+          s .2,
+          n .first (callsBy (s .0) script),
+          append-snoc (f .before) (n .call) (callsBy (s .0) script at′),
+        );
         ran = λ cs os end′ x.
             rw (append-snoc (f .before) (n .call) cs, append-snoc (f .outcomes) (n .outcome) os)
             (f .ran (n .call ∷ cs) (n .outcome ∷ os) end′ (next (n .ran) x));
@@ -287,7 +312,8 @@ module _ (st₀ : State) (script out₀ : List ℕ) (at to : ℕ) (st : State) (
   pub stops : sizeOf (headAt script at) ≡ 0 → All st₀ script out₀ out
   stops z room-there =
       let s = calls-on (f .fuel) script at inside (f .enough) in
-      let none : callsWith (headAt script at) script at (callsBy (s .0) script) ≡ [] = no-call (headAt script at) script at (callsBy (s .0) script) z in
+      let none : callsWith (headAt script at) script at (callsBy (s .0) script) ≡ [] =
+      no-call (headAt script at) script at (callsBy (s .0) script) z in
       ended st₀ script out₀ at to st out f (f .split ∙ rw (s .2, none, append-nil (f .before)))
 
   -- there is no room for the call that is left
@@ -295,13 +321,15 @@ module _ (st₀ : State) (script out₀ : List ℕ) (at to : ℕ) (st : State) (
   unfolding room
   full x less inside-out room-there =
       let s = calls-on (f .fuel) script at inside (f .enough) in
-      let all : room (callsOf script) ≡ room (f .before) + room (callsWith (headAt script at) script at (callsBy (s .0) script)) =
+      let all : room (callsOf script)
+      ≡ room (f .before) + room (callsWith (headAt script at) script at (callsBy (s .0) script)) =
       ap room (f .split) ∙ room-append (f .before) (callsBy (f .fuel) script at) ∙ rw (s .2)
       in
       absurd (omega (arith, takes (headAt script at) script at (callsBy (s .0) script), f .count))
 
 -- nothing is left of the script
-pub finish : (st₀ : State) (script out₀ : List ℕ) (at to : ℕ) (st : State) (out : List ℕ) → Sofar st₀ script out₀ at to st out → length script ≤ at → All st₀ script out₀ out
+pub finish : (st₀ : State) (script out₀ : List ℕ) (at to : ℕ) (st : State) (out : List ℕ) →
+    Sofar st₀ script out₀ at to st out → length script ≤ at → All st₀ script out₀ out
 finish st₀ script out₀ at to st out f h room-there =
     ended st₀ script out₀ at to st out f (f .split ∙ rw (calls-end (f .fuel) script at h, append-nil (f .before)))
 
@@ -319,22 +347,28 @@ run-made a st script out part o h f enough =
     rw (p .wrote, t .outcomes, t .opening, drop-drop (room (callsOf script)) 17 out, append-assoc)
 
 -- and so of the part of out that is lent for the calls
-pub replays : (a : Answer) (st : State) (script out out′ part : List ℕ) (k : ℕ) → OpenPost (openingOf script) a st → 17 ≤ length out →
-    out′ ≡ code a ++ drop 17 out → length out′ ≤ 17 + k → All st script (midOf 17 k out′) part → Wrote script out (putMid 17 k out′ part)
+pub replays : (a : Answer) (st : State) (script out out′ part : List ℕ) (k : ℕ) → OpenPost (openingOf script) a st →
+    17 ≤ length out →
+    out′ ≡ code a ++ drop 17 out → length out′ ≤ 17 + k → All st script (midOf 17 k out′) part →
+    Wrote script out (putMid 17 k out′ part)
 replays a st script out out′ part k o h e g f =
     let rest : drop 17 out′ ≡ drop 17 out = ap (drop 17) e ∙ drop-at (code a) (drop 17 out) 17 (code-size a) in
     let front : take 17 out′ ≡ code a = ap (take 17) e ∙ take-at (code a) (drop 17 out) 17 (code-size a) in
     let size : length (drop 17 out′) ≡ length out′ - 17 = length-drop 17 out′ in
     let lent : midOf 17 k out′ ≡ drop 17 out = take-all k (drop 17 out′) (omega arith) ∙ rest in
-    let back : putMid 17 k out′ part ≡ code a ++ part = rw (drop-of-length-le (drop 17 out′) {i = k} (omega arith), append-nil part, front) in
+    let back : putMid 17 k out′ part ≡ code a ++ part =
+    rw (drop-of-length-le (drop 17 out′) {i = k} (omega arith), append-nil part, front) in
     rw back (run-made a st script out part o h (rw lent at f))
 
 -- THE PROMISE
-pub no-room : (script out : List ℕ) (b : Bool) → b ≡ leb (roomFor script) (length out) → b ≡ false → Replayed script out false out
+pub no-room : (script out : List ℕ) (b : Bool) → b ≡ leb (roomFor script) (length out) → b ≡ false →
+    Replayed script out false out
 no-room script out b e f = record { answer = sym f ∙ e; buffer = refl }
 
-pub kept-promise : (script out out′ : List ℕ) (b : Bool) → b ≡ leb (roomFor script) (length out) → b ≡ true → Wrote script out out′ → Replayed script out true out′
-kept-promise script out out′ b e f w = record { answer = sym f ∙ e; buffer = w (leb-true (roomFor script) (length out) (sym e ∙ f)) }
+pub kept-promise : (script out out′ : List ℕ) (b : Bool) → b ≡ leb (roomFor script) (length out) → b ≡ true →
+    Wrote script out out′ → Replayed script out true out′
+kept-promise script out out′ b e f w =
+    record { answer = sym f ∙ e; buffer = w (leb-true (roomFor script) (length out) (sym e ∙ f)) }
 
 pub answer-fits : (script out : List ℕ) (b : Bool) → b ≡ leb (roomFor script) (length out) → b ≡ true → 17 ≤ length out
 answer-fits script out b e f = let h = leb-true (roomFor script) (length out) (sym e ∙ f) in omega arith

@@ -1,10 +1,12 @@
--- What one call writes: an answer's 17 bytes, a filled buffer, a seal's bytes; and the call that a script has at a place.
+-- What one call writes: an answer's 17 bytes, a filled buffer, a seal's bytes; and the call
+-- that a script has at a place.
 use Prim.Native.Nat.{ℕ, _+_, _-_, _≤_, _<_}
 use native.Mathlib.Omega.{arith}
 use native.Mathlib.Numerals.{add-one}
 use mathlib.Core.Path.{_≡_, ap, _∙_}
 use mathlib.Core.List.{List, [], _∷_, _++_, append-nil}
-use lib.ListN.{length, take, drop, set, replicate, length-drop, length-replicate, replicate-append-replicate, drop-of-length-le}
+use lib.ListN.{length, take, drop, set, replicate, length-drop, length-replicate, replicate-append-replicate}
+use lib.ListN.{drop-of-length-le}
 use lib.Seq.{take-all, drop-at, length-take-le, take-suc-set}
 use borrow.Rule.Slice.PartMut.{midOf, postOf, putMid}
 use Rattle.rules.specs.declared.Answer.{Answer}
@@ -24,7 +26,8 @@ use Rattle.replay.specs.Script.{FedCapture, FedLuma, Replied, CallPost}
 
 -- an answer's three stores
 pub put-law : (out : List ℕ) (a : Answer) → 17 ≤ length out →
-    written 9 (bytesOf 8 (secondOf a)) (written 1 (bytesOf 8 (firstOf a)) (set out 0 (kindOf a))) ≡ code a ++ drop 17 out
+    written 9 (bytesOf 8 (secondOf a)) (written 1 (bytesOf 8 (firstOf a)) (set out 0 (kindOf a)))
+    ≡ code a ++ drop 17 out
 unfolding bytesOf written code
 put-law out a h =
     let k = kindOf a ∷ [] in
@@ -51,15 +54,18 @@ three-law out kind a b c h =
     ∙ rw (drop-of-length-le out {i = 25} (omega arith))
 
 -- one byte more is filled
-pub fill-law : (out : List ℕ) (i : ℕ) → i < length out → take i out ≡ replicate i 165 → take (i + 1) (set out i 165) ≡ replicate (i + 1) 165
-fill-law out i h e = ap (λ (n : ℕ). take n (set out i 165)) (add-one i) ∙ take-suc-set out i 165 h ∙ rw e (replicate-append-replicate i 1 165)
+pub fill-law : (out : List ℕ) (i : ℕ) → i < length out → take i out ≡ replicate i 165 →
+    take (i + 1) (set out i 165) ≡ replicate (i + 1) 165
+fill-law out i h e = ap (λ (n : ℕ). take n (set out i 165)) (add-one i) ∙ take-suc-set out i 165 h
+    ∙ rw e (replicate-append-replicate i 1 165)
 
 -- the part from 17 on
 part-size : (out : List ℕ) → 17 ≤ length out → length (midOf 17 (length out - 17) out) ≡ length out - 17
 part-size out h = length-take-le (length out - 17) (drop 17 out) (simp length-drop (omega arith))
 
 -- what stands from 17 on when a part was put there
-pub part-back : (out part : List ℕ) (k : ℕ) → 17 ≤ length out → length out ≤ 17 + k → drop 17 (putMid 17 k out part) ≡ part
+pub part-back : (out part : List ℕ) (k : ℕ) → 17 ≤ length out → length out ≤ 17 + k →
+    drop 17 (putMid 17 k out part) ≡ part
 part-back out part k h g =
     let size = length-drop 17 out in
     drop-at (take 17 out) (part ++ postOf 17 k out) 17 (length-take-le 17 out h)
@@ -87,7 +93,8 @@ sealed-law v out filled buffer out′ a m h f z p w lo hi =
 
 -- ---- feeds and questions
 
-pub after-capture : (capture : Arrays) (luma sums bins picture : List ℕ) (capture′ : Arrays) (script out′ : List ℕ) (at n from end : ℕ) (h : Head) → h ≡ Capture n → from ≡ at + 5 → end ≡ from + n →
+pub after-capture : (capture : Arrays) (luma sums bins picture : List ℕ) (capture′ : Arrays) (script out′ : List ℕ)
+    (at n from end : ℕ) (h : Head) → h ≡ Capture n → from ≡ at + 5 → end ≡ from + n →
     FedCapture capture (take (end - from) (drop from script)) capture′ out′ →
     CallPost
     (record { capture = capture; luma = luma; sums = sums; bins = bins; picture = picture })
@@ -109,7 +116,8 @@ after-capture capture luma sums bins picture capture′ script out′ at n from 
       on = omega arith;
     }
 
-pub after-luma : (capture : Arrays) (luma sums bins picture luma′ sums′ bins′ picture′ script out′ : List ℕ) (at n from end : ℕ) (h : Head) → h ≡ Luma n → from ≡ at + 5 → end ≡ from + n →
+pub after-luma : (capture : Arrays) (luma sums bins picture luma′ sums′ bins′ picture′ script out′ : List ℕ)
+    (at n from end : ℕ) (h : Head) → h ≡ Luma n → from ≡ at + 5 → end ≡ from + n →
     FedLuma luma sums bins picture (take (end - from) (drop from script)) luma′ sums′ bins′ picture′ out′ →
     CallPost
     (record { capture = capture; luma = luma; sums = sums; bins = bins; picture = picture })

@@ -1,4 +1,5 @@
--- What a script says, what its calls come to as bytes, and what `replay` promises: demand 3's equation about the whole list of calls.
+-- What a script says, what its calls come to as bytes, and what `replay` promises: demand 3's equation
+-- about the whole list of calls.
 use Prim.Native.Nat.{ℕ, zero, suc, _+_, _-_, _≤_, _<_}
 use mathlib.Core.Path.{_≡_}
 use mathlib.Core.List.{List, [], _∷_, _++_}
@@ -35,12 +36,20 @@ wordAt script at = pick (ltb (length script) (at + 4)) 0 (word32 script at)
 -- W, H, d, PID and the rule edition
 abbrev pub openingOf : List ℕ → Opening
 openingOf script =
-    record { width = wordAt script 0; height = wordAt script 4; time = wordAt script 8; pid = wordAt script 12; edition = wordAt script 16 }
+    record {
+      width = wordAt script 0;
+      height = wordAt script 4;
+      time = wordAt script 8;
+      pid = wordAt script 12;
+      edition = wordAt script 16;
+    }
 
--- the call that begins with the byte `kind` and the length n, where `left` bytes of the script are left, those five among them: S, C, L
+-- the call that begins with the byte `kind` and the length n, where `left` bytes of the script are left, those five
+-- among them: S, C, L
 unfoldable pub headBy : ℕ → ℕ → ℕ → Head
 headBy left kind n =
-    pick (ltb left 5) Stop (pick (eqb kind 83) (Seal n) (pick (ltb (left - 5) n) Stop (pick (eqb kind 67) (Capture n) (pick (eqb kind 76) (Luma n) Stop))))
+    pick (ltb left 5) Stop (pick (eqb kind 83) (Seal n)
+    (pick (ltb (left - 5) n) Stop (pick (eqb kind 67) (Capture n) (pick (eqb kind 76) (Luma n) Stop))))
 
 -- the call that begins with R and the words a and b, where `left` bytes of the script are left, those nine among them
 unfoldable pub passageBy : ℕ → ℕ → ℕ → Head
@@ -147,12 +156,15 @@ nextOf (Repeats a b) at = at + 9
 abbrev pub roomFor : List ℕ → ℕ
 roomFor script = 17 + room (callsOf script)
 
--- the opening's answer and all that the rules give for the whole list of the script's calls, and behind it out as it was
+-- the opening's answer and all that the rules give for the whole list of the script's calls,
+-- and behind it out as it was
 abbrev pub replayed : List ℕ → List ℕ → List ℕ
 replayed script out =
-    codes (fed (openAnswer (openingOf script)) ∷ expected (openingOf script) [] [] (callsOf script)) ++ drop (roomFor script) out
+    codes (fed (openAnswer (openingOf script)) ∷ expected (openingOf script) [] [] (callsOf script))
+    ++ drop (roomFor script) out
 
--- THE PROMISE: the answer says whether there is room; if there is, out is what the rules give, otherwise it stands as it was
+-- THE PROMISE: the answer says whether there is room; if there is, out is what the rules give,
+-- otherwise it stands as it was
 pub record Replayed (script out : List ℕ) (r : Bool) (out′ : List ℕ) : Type 0 where
   pub answer : r ≡ leb (roomFor script) (length out)
   pub buffer : out′ ≡ pick r (replayed script out) out
@@ -210,7 +222,8 @@ pub record Called (script : List ℕ) (at : ℕ) (h : Head) (n : ℕ) : Type 0 w
   pub some : 0 < n
 
 -- the call that the script has there, what it came to, and where the next one stands
-pub record CallPost (st : State) (script : List ℕ) (at : ℕ) (h : Head) (next : ℕ) (st′ : State) (out′ : List ℕ) : Type 0 where
+pub record CallPost (st : State) (script : List ℕ) (at : ℕ) (h : Head) (next : ℕ) (st′ : State)
+    (out′ : List ℕ) : Type 0 where
   pub call : Call
   pub outcome : Outcome
   pub first : (more : ℕ → List Call) → callsWith h script at more ≡ call ∷ more next

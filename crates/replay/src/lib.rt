@@ -38,7 +38,17 @@ fn call_capture(
     out: &mut [u8],
 )
     requires { ⌜ length (now out) ≡ 17 ⌝ }
-    ensures { λ _. ⌜ FedCapture (record { walk = now (walk .entry); kept = now (kept .entry); numbers = now (numbers .entry); table = now (table .entry) }) (now (piece .entry)) (record { walk = now (walk .exit); kept = now (kept .exit); numbers = now (numbers .exit); table = now (table .exit) }) (now (out .exit)) ⌝ }
+    ensures { λ _. ⌜ FedCapture (record {
+      walk = now (walk .entry);
+      kept = now (kept .entry);
+      numbers = now (numbers .entry);
+      table = now (table .entry);
+    }) (now (piece .entry)) (record {
+      walk = now (walk .exit);
+      kept = now (kept .exit);
+      numbers = now (numbers .exit);
+      table = now (table .exit);
+    }) (now (out .exit)) ⌝ }
 {
     let a = sample::feed_capture(walk, kept, numbers, table, piece);
     put(out, a);
@@ -53,7 +63,9 @@ fn call_luma(
     out: &mut [u8],
 )
     requires { ⌜ length (now out) ≡ 17 ⌝ }
-    ensures { λ _. ⌜ FedLuma (now (luma .entry)) (now (sums .entry)) (now (bins .entry)) (now (picture .entry)) (now (piece .entry)) (now (luma .exit)) (now (sums .exit)) (now (bins .exit)) (now (picture .exit)) (now (out .exit)) ⌝ }
+    ensures { λ _. ⌜ FedLuma (now (luma .entry)) (now (sums .entry)) (now (bins .entry)) (now (picture .entry))
+        (now (piece .entry)) (now (luma .exit)) (now (sums .exit)) (now (bins .exit)) (now (picture .exit))
+        (now (out .exit)) ⌝ }
 {
     let a = sample::feed_luma(luma, sums, bins, picture, piece);
     put(out, a);
@@ -68,7 +80,15 @@ fn call_seal(
     out: &mut [u8],
 )
     requires { ⌜ 17 ≤ length (now out) ⌝ }
-    ensures { λ _. ⌜ Replied (record { capture = record { walk = now (walk .entry); kept = now (kept .entry); numbers = now (numbers .entry); table = now (table .entry) }; luma = now (luma .entry) })
+    ensures { λ _. ⌜ Replied (record {
+      capture = record {
+        walk = now (walk .entry);
+        kept = now (kept .entry);
+        numbers = now (numbers .entry);
+        table = now (table .entry);
+      };
+      luma = now (luma .entry);
+    })
         (seal (replicate (length (now (out .entry)) - 17) 0xA5)) (now (out .exit)) ⌝ }
 {
     fill(&mut out[17..]);
@@ -108,7 +128,29 @@ fn call(
     out: &mut [u8],
 ) -> usize
     requires { ⌜ Called (now script) at h (length (now out)) ⌝ }
-    ensures { λ r. ⌜ CallPost (record { capture = record { walk = now (walk .entry); kept = now (kept .entry); numbers = now (numbers .entry); table = now (table .entry) }; luma = now (luma .entry); sums = now (sums .entry); bins = now (bins .entry); picture = now (picture .entry) }) (now (script .entry)) at h r (record { capture = record { walk = now (walk .exit); kept = now (kept .exit); numbers = now (numbers .exit); table = now (table .exit) }; luma = now (luma .exit); sums = now (sums .exit); bins = now (bins .exit); picture = now (picture .exit) }) (now (out .exit)) ⌝ }
+    ensures { λ r. ⌜ CallPost (record {
+      capture = record {
+        walk = now (walk .entry);
+        kept = now (kept .entry);
+        numbers = now (numbers .entry);
+        table = now (table .entry);
+      };
+      luma = now (luma .entry);
+      sums = now (sums .entry);
+      bins = now (bins .entry);
+      picture = now (picture .entry);
+    }) (now (script .entry)) at h r (record {
+      capture = record {
+        walk = now (walk .exit);
+        kept = now (kept .exit);
+        numbers = now (numbers .exit);
+        table = now (table .exit);
+      };
+      luma = now (luma .exit);
+      sums = now (sums .exit);
+      bins = now (bins .exit);
+      picture = now (picture .exit);
+    }) (now (out .exit)) ⌝ }
 {
     let from = at + 5;
     match h {
@@ -151,7 +193,18 @@ fn all(
     script: &[u8],
     out: &mut [u8],
 )
-    ensures { λ _. ⌜ All (record { capture = record { walk = now (walk .entry); kept = now (kept .entry); numbers = now (numbers .entry); table = now (table .entry) }; luma = now (luma .entry); sums = now (sums .entry); bins = now (bins .entry); picture = now (picture .entry) }) (now (script .entry)) (now (out .entry)) (now (out .exit)) ⌝ }
+    ensures { λ _. ⌜ All (record {
+      capture = record {
+        walk = now (walk .entry);
+        kept = now (kept .entry);
+        numbers = now (numbers .entry);
+        table = now (table .entry);
+      };
+      luma = now (luma .entry);
+      sums = now (sums .entry);
+      bins = now (bins .entry);
+      picture = now (picture .entry);
+    }) (now (script .entry)) (now (out .entry)) (now (out .exit)) ⌝ }
 {
     let mut at: usize = 20;
     let mut to: usize = 0;
@@ -183,8 +236,8 @@ fn all(
     }
 }
 
-// Opens as the script says, and makes its calls: out begins with the opening's answer and every call's outcome. Where there is no room for all of them the answer
-// is false, and out stands as it was.
+// Opens as the script says, and makes its calls: out begins with the opening's answer and every call's outcome. Where
+// there is no room for all of them the answer is false, and out stands as it was.
 pub fn replay(script: &[u8], out: &mut [u8]) -> bool
     ensures { λ r. ⌜ Replayed (now (script .entry)) (now (out .entry)) r (now (out .exit)) ⌝ }
 {

@@ -1,4 +1,5 @@
-// Runs a script of calls from standard input, and prints a line for each: what a call answered and, of a seal, its whole buffer afterwards.
+// Runs a script of calls from standard input, and prints a line for each: what a call answered and, of a seal, its
+// whole buffer afterwards.
 //
 // The script: five 32-bit little-endian words W, H, d, PID and the rule edition, then calls. `C` or `L`, a 32-bit
 // length and as many bytes: a feed of that side. `S` and a 32-bit length: a seal into a buffer of so many bytes, each
@@ -179,7 +180,8 @@ fn run_call(
     }
 }
 
-// A proved loop has to end, and nothing says that a script does: the turns are counted down from a number that no run uses up.
+// A proved loop has to end, and nothing says that a script does: the turns are counted down from a
+// number that no run uses up.
 fn main() {
     let mut walk = [0u64; capture_walk::WALK_WORDS];
     let mut kept = [0u8; capture_walk::COLLECTED_BYTES];

@@ -52,5 +52,6 @@ busiest =
 -- the theorem: every entry's rule gives what document 02 says
 pub worked : map (λ (c : Case). c .rule) busiest ≡ map (λ (c : Case). c .paper) busiest
 unfolding busiest table endToEnd goodSize goodTime noPicture over reachingFrom leastBetween mostScenes mostFault
-    mostAnswer tone shade busiestLuma busiestFault busiestPart busiestAnswer busiestPiece allDigits withDigits argumentOf
+    mostAnswer tone shade busiestLuma busiestFault busiestPart busiestAnswer busiestPiece allDigits
+    withDigits argumentOf
 worked = refl

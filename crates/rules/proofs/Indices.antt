@@ -14,7 +14,8 @@ use Rattle.rules.specs.Frames.{restUpTo, frames, rest, behindHeader}
 use Rattle.rules.specs.Packets.{ipLength, udpLength, carries, packetsFrom, packetsIn, packetsOf, packets, shown}
 use Rattle.rules.specs.Packets.{whole, startsCell, damageMark, condition, identifier, isWanted, startMark}
 use Rattle.rules.specs.Packets.{counter, spliceMark, wantedOf}
-use Rattle.rules.specs.Units.{gapLoss, setApart, lossBetween, arrivalsAfter, arrivals, groups, cellsOf, leastTime}
+use Rattle.rules.specs.Units.{gapLoss, setApart, lossBetween, arrivalsAfter, arrivals, groups, cellsOf}
+use Rattle.rules.specs.Units.{leastTime}
 use Rattle.rules.specs.Units.{unitOf, unitsOf}
 use Rattle.rules.specs.Units.{beginnings}
 use Rattle.rules.specs.Capture.{wholeFrames, unfinished, allFrames, wholeWanted, shownWanted, units, showing}
@@ -78,5 +79,14 @@ indices =
 
 -- the theorem: every entry's rule gives what document 02 says
 pub answered : map (λ (c : Case). c .rule) indices ≡ map (λ (c : Case). c .paper) indices
-unfolding cut run oneFrame picture indices openAnswer word32 network16 bytesOf total greatestOf leastOf count only table parts endToEnd isEdition heedsSplices knowsDamage goodSize goodTime goodPid openingFault levelUpTo level side area columns lines seconds microseconds storedLength frameTime body frameSize framesUpTo restUpTo frames rest behindHeader ipLength udpLength carries packetsFrom packetsIn packetsOf packets shown whole startsCell damageMark condition identifier isWanted startMark counter spliceMark wantedOf gapLoss setApart lossBetween arrivalsAfter arrivals groups cellsOf leastTime unitOf unitsOf beginnings wholeFrames unfinished allFrames wholeWanted shownWanted units showing tooLong wrongMagic wrongLink wrongFrameHeader wrongFrame tooManyUnits captureFault pictureSize pictureCount pictures lumaFault rows band blockSum pixelIn pixelLine pixels same repeatsAfter repeats icOf ipOf valueOf indexOf reduced unrepeated indexFrom index noPacket noPicture captureAnswer lumaAnswer indexFault indexAnswer expected add mul div ofInt toBits
+unfolding cut run oneFrame picture indices openAnswer word32 network16 bytesOf total greatestOf leastOf count only
+    table parts endToEnd isEdition heedsSplices knowsDamage goodSize goodTime goodPid openingFault levelUpTo level side
+    area columns lines seconds microseconds storedLength frameTime body frameSize framesUpTo restUpTo frames rest
+    behindHeader ipLength udpLength carries packetsFrom packetsIn packetsOf packets shown whole startsCell damageMark
+    condition identifier isWanted startMark counter spliceMark wantedOf gapLoss setApart lossBetween arrivalsAfter
+    arrivals groups cellsOf leastTime unitOf unitsOf beginnings wholeFrames unfinished allFrames wholeWanted
+    shownWanted units showing tooLong wrongMagic wrongLink wrongFrameHeader wrongFrame tooManyUnits captureFault
+    pictureSize pictureCount pictures lumaFault rows band blockSum pixelIn pixelLine pixels same repeatsAfter repeats
+    icOf ipOf valueOf indexOf reduced unrepeated indexFrom index noPacket noPicture captureAnswer lumaAnswer indexFault
+    indexAnswer expected add mul div ofInt toBits
 answered = refl

@@ -67,5 +67,8 @@ passages =
 
 -- the theorem: every entry's rule gives what document 02 says
 pub counted : map (λ (c : Case). c .rule) passages ≡ map (λ (c : Case). c .paper) passages
-unfolding passages film run picture openAnswer total count table parts endToEnd isEdition goodSize goodTime goodPid openingFault levelUpTo level side area columns lines pictureSize pictureCount pictures lumaFault rows band blockSum pixelIn pixelLine pixels same repeatsAfter repeats reduced lumaAnswer repeatedIn passageFault repeatsFault repeatsAnswer expected
+unfolding passages film run picture openAnswer total count table parts endToEnd isEdition goodSize goodTime goodPid
+    openingFault levelUpTo level side area columns lines pictureSize pictureCount pictures lumaFault rows band blockSum
+    pixelIn pixelLine pixels same repeatsAfter repeats reduced lumaAnswer repeatedIn passageFault repeatsFault
+    repeatsAnswer expected
 counted = refl

@@ -1,5 +1,5 @@
--- Small whole samples, through every rule from the bytes to the answers: the example of document 01's `show`, a scene cut, a loss across a
--- unit's start, and the small input of each refusal. Each is a theorem that the checker computes.
+-- Small whole samples, through every rule from the bytes to the answers: the example of document 01's `show`, a scene
+-- cut, a loss across a unit's start, and the small input of each refusal. Each is a theorem that the checker computes.
 use Prim.Native.Nat.{ℕ, _+_, _*_, _/_, _%_}
 use native.Mathlib.Omega.{arith}
 use borrow.Author.Tests.{lt-ltb}
@@ -13,26 +13,39 @@ use Rattle.rules.specs.declared.Answer.the-variants.{Done, Refused}
 use Rattle.rules.specs.declared.IndexAnswer.{IndexAnswer}
 use Rattle.rules.specs.declared.IndexAnswer.the-variants as of-index
 use Rattle.rules.specs.Refusals.{Fault, none, fault}
-use Rattle.rules.specs.Bytes.{word32, word64, network16, bytesOf, total, greatestOf, leastOf, count, only, table, parts, endToEnd}
+use Rattle.rules.specs.Bytes.{word32, word64, network16, bytesOf, total, greatestOf, leastOf, count, only, table}
+use Rattle.rules.specs.Bytes.{parts, endToEnd}
 use Rattle.rules.specs.Editions.{isEdition, heedsSplices, roundsToNearest, knowsDamage}
-use Rattle.rules.specs.Opening.{goodSize, goodTime, goodPid, openingFault, openAnswer, levelUpTo, level, side, area, columns, lines}
-use Rattle.rules.specs.Frames.{seconds, microseconds, storedLength, frameTime, body, frameSize, framesUpTo, restUpTo, frames, rest, behindHeader}
+use Rattle.rules.specs.Opening.{goodSize, goodTime, goodPid, openingFault, openAnswer, levelUpTo, level, side}
+use Rattle.rules.specs.Opening.{area, columns, lines}
+use Rattle.rules.specs.Frames.{seconds, microseconds, storedLength, frameTime, body, frameSize, framesUpTo}
+use Rattle.rules.specs.Frames.{restUpTo, frames, rest, behindHeader}
 use Rattle.rules.specs.Packets.{Packet, ipLength, udpLength, carries, skipped, packetsFrom, packetsIn, packetsOf}
 use Rattle.rules.specs.Packets.{packets, shown, whole, startsCell, damageMark, condition, identifier, isWanted}
 use Rattle.rules.specs.Packets.{startMark, counter, spliceMark, wantedOf, badOf}
 use Rattle.rules.specs.Units.{gapLoss, setApart, lossBetween, arrivalsAfter, arrivals, beforeUnits, groups}
 use Rattle.rules.specs.Units.{cellsOf, leastTime, unitOf, unitsOf, beginnings}
-use Rattle.rules.specs.Capture.{wholeFrames, unfinished, allFrames, wholeWanted, shownWanted, units, frameCount, skippedCount, badCount, showing, tooLong, wrongMagic, wrongLink, wrongFrameHeader, wrongFrame, tooManyUnits, beginsAt, captureFault, captureInside}
-use Rattle.rules.specs.Pictures.{pictureSize, pictureCount, pictures, lumaFault, rows, band, blockSum, pixelIn, pixel, pixelLine, pixels}
+use Rattle.rules.specs.Capture.{wholeFrames, unfinished, allFrames, wholeWanted, shownWanted, units, frameCount}
+use Rattle.rules.specs.Capture.{skippedCount, badCount, showing, tooLong, wrongMagic, wrongLink}
+use Rattle.rules.specs.Capture.{wrongFrameHeader, wrongFrame, tooManyUnits, beginsAt, captureFault}
+use Rattle.rules.specs.Capture.{captureInside}
+use Rattle.rules.specs.Pictures.{pictureSize, pictureCount, pictures, lumaFault, rows, band, blockSum, pixelIn}
+use Rattle.rules.specs.Pictures.{pixel, pixelLine, pixels}
 use Rattle.rules.specs.Histograms.{third, tileAt, bin, inTileFrom, inTile, inBin, histogram, histograms}
-use Rattle.rules.specs.Cuts.{binsApart, perMillion, tileDifference, tileDifferences, insert, sorted, fifth, difference, leastOfSix, cutScore, cutScores}
-use Rattle.rules.specs.Scenes.{startsScene, isStart, startsFrom, starts, longestFrom, sceneOf, scenesAt, scenesOf}
+use Rattle.rules.specs.Cuts.{binsApart, perMillion, tileDifference, tileDifferences, insert, sorted, fifth}
+use Rattle.rules.specs.Cuts.{difference, leastOfSix, cutScore, cutScores}
+use Rattle.rules.specs.Scenes.{startsScene, isStart, startsFrom, starts, longestFrom, sceneOf, scenesAt}
+use Rattle.rules.specs.Scenes.{scenesOf}
 use Rattle.rules.specs.Changes.{same, squares, spread, rootFrom, root, nearest, changeFrom, change}
 use Rattle.rules.specs.Changes.{repeatsAfter, changesAfter, repeats, changes}
 use Rattle.rules.specs.Index.{icOf, ipOf, valueOf, indexOf, indexBits}
 use Rattle.rules.specs.Record.{le32, recordLength, sceneOffset, headerBytes, unitBytes, sceneBytes, recordBytes}
-use Rattle.rules.specs.Reading.{scenePlace, unitPlace, allowedHeader, allowedUnit, allowedUnits, allowedScene, allowedScenes, allowedRows, allowed, readingFault, rowFault, unitFault, sceneFault}
-use Rattle.rules.specs.Seal.{reduced, scenesIn, scenes, unrepeated, indexFrom, index, header, sealed, sealedLength, captureUnfinished, noPacket, lumaUnfinished, noPicture, noRoom, sealFault, captureAnswer, lumaAnswer, sealAnswer, over, sealedBuffer}
+use Rattle.rules.specs.Reading.{scenePlace, unitPlace, allowedHeader, allowedUnit, allowedUnits, allowedScene}
+use Rattle.rules.specs.Reading.{allowedScenes, allowedRows, allowed, readingFault, rowFault, unitFault}
+use Rattle.rules.specs.Reading.{sceneFault}
+use Rattle.rules.specs.Seal.{reduced, scenesIn, scenes, unrepeated, indexFrom, index, header, sealed}
+use Rattle.rules.specs.Seal.{sealedLength, captureUnfinished, noPacket, lumaUnfinished, noPicture, noRoom}
+use Rattle.rules.specs.Seal.{sealFault, captureAnswer, lumaAnswer, sealAnswer, over, sealedBuffer}
 use Rattle.rules.specs.Calls.{Call, feedCapture, feedLuma, ask, seal, Outcome, fed, replied, Reply, sealedInto}
 use Rattle.rules.specs.Calls.{indexed, counted, expected}
 use Rattle.rules.proofs.Worked.{Case}
@@ -75,11 +88,13 @@ openedBy e w h d p = record { width = w; height = h; time = d; pid = p; edition 
 abbrev pub opened : ℕ → ℕ → ℕ → ℕ → Opening
 opened w h d p = openedBy 1 w h d p
 
--- what is lost in all, under an edition, of packets with the counters 3, 9 and 11, the second with an indicator in m bytes
+-- what is lost in all, under an edition, of packets with the counters 3, 9 and 11, the second
+-- with an indicator in m bytes
 abbrev lostBy : ℕ → ℕ → List ℕ
 lostBy e m =
     map (λ u. u .lost)
-    (units (openedBy e 30 30 40000 256) (goodHeader ++ frameWith 0 0 3 (packetOf 256 0x40 3 ++ splicedOf 256 9 m ++ packetOf 256 0 11)))
+    (units (openedBy e 30 30 40000 256)
+    (goodHeader ++ frameWith 0 0 3 (packetOf 256 0x40 3 ++ splicedOf 256 9 m ++ packetOf 256 0 11)))
 
 -- the scenes' sums of q, under an edition, of two pictures of 16 by 32: grey, then four pixels higher and four lower
 abbrev changedBy : ℕ → List ℕ
@@ -90,7 +105,8 @@ changedBy e =
 unfoldable pub words : List ℕ → List ℕ
 words ns = endToEnd (map le32 ns)
 
--- ---- what calls come to, as numbers: 0 and the length, or a refusal's number and place; behind a seal's the whole buffer
+-- ---- what calls come to, as numbers: 0 and the length, or a refusal's number and place;
+-- behind a seal's the whole buffer
 
 abbrev pub told : Answer → List ℕ
 told (Done n) = 0 ∷ n ∷ []
@@ -166,7 +182,8 @@ samples =
           ++ words (0 ∷ 3 ∷ 2 ∷ 2 ∷ 0 ∷ 0 ∷ 0 ∷ 0 ∷ [])
           ++ words (3 ∷ 3 ∷ 2 ∷ 2 ∷ 1000000 ∷ 1000000 ∷ 0 ∷ 0 ∷ []);
     }
-    -- a loss across a unit's start: counters 3, then 5 with a start mark, then 6; the one lost is the second unit's. A bad and a foreign packet stand between
+    -- a loss across a unit's start: counters 3, then 5 with a start mark, then 6; the one lost is the second unit's. A
+    -- bad and a foreign packet stand between
     ∷ record {
       rule =
           endToEnd
@@ -178,13 +195,20 @@ samples =
       paper = words (1000000 ∷ 0 ∷ 1000000 ∷ 0 ∷ 184 ∷ 1 ∷ 0 ∷ 0 ∷ []) ++ words (7 ∷ 0 ∷ 7 ∷ 0 ∷ 368 ∷ 2 ∷ 1 ∷ 0 ∷ []);
     }
     -- a fragment is passed over; a datagram marked as not to be fragmented carries
-    ∷ record { rule = skippedCount (goodHeader ++ set (frameWith 0 0 1 (packetOf 256 0 0)) 36 0x20) ∷ skippedCount (goodHeader ++ set (frameWith 0 0 1 (packetOf 256 0 0)) 36 0x40) ∷ []; paper = 1 ∷ 0 ∷ [] }
+    ∷ record {
+      rule = skippedCount (goodHeader ++ set (frameWith 0 0 1 (packetOf 256 0 0)) 36 0x20)
+          ∷ skippedCount (goodHeader ++ set (frameWith 0 0 1 (packetOf 256 0 0)) 36 0x40) ∷ [];
+      paper = 1 ∷ 0 ∷ [];
+    }
     -- 1: 640 by 29. 2: 9,999. 3: 8192. Feeds and seals repeat the opening's number
     ∷ record {
       rule = run (opened 640 29 9999 8192) (feedCapture (0 ∷ []) ∷ feedLuma [] ∷ ask (seal (7 ∷ [])) ∷ []);
       paper = 1 ∷ 0 ∷ 1 ∷ 0 ∷ 1 ∷ 0 ∷ 1 ∷ 0 ∷ 7 ∷ [];
     }
-    ∷ record { rule = run (opened 640 30 9999 8192) [] ++ run (opened 640 480 40000 8192) []; paper = 1 ∷ 0 ∷ 3 ∷ 0 ∷ [] }
+    ∷ record {
+      rule = run (opened 640 30 9999 8192) [] ++ run (opened 640 480 40000 8192) [];
+      paper = 1 ∷ 0 ∷ 3 ∷ 0 ∷ [];
+    }
     ∷ record { rule = run (opened 640 480 9999 8192) []; paper = 2 ∷ 0 ∷ [] }
     -- 20: editions 0 and 5, behind 3; 1 to 4 pass
     ∷ record {
@@ -224,17 +248,25 @@ samples =
     }
     -- 11: an empty capture; a header that is cut off. 12: a header alone; a packet of another identifier
     ∷ record { rule = sealing small [] [] 0 ++ sealing small (0xD4 ∷ []) [] 0; paper = 11 ∷ 0 ∷ 11 ∷ 1 ∷ [] }
-    ∷ record { rule = sealing small goodHeader [] 0 ++ sealing small (goodHeader ++ frameWith 0 0 1 (packetOf 255 0x40 0)) [] 0; paper = 12 ∷ 0 ∷ 12 ∷ 0 ∷ [] }
+    ∷ record {
+      rule = sealing small goodHeader [] 0 ++ sealing small (goodHeader ++ frameWith 0 0 1 (packetOf 255 0x40 0)) [] 0;
+      paper = 12 ∷ 0 ∷ 12 ∷ 0 ∷ [];
+    }
     -- 13: one byte. 14: empty luma. 15: 127 for 128
     ∷ record { rule = sealing small oneFrame (0 ∷ []) 0 ++ sealing small oneFrame [] 0; paper = 13 ∷ 1 ∷ 14 ∷ 0 ∷ [] }
-    ∷ record { rule = sealing small oneFrame (picture 0) 127 ++ sealing small oneFrame (picture 0) 128; paper = 15 ∷ 128 ∷ 0 ∷ 128 ∷ [] }
+    ∷ record {
+      rule = sealing small oneFrame (picture 0) 127 ++ sealing small oneFrame (picture 0) 128;
+      paper = 15 ∷ 128 ∷ 0 ∷ 128 ∷ [];
+    }
     -- 16: 63 bytes. 17: edition 0. 18: a row's word 28 is 1. 19: row 1 of 1
     ∷ record {
-      rule = toldFault (readingFault (replicate 63 1)) ++ toldFault (readingFault (set showRecord 0 0)) ++ toldFault (readingFault (set showRecord 92 1));
+      rule = toldFault (readingFault (replicate 63 1)) ++ toldFault (readingFault (set showRecord 0 0))
+          ++ toldFault (readingFault (set showRecord 92 1));
       paper = 16 ∷ 0 ∷ 17 ∷ 0 ∷ 18 ∷ 0 ∷ [];
     }
     ∷ record {
-      rule = toldFault (unitFault showRecord 0) ++ toldFault (unitFault showRecord 1) ++ toldFault (sceneFault showRecord 1);
+      rule = toldFault (unitFault showRecord 0) ++ toldFault (unitFault showRecord 1)
+          ++ toldFault (sceneFault showRecord 1);
       paper = 0 ∷ 0 ∷ 19 ∷ 0 ∷ 19 ∷ 0 ∷ [];
     }
     ∷ []
@@ -260,7 +292,8 @@ unfolding words run marks oneFrame picture showRecord sealing feeding samples op
     captureAnswer lumaAnswer sealAnswer over sealedBuffer expected add mul div ofInt toBits
 sampled = refl
 
--- 4 and 10, whose small inputs are too long to be written out: by their length. One byte past 268,435,456, and 751 pictures
+-- 4 and 10, whose small inputs are too long to be written out: by their length. One byte past
+-- 268,435,456, and 751 pictures
 pub too-long : (capture : List ℕ) → length capture ≡ 268435457 → tooLong capture ≡ fault 4 268435456
 unfolding tooLong showing
 too-long capture h = rw (lt-ltb 268435456 (length capture) (omega arith))

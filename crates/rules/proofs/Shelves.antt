@@ -72,7 +72,8 @@ shelves =
     ∷ record { rule = taken (partAnswer (two 272 16 144) 2); paper = 19 ∷ 0 ∷ [] }
     -- records of editions 1 to 4 together
     ∷ record {
-      rule = opened (shelfAnswer (words (4 ∷ 536 ∷ 24 ∷ 152 ∷ 280 ∷ 408 ∷ []) ++ one 1 1 ++ one 2 2 ++ one 3 4 ++ one 4 8));
+      rule = opened
+          (shelfAnswer (words (4 ∷ 536 ∷ 24 ∷ 152 ∷ 280 ∷ 408 ∷ []) ++ one 1 1 ++ one 2 2 ++ one 3 4 ++ one 4 8));
       paper = 0 ∷ 4 ∷ 15 ∷ [];
     }
     -- all units of a record count
@@ -99,5 +100,9 @@ shelves =
 
 -- the theorem: every entry's rule gives what document 02 says
 pub shelved : map (λ (c : Case). c .rule) shelves ≡ map (λ (c : Case). c .paper) shelves
-unfolding shelves opened taken words unit scene one pair two isEdition knowsDamage word32 word64 bytesOf total table endToEnd goodSize goodTime goodPid recordLength sceneOffset headerOf unitPlace unitAt readingFault rowFault unitFault allowedHeader allowedUnit allowedUnits allowedScene allowedScenes allowedRows allowed headerAnswer unitAnswer edge rising laidOut part records recordLost shelfLost firstRefused shelfFault partFault shelfAnswer partAnswer offsetsFrom headBytes shelfOf
+unfolding shelves opened taken words unit scene one pair two isEdition knowsDamage word32 word64 bytesOf total table
+    endToEnd goodSize goodTime goodPid recordLength sceneOffset headerOf unitPlace unitAt readingFault rowFault
+    unitFault allowedHeader allowedUnit allowedUnits allowedScene allowedScenes allowedRows allowed headerAnswer
+    unitAnswer edge rising laidOut part records recordLost shelfLost firstRefused shelfFault partFault shelfAnswer
+    partAnswer offsetsFrom headBytes shelfOf
 shelved = refl

@@ -83,8 +83,8 @@ surveys =
       rule = survey (ends ++ frameHeader 0 1000000 65536) ++ survey (ends ++ frameHeader 0 999999 65536);
       paper = 7 ∷ 653 ∷ 8 ∷ 657 ∷ [];
     }
-    -- all identifiers, of which the last wins, in a list of calls: a question between the pieces changes nothing, and a
-    -- refused feed ends it
+    -- all identifiers, of which the last wins, in a list of calls: a question between the pieces changes nothing, and
+    -- a refused feed ends it
     ∷ record {
       rule =
           endToEnd
@@ -116,7 +116,8 @@ damagedSurveys =
     ∷ []
 
 pub surveyed-damaged : map (λ (c : Case). c .rule) damagedSurveys ≡ map (λ (c : Case). c .paper) damagedSurveys
-unfolding damagedSurveys among survey onlyBad ends passed word32 network16 bytesOf count only endToEnd seconds microseconds
+unfolding damagedSurveys among survey onlyBad ends passed word32 network16 bytesOf count only endToEnd seconds
+    microseconds
     storedLength frameTime body frameSize framesUpTo restUpTo frames rest behindHeader ipLength udpLength carries
     packetsFrom packetsIn packetsOf packets whole startsCell damageMark condition identifier wholeFrames unfinished
     allFrames showing tooLong

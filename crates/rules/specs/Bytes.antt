@@ -1,4 +1,5 @@
--- Words for what every chapter needs: a choice, numbers in bytes, sums and lists. A byte string is a list of numbers; a byte that is not there reads as 0.
+-- Words for what every chapter needs: a choice, numbers in bytes, sums and lists. A byte string is a list of numbers;
+-- a byte that is not there reads as 0.
 use Prim.Native.Nat.{ℕ, zero, suc, _+_, _-_, _*_, _/_, _%_, _<_}
 use mathlib.Core.List.{List, [], _∷_, _++_}
 use mathlib.Core.Bool.{Bool, true, false, _&&_}

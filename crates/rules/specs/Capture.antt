@@ -24,7 +24,8 @@ unfinished capture = rest (behindHeader capture)
 unfoldable pub allFrames : List ℕ → List (List ℕ)
 allFrames capture = wholeFrames capture ++ unfinished capture ∷ []
 
--- the packets of PID: those that are whole, which units are made of, and those that show what they are, by which refusal 9 stands already
+-- the packets of PID: those that are whole, which units are made of, and those that show what they are, by which
+-- refusal 9 stands already
 unfoldable pub wholeWanted : Opening → List ℕ → List Packet
 wholeWanted o capture = wantedOf o (whole (packets 24 (allFrames capture)))
 
@@ -68,16 +69,19 @@ tooLong capture = showing (length capture) 4 268435456 true
 -- 5: the first four bytes are not D4 C3 B2 A1
 unfoldable pub wrongMagic : List ℕ → Fault
 wrongMagic capture =
-    showing (length capture) 5 3 (not (eqb (byte capture 0) 0xD4 && eqb (byte capture 1) 0xC3 && eqb (byte capture 2) 0xB2 && eqb (byte capture 3) 0xA1))
+    showing (length capture) 5 3 (not (eqb (byte capture 0) 0xD4 && eqb (byte capture 1) 0xC3
+    && eqb (byte capture 2) 0xB2 && eqb (byte capture 3) 0xA1))
 
 -- 6: the link type is not 1
 unfoldable pub wrongLink : List ℕ → Fault
 wrongLink capture = showing (length capture) 6 23 (not (eqb (word32 capture 20) 1))
 
--- 7, 8: microseconds above 999,999, L above 65,535; of the frame f that begins at the offset `place` of a capture of `size` bytes
+-- 7, 8: microseconds above 999,999, L above 65,535; of the frame f that begins at the offset `place`
+-- of a capture of `size` bytes
 unfoldable pub wrongFrameHeader : ℕ → ℕ → List ℕ → Fault
 wrongFrameHeader size place f =
-    earlier (showing size 7 (place + 7) (ltb 999999 (microseconds f))) (showing size 8 (place + 11) (ltb 65535 (storedLength f)))
+    earlier (showing size 7 (place + 7) (ltb 999999 (microseconds f)))
+    (showing size 8 (place + 11) (ltb 65535 (storedLength f)))
 
 unfoldable pub wrongFrame : ℕ → ℕ → List (List ℕ) → Fault
 wrongFrame size place [] = none

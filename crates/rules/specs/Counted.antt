@@ -11,7 +11,8 @@ use Rattle.rules.specs.Opening.{openingFault, columns, lines, pixelCount
 use Rattle.rules.specs.Pictures.{pictureSize}
 use Rattle.rules.specs.Histograms.{tileAt, bin, histograms}
 
--- picture i is whole: the opening is not refused, i is one of 0 to 749, and its W × H bytes, from i × W × H on, are among the joined bytes
+-- picture i is whole: the opening is not refused, i is one of 0 to 749, and its W × H bytes, from i × W × H on, are
+-- among the joined bytes
 pub record Whole (o : Opening) (luma : List ℕ) (i : ℕ) : Type 0 where
   pub opened : openingFault o ≡ none
   pub few : i < 750
@@ -24,7 +25,8 @@ hits w h t b i v = pick (eqb (tileAt w h i) t) (pick (eqb (bin v) b) 1 0) 0
 -- bin b of tile t over the pixels other than the one at place j
 abbrev pub otherBin : Opening → ℕ → ℕ → ℕ → List ℕ → ℕ
 otherBin o t b j px =
-    tally (hits (columns o) (lines o) t b) 0 (take j px) + tally (hits (columns o) (lines o) t b) (suc j) (drop (suc j) px)
+    tally (hits (columns o) (lines o) t b) 0 (take j px)
+    + tally (hits (columns o) (lines o) t b) (suc j) (drop (suc j) px)
 
 -- the pixel at place j adds one to one bin of one tile's histogram and nothing to any other
 pub record Adds (o : Opening) (px : List ℕ) (j : ℕ) : Type 0 where
@@ -33,7 +35,8 @@ pub record Adds (o : Opening) (px : List ℕ) (j : ℕ) : Type 0 where
   pub tile-below : theTile < 9
   pub bin-below : theBin < 16
   pub own : getD (getD (histograms o px) theTile []) theBin 0 ≡ otherBin o theTile theBin j px + 1
-  pub others : (t b : ℕ) → t < 9 → b < 16 → ((t ≡ theTile) × (b ≡ theBin) → ⊥) → getD (getD (histograms o px) t []) b 0 ≡ otherBin o t b j px
+  pub others : (t b : ℕ) → t < 9 → b < 16 → ((t ≡ theTile) × (b ≡ theBin) → ⊥) →
+      getD (getD (histograms o px) t []) b 0 ≡ otherBin o t b j px
 
 -- every pixel of a picture does, and so the bins of the nine histograms total w × h
 pub record Counted (o : Opening) (px : List ℕ) : Type 0 where

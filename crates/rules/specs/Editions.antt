@@ -1,4 +1,5 @@
--- Rule editions: which there are, and what each changes. The other chapters ask these, and compare no edition with a number.
+-- Rule editions: which there are, and what each changes. The other chapters ask these, and
+-- compare no edition with a number.
 --   1  document 01
 --   2  document 02, R-2: a splice mark is heeded
 --   3  document 02, R-5: as 2, and a change is rounded to the nearest hundredth

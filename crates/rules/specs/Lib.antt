@@ -1,4 +1,5 @@
--- The rules of document 01, one file a chapter, in its order, and behind them those of document 02. A comment at each definition says which of its terms it is.
+-- The rules of document 01, one file a chapter, in its order, and behind them those of document 02. A comment at each
+-- definition says which of its terms it is.
 pub mod Bytes
 pub mod Refusals
 pub mod Editions

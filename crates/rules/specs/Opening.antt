@@ -35,7 +35,8 @@ unfoldable pub levelUpTo : ℕ → ℕ → ℕ
 levelUpTo zero h = 0
 levelUpTo (suc n) h = pick (leb 30 (h / 2 ^ suc n)) (suc n) (levelUpTo n h)
 
--- level k: the greatest with H / 2^k at least 30. As an opening that is not refused has H at most 1088, it is at most 5
+-- level k: the greatest with H / 2^k at least 30. As an opening that is not refused has H
+-- at most 1088, it is at most 5
 unfoldable pub level : Opening → ℕ
 level o = levelUpTo 5 (o .height)
 

@@ -67,7 +67,8 @@ carries f =
 unfoldable pub skipped : List (List ℕ) → ℕ
 skipped fs = count (λ f. not (carries f)) fs
 
--- a packet: its frame's time, the offset of its first byte in the capture, its bytes (of a frame that is cut off, those that are there)
+-- a packet: its frame's time, the offset of its first byte in the capture, its bytes (of a frame that is cut off,
+-- those that are there)
 pub record Packet : Type 0 where
   pub time : ℕ
   pub place : ℕ
@@ -76,7 +77,8 @@ pub record Packet : Type 0 where
 -- n packets, one behind the other
 unfoldable pub packetsFrom : ℕ → ℕ → ℕ → List ℕ → List Packet
 packetsFrom zero time place s = []
-packetsFrom (suc n) time place s = record { time = time; place = place; bytes = take 188 s } ∷ packetsFrom n time (place + 188) (drop 188 s)
+packetsFrom (suc n) time place s =
+    record { time = time; place = place; bytes = take 188 s } ∷ packetsFrom n time (place + 188) (drop 188 s)
 
 -- the packets of a frame that carries, from its byte 42 on
 unfoldable pub packetsIn : ℕ → List ℕ → List Packet

@@ -1,6 +1,8 @@
--- Refusals: a number of document 01's table with its place, and the answers that are made of them. Each number stands at the definition that gives it:
+-- Refusals: a number of document 01's table with its place, and the answers that are made of them. Each number stands
+-- at the definition that gives it:
 --   opening  1, 2, 3, 20  Opening.openingFault
---   capture  4 Capture.tooLong, 5 Capture.wrongMagic, 6 Capture.wrongLink, 7 and 8 Capture.wrongFrameHeader, 9 Capture.tooManyUnits (beginsAt)
+--   capture  4 Capture.tooLong, 5 Capture.wrongMagic, 6 Capture.wrongLink, 7 and 8 Capture.wrongFrameHeader,
+--            9 Capture.tooManyUnits (beginsAt)
 --   luma     10 Pictures.lumaFault
 --   seal     11 Seal.captureUnfinished, 12 Seal.noPacket, 13 Seal.lumaUnfinished, 14 Seal.noPicture, 15 Seal.noRoom
 --   index    the opening's, 4 to 10, 12, 14: WhileFeeding.indexFault
@@ -50,7 +52,7 @@ lastNumber = 28
 abbrev pub InTable : ℕ → Type 0
 InTable k = (1 ≤ k) × (k ≤ lastNumber)
 
--- a refusal's number. Those of the rules are in the table (proofs/Laws/Listed); a state that somebody else wrote on can
--- hold another, and gets 18
+-- a refusal's number. Those of the rules are in the table (proofs/Laws/Listed); a state that somebody else wrote on
+-- can hold another, and gets 18
 abbrev pub listed : ℕ → ℕ
 listed k = pick (within 1 lastNumber k) k 18

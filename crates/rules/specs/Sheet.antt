@@ -95,7 +95,8 @@ sheetOf r = endToEnd (sheetLines r)
 unfoldable pub sheetLength : List ℕ → ℕ
 sheetLength r = 6060 * pagesFor (lineCount r)
 
--- what a sheet leaves out of an allowed record's figures: the edition, d, PID, capture records, records passed over, bad cells
+-- what a sheet leaves out of an allowed record's figures: the edition, d, PID, capture records,
+-- records passed over, bad cells
 unfoldable pub leftOut : Header → List ℕ
 leftOut h = h .edition ∷ h .time ∷ h .pid ∷ h .frames ∷ h .skipped ∷ h .bad ∷ []
 

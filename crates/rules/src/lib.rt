@@ -1,7 +1,8 @@
-// The types that the rules of document 01 speak of. The rules themselves are specs/, one file a chapter, in document 01's order.
+// The types that the rules of document 01 speak of. The rules themselves are specs/, one file a
+// chapter, in document 01's order.
 
-// What a sample is opened with: width W, height H, display time d of a picture in microseconds, packet identifier PID, and the edition of the rules that it is
-// measured by (document 02, R-2).
+// What a sample is opened with: width W, height H, display time d of a picture in microseconds, packet identifier PID,
+// and the edition of the rules that it is measured by (document 02, R-2).
 pub struct Opening {
     pub width: u32,
     pub height: u32,

@@ -2,7 +2,8 @@
 use Prim.Native.Nat.{ℕ, _^_, _<_}
 use native.Mathlib.Omega.{arith}
 use mathlib.Core.Path.{_≡_, refl, sym, ap, _∙_}
-use mathlib.Core.List.{List, [], _∷_, _++_, append-nil, append-assoc, head-eq-of-cons-eq, tail-eq-of-cons-eq, cons-ne-nil}
+use mathlib.Core.List.{List, [], _∷_, _++_, append-nil, append-assoc, head-eq-of-cons-eq, tail-eq-of-cons-eq}
+use mathlib.Core.List.{cons-ne-nil}
 use lib.ListN.{length, getD}
 use Rattle.rules.specs.declared.Opening.{Opening}
 use Rattle.rules.specs.Refusals.{none, fault}
@@ -20,12 +21,14 @@ use Rattle.sample.specs.Contract.{OpenPost}
 use Rattle.sample.specs.Calls.{Ran, feedsCapture, feedsLuma, asks, Runs, done, next, Kept, EveryList}
 use Rattle.sample.specs.Calls.{RepliesAlike}
 
--- from a state that stands for the strings so far: what the calls come to, and what the state that they leave stands for
+-- from a state that stands for the strings so far: what the calls come to, and what the
+-- state that they leave stands for
 pub record Led (o : Opening) (capture luma : List ℕ) (cs : List Call) (os : List Outcome) (end : State) : Type 0 where
   pub outcomes : os ≡ expected o capture luma cs
   pub means : Means end o (capture ++ captureFed cs) (luma ++ lumaFed cs)
 
-pub runs : (o : Opening) (capture luma : List ℕ) {st end : State} {cs : List Call} {os : List Outcome} → Means st o capture luma → Runs st cs os end → Led o capture luma cs os end
+pub runs : (o : Opening) (capture luma : List ℕ) {st end : State} {cs : List Call} {os : List Outcome} →
+    Means st o capture luma → Runs st cs os end → Led o capture luma cs os end
 unfolding expected captureFed lumaFed
 runs o capture luma h done = record { outcomes = refl; means = rw (append-nil capture, append-nil luma) h }
 runs o capture luma {cs = feedCapture piece ∷ cs} h (next (feedsCapture p) r) =
@@ -47,17 +50,21 @@ runs o capture luma h (next (asks {st = st} p) r) =
     record { outcomes = cc; means = i .means }
 
 -- the histograms of the last four whole pictures
-kept : (o : Opening) (luma : List ℕ) (st : State) → side-luma.Means (st .luma) (st .sums) (st .bins) (st .picture) o luma →
-    ((n : ℕ) → getD (st .bins) n 0 < 2 ^ 32) → (i : ℕ) → Kept o luma i → tilesAt (st .bins) (slot i) ≡ histograms o (getD (reduced o luma) i [])
+kept : (o : Opening) (luma : List ℕ) (st : State) →
+    side-luma.Means (st .luma) (st .sums) (st .bins) (st .picture) o luma →
+    ((n : ℕ) → getD (st .bins) n 0 < 2 ^ 32) → (i : ℕ) → Kept o luma i →
+    tilesAt (st .bins) (slot i) ≡ histograms o (getD (reduced o luma) i [])
 kept o luma st h small i k = go (h .stands)
   where
-    go : Stands o (loaded (st .luma)) (st .luma) (st .sums) (st .bins) (st .picture) luma → tilesAt (st .bins) (slot i) ≡ histograms o (getD (reduced o luma) i [])
+    go : Stands o (loaded (st .luma)) (st .luma) (st .sums) (st .bins) (st .picture) luma →
+        tilesAt (st .bins) (slot i) ≡ histograms o (getD (reduced o luma) i [])
     go (refused e n f) = absurd (never (rw (k .whole .opened, k .clear) at e))
       where
         never : {p q : ℕ} → none ≡ fault p q → ⊥
         never e = let z : _≡_ {A = ℕ} 0 1 = cc in omega arith
     go (live g s l) =
-        ring-is o (loaded (st .luma)) (record { good = g; sane = s; live = l }) small i (whole-counted o luma i (k .whole)) (k .late)
+        ring-is o (loaded (st .luma)) (record { good = g; sane = s; live = l }) small i
+        (whole-counted o luma i (k .whole)) (k .late)
 
 -- ---- two lists that end in the same question
 

@@ -49,7 +49,8 @@ module _ (o : Opening) (capture luma before after : List ℕ) (n : ℕ)
       }
 
 -- what the seal at the end of a list of calls came to
-pub sealed-last : (o : Opening) (a : Answer) (st end : State) (cs : List Call) (os : List Outcome) (before after : List ℕ)
+pub sealed-last : (o : Opening) (a : Answer) (st end : State) (cs : List Call) (os : List Outcome)
+    (before after : List ℕ)
     (n : ℕ) → OpenPost o a st →
     Runs st (cs ++ ask (seal before) ∷ []) (os ++ replied (sealedInto (Done n) after) ∷ []) end →
     sealedInto (Done n) after ≡ answerTo o (captureFed cs) (lumaFed cs) (seal before)

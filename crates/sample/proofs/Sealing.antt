@@ -16,7 +16,8 @@ use Rattle.rules.specs.Refusals.{Fault, none, fault, _orElse_, answer, listed}
 use Rattle.rules.specs.Opening.{openingFault}
 use Rattle.rules.specs.Capture.{units, captureFault, captureInside}
 use Rattle.rules.specs.Pictures.{pictureCount, lumaFault}
-use Rattle.rules.specs.Seal.{captureUnfinished, noPacket, lumaUnfinished, noPicture, noRoom, sealFault, sealAnswer, ifDone, over, sealed, sealedLength, sealedBuffer}
+use Rattle.rules.specs.Seal.{captureUnfinished, noPacket, lumaUnfinished, noPicture, noRoom, sealFault, sealAnswer}
+use Rattle.rules.specs.Seal.{ifDone, over, sealed, sealedLength, sealedBuffer}
 use Rattle.rules.specs.Calls.{seal, sealedInto, answerTo}
 use Rattle.rules.proofs.Laws.Listed.{listed-in, seal as in-the-table}
 use Rattle.capture.specs.declared.Summary.{Summary}
@@ -46,7 +47,8 @@ some-units (u ∷ us) h = refl
 
 -- what a seal finds on its way, from the summaries of the two sides
 module _ (st : State) (o : Opening) (fedCapture fedLuma : List ℕ) (m : Means st o fedCapture fedLuma)
-    (c : Summary) (l : of-luma.Summary) (cp : SumsUp (st .capture .walk) (st .capture .numbers) c) (lp : SummaryPost (st .luma) l) where
+    (c : Summary) (l : of-luma.Summary) (cp : SumsUp (st .capture .walk) (st .capture .numbers) c)
+    (lp : SummaryPost (st .luma) l) where
   sum : SumOf (st .capture .table) o fedCapture c
   sum = cp (st .capture .kept) (st .capture .table) o fedCapture (m .captured)
 
@@ -56,7 +58,8 @@ module _ (st : State) (o : Opening) (fedCapture fedLuma : List ℕ) (m : Means s
   pub of-capture : (n : ℕ) → (c .number ≡ 0 → ⊥) → sealFault o fedCapture fedLuma n ≡ fault (c .number) (c .place)
   unfolding sealFault
   of-capture n h =
-      let e : openingFault o orElse captureFault o fedCapture ≡ fault (c .number) (c .place) = sum .refusal ∙ rw (ne-eqb (c .number) 0 h) in
+      let e : openingFault o orElse captureFault o fedCapture ≡ fault (c .number) (c .place) =
+      sum .refusal ∙ rw (ne-eqb (c .number) 0 h) in
       either (openingFault o) (captureFault o fedCapture) _ ∙ rw e
 
   module _ (h₁ : c .number ≡ 0) where
@@ -66,7 +69,8 @@ module _ (st : State) (o : Opening) (fedCapture fedLuma : List ℕ) (m : Means s
     pub of-luma-side : (n : ℕ) → (l .status ≡ 0 → ⊥) → sealFault o fedCapture fedLuma n ≡ fault (l .status) (l .place)
     unfolding sealFault
     of-luma-side n h =
-        let e : openingFault o orElse lumaFault o fedLuma ≡ fault (l .status) (l .place) = seen .refused (omega arith) in
+        let e : openingFault o orElse lumaFault o fedLuma ≡ fault (l .status) (l .place) =
+        seen .refused (omega arith) in
         let e′ : lumaFault o fedLuma ≡ fault (l .status) (l .place) = rw (fig .good) at e in
         rw (fig .good, fig .clear, e′)
 
@@ -76,7 +80,8 @@ module _ (st : State) (o : Opening) (fedCapture fedLuma : List ℕ) (m : Means s
 
       -- behind refusals 1 to 10
       behind : (n : ℕ) → sealFault o fedCapture fedLuma n ≡
-          captureUnfinished fedCapture orElse (noPacket (units o fedCapture) orElse (lumaUnfinished o fedLuma orElse (noPicture (pictureCount o fedLuma) orElse noRoom n (sealedLength o fedCapture fedLuma))))
+          captureUnfinished fedCapture orElse (noPacket (units o fedCapture) orElse (lumaUnfinished o fedLuma
+          orElse (noPicture (pictureCount o fedLuma) orElse noRoom n (sealedLength o fedCapture fedLuma))))
       unfolding sealFault
       behind n = rw (fig .good, fig .clear, known .clear)
 
@@ -105,7 +110,8 @@ module _ (st : State) (o : Opening) (fedCapture fedLuma : List ℕ) (m : Means s
 
             pub no-picture : (n : ℕ) → l .pictures ≡ 0 → sealFault o fedCapture fedLuma n ≡ fault 14 0
             unfolding noPicture
-            no-picture n h = behind n ∙ rw (closed, packet, ended, eq-eqb (pictureCount o fedLuma) 0 (sym (known .pictures) ∙ h))
+            no-picture n h =
+                behind n ∙ rw (closed, packet, ended, eq-eqb (pictureCount o fedLuma) 0 (sym (known .pictures) ∙ h))
 
             pub ready : (l .pictures ≡ 0 → ⊥) → Ready (st .capture .table) (st .luma) o fedCapture fedLuma c l
             unfolding noPicture
@@ -115,7 +121,8 @@ module _ (st : State) (o : Opening) (fedCapture fedLuma : List ℕ) (m : Means s
                   known = known;
                   units = omega arith;
                   some = omega arith;
-                  free = λ n. behind n ∙ rw (closed, packet, ended, ne-eqb (pictureCount o fedLuma) 0 (λ e. h (known .pictures ∙ e)));
+                  free = λ n. behind n
+                      ∙ rw (closed, packet, ended, ne-eqb (pictureCount o fedLuma) 0 (λ e. h (known .pictures ∙ e)));
                 }
 
 -- ---- what a seal promises
@@ -216,5 +223,6 @@ module _ (w : Words) (before : List ℕ) (c : Summary) (l : of-luma.Summary)
                 wrote st p fc fl y m =
                     let r = ready st p fc fl m c l (cp-of (wordsOf st) y) (lp-of (wordsOf st) y) h₁ h₂ h₃ h₄ h₅ h in
                     let r′ = subst (λ (v : Words). Ready (v .capture .table) (v .luma) p fc fl c l) y r in
-                    subst (λ (q : Opening). WritePost (w .capture .table) (w .luma) q c l before a after) (same st p fc fl y m) x
+                    subst (λ (q : Opening). WritePost (w .capture .table) (w .luma) q c l before a after)
+                    (same st p fc fl y m) x
                     .rule fc fl r′

@@ -17,7 +17,8 @@ use Rattle.rules.specs.Editions.{heedsSplices, knowsDamage}
 use Rattle.rules.specs.Refusals.{Fault, none, fault, _orElse_, listed}
 use Rattle.rules.specs.Opening.{openingFault}
 use Rattle.rules.specs.Packets.{Packet}
-use Rattle.rules.specs.Units.{Arrival, setApart, firstArrival, arrivalsAfter, arrivals, groups, cellsOf, unitOf, unitsOf}
+use Rattle.rules.specs.Units.{Arrival, setApart, firstArrival, arrivalsAfter, arrivals, groups, cellsOf, unitOf}
+use Rattle.rules.specs.Units.{unitsOf}
 use Rattle.rules.specs.Capture.{wholeWanted, units, captureFault, captureInside}
 use Rattle.rules.specs.Pictures.{pictureCount, lumaFault}
 use Rattle.rules.specs.Seal as rule

@@ -25,7 +25,8 @@ use Rattle.rules.specs.Changes.{repeats, changes}
 use Rattle.rules.specs.Scenes.{scenesOf}
 use Rattle.rules.specs.Index.{indexOf, indexBits}
 use Rattle.rules.specs.Record.{recordLength, recordBytes}
-use Rattle.rules.specs.Seal.{reduced, scenesIn, scenes, unrepeated, indexFrom, index, header, sealed, sealedLength, over, noRoom, sealFault, sealAnswer, sealedBuffer}
+use Rattle.rules.specs.Seal.{reduced, scenesIn, scenes, unrepeated, indexFrom, index, header, sealed, sealedLength}
+use Rattle.rules.specs.Seal.{over, noRoom, sealFault, sealAnswer, sealedBuffer}
 use Rattle.rules.specs.Calls.{Reply, seal, sealedInto, answerTo}
 use Rattle.rules.proofs.Laws.Lists.{count-few}
 use Rattle.luma_laws.proofs.Counted.{reduced-length}
@@ -111,7 +112,8 @@ index-is-rule table luma o fedCapture fedLuma c l fig k some-units some-pictures
     } in
     index-is counts e′ ∙ rw (k .fresh, k .pictures, fig .packets, fig .lost)
 
-module _ (table luma : List ℕ) (o : Opening) (fedCapture fedLuma : List ℕ) (c : Summary) (l : of-luma.Summary) (r : Ready table luma o fedCapture fedLuma c l) where
+module _ (table luma : List ℕ) (o : Opening) (fedCapture fedLuma : List ℕ) (c : Summary) (l : of-luma.Summary)
+    (r : Ready table luma o fedCapture fedLuma c l) where
   abbrev pictures : ℕ
   pictures = l .pictures
 
@@ -148,17 +150,20 @@ module _ (table luma : List ℕ) (o : Opening) (fedCapture fedLuma : List ℕ) (
 
   module _ (n : ℕ) (k : CountPost luma pictures (o .time) n) where
     count-is : n ≡ length (scenes o fedLuma)
-    count-is = k .scenes (scoresOf o fedLuma) (repeatsOf o fedLuma) (changesOf o fedLuma) holds opened-well ∙ ap length (sym scenes-are)
+    count-is = k .scenes (scoresOf o fedLuma) (repeatsOf o fedLuma) (changesOf o fedLuma) holds opened-well
+        ∙ ap length (sym scenes-are)
 
     pub size-is : 64 + 32 * (c .units + n) ≡ sealedLength o fedCapture fedLuma
     unfolding sealedLength recordLength
     size-is = rw (r .figures .units, count-is)
 
-    pub too-short : (before : List ℕ) (a : Answer) → length before < 64 + 32 * (c .units + n) → a ≡ Refused 15 (64 + 32 * (c .units + n)) →
+    pub too-short : (before : List ℕ) (a : Answer) → length before < 64 + 32 * (c .units + n) →
+        a ≡ Refused 15 (64 + 32 * (c .units + n)) →
         sealedInto a before ≡ answerTo o fedCapture fedLuma (seal before)
     unfolding sealAnswer sealedBuffer noRoom
     too-short before a h e =
-        let f : sealFault o fedCapture fedLuma (length before) ≡ fault 15 (64 + 32 * (c .units + n)) = r .free (length before) ∙ rw (sym size-is, lt-ltb (length before) (64 + 32 * (c .units + n)) h) in
+        let f : sealFault o fedCapture fedLuma (length before) ≡ fault 15 (64 + 32 * (c .units + n)) =
+        r .free (length before) ∙ rw (sym size-is, lt-ltb (length before) (64 + 32 * (c .units + n)) h) in
         rw f (ap (λ (x : Answer). sealedInto x before) e)
 
     -- ---- the header
@@ -174,10 +179,13 @@ module _ (table luma : List ℕ) (o : Opening) (fedCapture fedLuma : List ℕ) (
         after ≡ over (recordBytes (header o fedCapture fedLuma) (units o fedCapture) (scenes o fedLuma)) before
     unfolding header
     record-is before after w =
-        let there = subst (λ (x : ℕ). Holds luma x (scoresOf o fedLuma) (repeatsOf o fedLuma) (changesOf o fedLuma)) pictures-are holds in
+        let there = subst (λ (x : ℕ). Holds luma x (scoresOf o fedLuma) (repeatsOf o fedLuma) (changesOf o fedLuma))
+        pictures-are holds in
         let hd = header o fedCapture fedLuma in
-        w (r .figures .beside) cells (scoresOf o fedLuma) (repeatsOf o fedLuma) (changesOf o fedLuma) (r .figures .table) (r .figures .few) there opened-well (ap length units-are) (ap length scenes-are)
-        ∙ ap (λ (us : List UnitRow). over (recordBytes hd us (scenesOf (o .time) (scoresOf o fedLuma) (repeatsOf o fedLuma) (changesOf o fedLuma))) before) (sym units-are)
+        w (r .figures .beside) cells (scoresOf o fedLuma) (repeatsOf o fedLuma) (changesOf o fedLuma)
+        (r .figures .table) (r .figures .few) there opened-well (ap length units-are) (ap length scenes-are)
+        ∙ ap (λ (us : List UnitRow). over (recordBytes hd us
+        (scenesOf (o .time) (scoresOf o fedLuma) (repeatsOf o fedLuma) (changesOf o fedLuma))) before) (sym units-are)
         ∙ ap (λ (xs : List SceneRow). over (recordBytes hd (units o fedCapture) xs) before) (sym scenes-are)
 
     pub written-post : (before after : List ℕ) (h : Header) (i : Index) (a : Answer) → IndexIn c l i →
@@ -186,7 +194,8 @@ module _ (table luma : List ℕ) (o : Opening) (fedCapture fedLuma : List ℕ) (
         sealedInto a after ≡ answerTo o fedCapture fedLuma (seal before)
     unfolding sealAnswer sealedBuffer noRoom sealed
     written-post before after h i a e g w room d =
-        let f : sealFault o fedCapture fedLuma (length before) ≡ none = r .free (length before) ∙ rw (sym size-is, le-ltb (length before) (64 + 32 * (c .units + n)) room) in
+        let f : sealFault o fedCapture fedLuma (length before) ≡ none =
+        r .free (length before) ∙ rw (sym size-is, le-ltb (length before) (64 + 32 * (c .units + n)) room) in
         let x = header-is h i e g in
         let w′ : RecordWritten table luma (header o fedCapture fedLuma) before after = rw x at w in
         let b = record-is before after w′ in

@@ -1,6 +1,7 @@
 -- Demand 3, as one statement about a whole list of calls. After one opening, refused or not, every list of capture
 -- feeds, luma feeds and questions comes to what
--- the rules give for the opening and the joined strings alone, each call getting the state that the call before it left.
+-- the rules give for the opening and the joined strings alone, each call getting the state
+-- that the call before it left.
 use Prim.Native.Nat.{ℕ, _+_, _^_, _≤_, _<_}
 use mathlib.Core.Path.{_≡_}
 use mathlib.Core.List.{List, [], _∷_, _++_}
@@ -43,10 +44,12 @@ pub data Ran : State → Call → Outcome → State → Type 0 where
       (record { capture = side; luma = luma′; sums = sums′; bins = bins′; picture = picture′ })
   asks : {st : State} {q : Question} {r : Reply} → Asked (wordsOf st) q r → Ran st (ask q) (replied r) st
 
--- calls that are made one after the other, the first on the state st; what they come to; and the state that the last leaves
+-- calls that are made one after the other, the first on the state st; what they come to; and
+-- the state that the last leaves
 pub data Runs : State → List Call → List Outcome → State → Type 0 where
   done : {st : State} → Runs st [] [] st
-  next : {st st′ end : State} {c : Call} {o : Outcome} {cs : List Call} {os : List Outcome} → Ran st c o st′ → Runs st′ cs os end → Runs st (c ∷ cs) (o ∷ os) end
+  next : {st st′ end : State} {c : Call} {o : Outcome} {cs : List Call} {os : List Outcome} → Ran st c o st′ →
+      Runs st′ cs os end → Runs st (c ∷ cs) (o ∷ os) end
 
 -- picture i is one of the last four whole pictures of the joined luma, of which the state keeps the histograms
 pub record Kept (o : Opening) (luma : List ℕ) (i : ℕ) : Type 0 where
@@ -72,7 +75,8 @@ pub record AsTheRulesSay (o : Opening) (a : Answer) (cs : List Call) (os : List 
 
 abbrev pub EveryList : Type 0
 EveryList =
-    (o : Opening) (a : Answer) (st : State) (cs : List Call) (os : List Outcome) (end : State) → OpenPost o a st → Runs st cs os end → AsTheRulesSay o a cs os end
+    (o : Opening) (a : Answer) (st : State) (cs : List Call) (os : List Outcome) (end : State) → OpenPost o a st →
+    Runs st cs os end → AsTheRulesSay o a cs os end
 
 -- and so a question at the end of two lists that feed equal joined strings after like openings comes to the same,
 -- whatever their pieces, questions and order

@@ -66,14 +66,16 @@ headerBy o c pictures scenes index =
     }
 
 -- nothing but a short buffer refuses a seal of what the words stand for
-pub record Ready (table luma : List ℕ) (o : Opening) (fedCapture fedLuma : List ℕ) (c : Summary) (l : of-luma.Summary) : Type 0 where
+pub record Ready (table luma : List ℕ) (o : Opening) (fedCapture fedLuma : List ℕ) (c : Summary)
+    (l : of-luma.Summary) : Type 0 where
   pub figures : Figures table o fedCapture c
   pub known : Known luma o fedLuma l
   pub units : 1 ≤ c .units
   pub some : 1 ≤ l .pictures
   pub free : (n : ℕ) → sealFault o fedCapture fedLuma n ≡ noRoom n (sealedLength o fedCapture fedLuma)
 
-pub record WritePost (table luma : List ℕ) (o : Opening) (c : Summary) (l : of-luma.Summary) (before : List ℕ) (a : Answer)
+pub record WritePost (table luma : List ℕ) (o : Opening) (c : Summary) (l : of-luma.Summary)
+    (before : List ℕ) (a : Answer)
     (after : List ℕ) : Type 0 where
   pub rule : (fedCapture fedLuma : List ℕ) → Ready table luma o fedCapture fedLuma c l →
       sealedInto a after ≡ answerTo o fedCapture fedLuma (seal before)

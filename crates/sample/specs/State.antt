@@ -21,7 +21,8 @@ pub record Words : Type 0 where
 abbrev pub wordsOf : State → Words
 wordsOf st = record { capture = st .capture; luma = st .luma }
 
--- The state stands for the opening o, refused or not, and for the two joined strings. Neither side looks at the other's
+-- The state stands for the opening o, refused or not, and for the two joined strings.
+-- Neither side looks at the other's
 pub record Means (st : State) (o : Opening) (capture luma : List ℕ) : Type 0 where
   pub captured : side-capture.Means (st .capture) o capture
   pub drawn : side-luma.Means (st .luma) (st .sums) (st .bins) (st .picture) o luma

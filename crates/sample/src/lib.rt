@@ -1,5 +1,6 @@
-// A stream sample: opened, fed on two sides, sealed. Its state is memory that the caller lends, in arrays of fixed sizes: the capture side's walk words,
-// collected bytes, numbers and table of units, and the luma side's words, block sums, bins and picture. Every call is safe and ends on any contents of them, and expects no checking by its caller.
+// A stream sample: opened, fed on two sides, sealed. Its state is memory that the caller lends, in arrays of fixed
+// sizes: the capture side's walk words, collected bytes, numbers and table of units, and the luma side's words, block
+// sums, bins and picture. Every call is safe and ends on any contents of them, and expects no checking by its caller.
 ghost use Prim.Native.Nat.{_%_, _^_};
 ghost use mathlib.Core.Path.{_≡_};
 ghost use mathlib.Core.Bool.{not};
@@ -39,7 +40,18 @@ pub fn open(
     picture: &mut [u8; 14104],
     o: Opening,
 ) -> Answer
-    ensures { λ r. ⌜ OpenPost o r (record { capture = record { walk = now (walk .exit); kept = now (kept .exit); numbers = now (numbers .exit); table = now (table .exit) }; luma = now (luma .exit); sums = now (sums .exit); bins = now (bins .exit); picture = now (picture .exit) }) ⌝ }
+    ensures { λ r. ⌜ OpenPost o r (record {
+      capture = record {
+        walk = now (walk .exit);
+        kept = now (kept .exit);
+        numbers = now (numbers .exit);
+        table = now (table .exit);
+      };
+      luma = now (luma .exit);
+      sums = now (sums .exit);
+      bins = now (bins .exit);
+      picture = now (picture .exit);
+    }) ⌝ }
 {
     let number = figures::opening_fault(o);
     capture::open(
@@ -62,7 +74,17 @@ pub fn feed_capture(
     table: &mut Table,
     piece: &[u8],
 ) -> Answer
-    ensures { λ r. ⌜ side-capture.FeedPost (record { walk = now (walk .entry); kept = now (kept .entry); numbers = now (numbers .entry); table = now (table .entry) }) (now (piece .entry)) r (record { walk = now (walk .exit); kept = now (kept .exit); numbers = now (numbers .exit); table = now (table .exit) }) ⌝ }
+    ensures { λ r. ⌜ side-capture.FeedPost (record {
+      walk = now (walk .entry);
+      kept = now (kept .entry);
+      numbers = now (numbers .entry);
+      table = now (table .entry);
+    }) (now (piece .entry)) r (record {
+      walk = now (walk .exit);
+      kept = now (kept .exit);
+      numbers = now (numbers .exit);
+      table = now (table .exit);
+    }) ⌝ }
 {
     capture::feed(walk, kept, numbers, table, piece)
 }
@@ -75,7 +97,9 @@ pub fn feed_luma(
     picture: &mut [u8; 14104],
     piece: &[u8],
 ) -> Answer
-    ensures { λ r. ⌜ side-luma.FeedPost (now (luma .entry)) (now (sums .entry)) (now (bins .entry)) (now (picture .entry)) (now (piece .entry)) r (now (luma .exit)) (now (sums .exit)) (now (bins .exit)) (now (picture .exit)) ⌝ }
+    ensures { λ r. ⌜ side-luma.FeedPost (now (luma .entry)) (now (sums .entry)) (now (bins .entry))
+        (now (picture .entry)) (now (piece .entry)) r (now (luma .exit)) (now (sums .exit)) (now (bins .exit))
+        (now (picture .exit)) ⌝ }
 {
     luma::feed(luma, sums, bins, picture, piece)
 }
@@ -124,7 +148,8 @@ fn header_of(o: Opening, c: Summary, pictures: u32, scenes: u32, i: Index) -> He
     }
 }
 
-// Writes the record, if the buffer has room for it. Its counts are in range, but where somebody else wrote on the state.
+// Writes the record, if the buffer has room for it. Its counts are in range, but where
+// somebody else wrote on the state.
 fn write(
     buffer: &mut [u8],
     table: &Table,
@@ -154,7 +179,8 @@ fn write(
     Answer::Done(size as u64)
 }
 
-// Seals what was fed: the record goes into the buffer, and the answer is its length; or the buffer stands as it was, and the answer is the refusal.
+// Seals what was fed: the record goes into the buffer, and the answer is its length; or the buffer stands as it was,
+// and the answer is the refusal.
 pub fn seal(
     walk: &WalkWords,
     kept: &Collected,
@@ -163,7 +189,15 @@ pub fn seal(
     luma: &[u64; 1600],
     buffer: &mut [u8],
 ) -> Answer
-    ensures { λ r. ⌜ SealPost (record { capture = record { walk = now (walk .entry); kept = now (kept .entry); numbers = now (numbers .entry); table = now (table .entry) }; luma = now (luma .entry) })
+    ensures { λ r. ⌜ SealPost (record {
+      capture = record {
+        walk = now (walk .entry);
+        kept = now (kept .entry);
+        numbers = now (numbers .entry);
+        table = now (table .entry);
+      };
+      luma = now (luma .entry);
+    })
         (now (buffer .entry)) r (now (buffer .exit)) ⌝ }
 {
     let c = capture::sum_up(walk, numbers);

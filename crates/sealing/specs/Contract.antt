@@ -42,6 +42,8 @@ pub record ScenesWritten (luma : List ℕ) (pictures d units n : ℕ) (before af
 -- the record was written: with the units and scenes that the words stand for, if they are as many as the header says
 abbrev pub RecordWritten : List ℕ → List ℕ → Header → List ℕ → List ℕ → Type 0
 RecordWritten table luma h before after =
-    (s : Units) (cs : List Cell) (ss : List ℕ) (rs : List Bool) (qs : List ℕ) → Stands table s cs → length cs < 2 ^ 24 →
-    Holds luma (h .pictures) ss rs qs → h .time < 2 ^ 32 → h .units ≡ length (unitsOf cs) → h .scenes ≡ length (scenesOf (h .time) ss rs qs) →
+    (s : Units) (cs : List Cell) (ss : List ℕ) (rs : List Bool) (qs : List ℕ) → Stands table s cs →
+    length cs < 2 ^ 24 →
+    Holds luma (h .pictures) ss rs qs → h .time < 2 ^ 32 → h .units ≡ length (unitsOf cs) →
+    h .scenes ≡ length (scenesOf (h .time) ss rs qs) →
     after ≡ over (recordBytes h (unitsOf cs) (scenesOf (h .time) ss rs qs)) before

@@ -30,7 +30,8 @@ fn write_scenes(
     time: u64,
 )
     requires { ⌜ recordLength units n ≤ length (now buffer) ⌝ }
-    ensures { λ _. ⌜ ScenesWritten (now (luma .entry)) pictures time units n (now (buffer .entry)) (now (buffer .exit)) ⌝ }
+    ensures { λ _. ⌜ ScenesWritten (now (luma .entry)) pictures time units n (now (buffer .entry))
+        (now (buffer .exit)) ⌝ }
 {
     let mut start: usize = 0;
     let mut j: usize = 0;
@@ -46,8 +47,10 @@ fn write_scenes(
 
 // The whole record with the header h, whose counts say how many rows there are.
 pub fn write_record(buffer: &mut [u8], table: &Table, luma: &[u64; 1600], h: Header)
-    requires { ⌜ (recordLength (h .units) (h .scenes) ≤ length (now buffer)) × (recordLength (h .units) (h .scenes) < 4294967296) ⌝ }
-    ensures { λ _. ⌜ RecordWritten (now (table .entry)) (now (luma .entry)) h (now (buffer .entry)) (now (buffer .exit)) ⌝ }
+    requires { ⌜ (recordLength (h .units) (h .scenes) ≤ length (now buffer))
+        × (recordLength (h .units) (h .scenes) < 4294967296) ⌝ }
+    ensures { λ _. ⌜ RecordWritten (now (table .entry)) (now (luma .entry)) h (now (buffer .entry))
+        (now (buffer .exit)) ⌝ }
 {
     let units = h.units as usize;
     record_writer::write_header(buffer, h);

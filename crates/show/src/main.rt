@@ -1,4 +1,5 @@
-// Program `show`: reads a record on standard input and prints its figures, a line for the sample and one for each row, or the refusal.
+// Program `show`: reads a record on standard input and prints its figures, a line for the sample and one
+// for each row, or the refusal.
 // The longest record has 32,064 bytes; of longer input the first 65,536 are enough to refuse it.
 ghost use mathlib.Core.Path.{_≡_};
 ghost use Prim.Native.Nat.{_+_, _*_, _≤_};

@@ -17,7 +17,8 @@ length-bytesOf (suc n) x = ap suc (length-bytesOf n (x / 256))
 
 -- one byte stored, and the rest of them behind it
 pub byte-stored : (s : List ℕ) (at i n x : ℕ) → i < n →
-    sets (set s (at + i) (x % 256)) (at + (i + 1)) (bytesOf (n - (i + 1)) (x / 256)) ≡ sets s (at + i) (bytesOf (n - i) x)
+    sets (set s (at + i) (x % 256)) (at + (i + 1)) (bytesOf (n - (i + 1)) (x / 256))
+    ≡ sets s (at + i) (bytesOf (n - i) x)
 unfolding bytesOf
 byte-stored s at i n x h =
     let next : at + (i + 1) ≡ suc (at + i) = omega arith in
@@ -39,7 +40,8 @@ module _ (at : ℕ) (bs s : List ℕ) (fits : at + length bs ≤ length s) where
   unfolding written
   written-append cs =
       let head : length (take at s ++ bs) ≡ at + length bs = simp (length-append, length-take-le at s (omega arith)) in
-      let behind : drop (at + length bs + length cs) (take at s ++ bs ++ drop (at + length bs) s) ≡ drop (at + length bs + length cs) s =
+      let behind : drop (at + length bs + length cs) (take at s ++ bs ++ drop (at + length bs) s)
+      ≡ drop (at + length bs + length cs) s =
       sym (drop-drop (length cs) (at + length bs) (take at s ++ bs ++ drop (at + length bs) s))
       ∙ ap (drop (length cs)) (drop-at (take at s ++ bs) (drop (at + length bs) s) (at + length bs) head)
       ∙ drop-drop (length cs) (at + length bs) s

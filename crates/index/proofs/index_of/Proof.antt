@@ -1,4 +1,5 @@
--- `index_of` meets its contract. Each count is at most 2 ^ 53, so each cast loses nothing; what is returned is the rule, operation by operation.
+-- `index_of` meets its contract. Each count is at most 2 ^ 53, so each cast loses nothing; what is returned is the
+-- rule, operation by operation.
 use native.Mathlib.Omega.{arith}
 use mathlib.Core.Path.{_≡_, refl}
 use lib.Ieee.{binary64, ofBits, ofInt}

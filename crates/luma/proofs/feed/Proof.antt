@@ -22,7 +22,9 @@ opening-fault-requires c κs = search needs
 returns-2 : tie.Need-returns-2
 returns-2 c =
     feed-forged _ (c .before .before .before .before .before .before .load .ensures)
-    (wrong-opening _ (c .before .before .before .before .before .before .load .ensures) _ (c .before .before .before .before .if1 .left) (rw (c .before .before .opening-in .ensures) at (c .before .opening-fault .ensures)) (c .if2 .taken))
+    (wrong-opening _ (c .before .before .before .before .before .before .load .ensures) _
+    (c .before .before .before .before .if1 .left)
+    (rw (c .before .before .opening-in .ensures) at (c .before .opening-fault .ensures)) (c .if2 .taken))
 
 grid-of-requires : tie.Need-grid-of-requires
 grid-of-requires c κs = search needs
@@ -32,14 +34,21 @@ placed-requires c κs = search needs
 
 returns-3 : tie.Need-returns-3
 returns-3 c =
-    let g = rw (c .before .before .before .before .before .opening-in .ensures) at (c .before .before .grid-of .ensures) in
+    let g =
+    rw (c .before .before .before .before .before .opening-in .ensures) at (c .before .before .grid-of .ensures) in
     feed-forged _ (c .before .before .before .before .before .before .before .before .before .load .ensures)
-    (wrong-place _ (c .before .before .before .before .before .before .before .before .before .load .ensures) _ (c .before .before .before .before .before .before .before .if1 .left) g (c .before .placed .ensures) (not-true _ (c .if3 .taken)))
+    (wrong-place _ (c .before .before .before .before .before .before .before .before .before .load .ensures) _
+    (c .before .before .before .before .before .before .before .if1 .left) g (c .before .placed .ensures)
+    (not-true _ (c .if3 .taken)))
 
 run-requires : tie.Need-run-requires
 run-requires c κs = (
-  rw (c .before .before .before .before .before .before .grid-of .ensures) (fits-of (c .before .before .before .before .before .before .before .before .before .opening-in .result) (c .before .before .before .before .before .before .before .before .opening-fault .ensures .shown ∙ ap numbered (c .before .before .before .before .before .before .before .if2 .left))),
-  c .before .before .before .before .before .placed .ensures .sound (not-false _ (c .before .before .before .before .if3 .left)),
+  rw (c .before .before .before .before .before .before .grid-of .ensures)
+      (fits-of (c .before .before .before .before .before .before .before .before .before .opening-in .result)
+      (c .before .before .before .before .before .before .before .before .opening-fault .ensures .shown
+      ∙ ap numbered (c .before .before .before .before .before .before .before .if2 .left))),
+  c .before .before .before .before .before .placed .ensures .sound
+      (not-false _ (c .before .before .before .before .if3 .left)),
 )
 
 store-requires : tie.Need-store-requires
@@ -50,11 +59,15 @@ reply-requires c κs = search needs
 
 returns-4 : tie.Need-returns-4
 returns-4 c =
-    let g = rw (c .before .before .before .before .before .before .before .before .before .before .before .before .before .opening-in .ensures) at (c .before .before .before .before .before .before .before .before .before .before .grid-of .ensures) in
+    let g = rw (c .before .before .before .before .before .before .before
+    .before .before .before .before .before .before .opening-in .ensures)
+    at (c .before .before .before .before .before .before .before .before .before .before .grid-of .ensures) in
     feed-post _
-    (c .before .before .before .before .before .before .before .before .before .before .before .before .before .before .before .before .before .load .ensures)
+    (c .before .before .before .before .before .before .before .before .before .before .before .before .before .before
+    .before .before .before .load .ensures)
     _
-    (c .before .before .before .before .before .before .before .before .before .before .before .before .before .before .before .if1 .left)
+    (c .before .before .before .before .before .before .before .before .before .before .before .before .before .before
+    .before .if1 .left)
     g (c .before .before .before .run .ensures) (c .before .store .ensures) (c .reply .ensures)
 
 pub feed-spec : {M : Type 1} → statement M

@@ -3,10 +3,18 @@ use Rattle.luma.proofs.inside_of.Statement.{statement}
 use Rattle.luma.proofs.inside_of.Tie as tie
 
 returns : tie.Need-returns
-returns c = rw (eq-eqb _ 0 (c .before .before .before .before .if1 .taken), eq-eqb _ 0 (c .before .before .if2 .taken), eq-eqb _ 0 (c .if3 .taken))
+returns c = rw (
+  eq-eqb _ 0 (c .before .before .before .before .if1 .taken),
+  eq-eqb _ 0 (c .before .before .if2 .taken),
+  eq-eqb _ 0 (c .if3 .taken),
+)
 
 returns-2 : tie.Need-returns-2
-returns-2 c = rw (eq-eqb _ 0 (c .before .before .before .before .if1 .taken), eq-eqb _ 0 (c .before .before .if2 .taken), ne-eqb _ 0 (c .if3 .left))
+returns-2 c = rw (
+  eq-eqb _ 0 (c .before .before .before .before .if1 .taken),
+  eq-eqb _ 0 (c .before .before .if2 .taken),
+  ne-eqb _ 0 (c .if3 .left),
+)
 
 returns-3 : tie.Need-returns-3
 returns-3 c = rw (eq-eqb _ 0 (c .before .before .if1 .taken), ne-eqb _ 0 (c .if2 .left))

@@ -12,7 +12,8 @@ inside-of-requires c κs = search needs
 
 returns : tie.Need-returns
 returns c =
-    summarised (c .before .before .args .luma .now) (c .before .load .result) _ (c .before .load .ensures) refl refl refl
+    summarised (c .before .before .args .luma .now) (c .before .load .result) _
+    (c .before .load .ensures) refl refl refl
     (c .inside-of .ensures) refl refl
 
 pub summarise-spec : {M : Type 1} → statement M

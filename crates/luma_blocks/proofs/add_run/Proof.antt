@@ -8,10 +8,13 @@ use Rattle.luma_blocks.proofs.add_run.Statement.{statement}
 use Rattle.luma_blocks.proofs.add_run.Tie as tie
 
 add-blocks-requires : tie.Need-add-blocks-requires
-add-blocks-requires c κs = let p = c .before .before .before .pre in record { some = p .some; few = p .few; room = p .room; narrow = omega (arith, p .narrow); inside = p .inside }
+add-blocks-requires c κs =
+    let p = c .before .before .before .pre in
+    record { some = p .some; few = p .few; room = p .room; narrow = omega (arith, p .narrow); inside = p .inside }
 
 returns : tie.Need-returns
-returns c = rw (c .before .before .if1 .taken, ← zero-mul (c .before .before .before .before .args .n)) (c .add-blocks .ensures)
+returns c = rw (c .before .before .if1 .taken, ← zero-mul (c .before .before .before .before .args .n))
+    (c .add-blocks .ensures)
 
 div-c : tie.Need-div-c
 div-c c = search needs
@@ -41,16 +44,34 @@ returns-2 c =
     rw (c .if2 .taken) at (c .before .part .ensures (a .n) (a .x) (p .some) lo (λ h. omega (arith, hi, e)))
 
 add-add-blocks : tie.Need-add-add-blocks
-add-add-blocks c = omega (arith, div-le-self (c .before .before .before .before .before .before .before .args .x) (c .before .before .before .before .before .before .before .args .n), c .before .before .before .before .before .before .before .pre .narrow)
+add-add-blocks c = omega (
+  arith,
+  div-le-self (c .before .before .before .before .before .before .before .args .x)
+      (c .before .before .before .before .before .before .before .args .n),
+  c .before .before .before .before .before .before .before .pre .narrow,
+)
 
 add-add-blocks-2 : tie.Need-add-add-blocks-2
-add-add-blocks-2 c = omega (arith, c .before .before .before .before .least .ensures .second, c .before .before .before .before .before .before .before .pre .inside)
+add-add-blocks-2 c = omega (
+  arith,
+  c .before .before .before .before .least .ensures .second,
+  c .before .before .before .before .before .before .before .pre .inside,
+)
 
 sub-add-blocks : tie.Need-sub-add-blocks
 sub-add-blocks c = omega (arith, c .before .before .before .before .least .ensures .second)
 
 add-blocks-requires-2 : tie.Need-add-blocks-requires-2
-add-blocks-requires-2 c κs = let p = c .before .before .before .before .before .before .before .pre in let e = c .before .before .before .before .least .ensures .second in record { some = p .some; few = p .few; room = p .room; narrow = omega (arith, p .narrow); inside = omega (arith, p .inside, e) }
+add-blocks-requires-2 c κs =
+    let p = c .before .before .before .before .before .before .before .pre in
+    let e = c .before .before .before .before .least .ensures .second in
+    record {
+      some = p .some;
+      few = p .few;
+      room = p .room;
+      narrow = omega (arith, p .narrow);
+      inside = omega (arith, p .inside, e);
+    }
 
 returns-3 : tie.Need-returns-3
 returns-3 c =
@@ -62,7 +83,8 @@ returns-3 c =
     let hi = lt-div-mul-add {a = a .x} (p .some) in
     let short : head < a .m = omega (arith, e .second, c .before .before .if2 .left) in
     let edge : a .x + head ≡ a .x / a .n * a .n + a .n = omega (arith, hi, e .full short) in
-    to-edge (a .n) (a .w) (a .x) (a .x / a .n) (a .s .now) (a .at) (a .m) head (p .some) lo edge (e .second) (p .inside) (c .before .before .before .part .ensures) (c .add-blocks2 .ensures)
+    to-edge (a .n) (a .w) (a .x) (a .x / a .n) (a .s .now) (a .at) (a .m) head (p .some) lo edge (e .second)
+    (p .inside) (c .before .before .before .part .ensures) (c .add-blocks2 .ensures)
 
 pub add-run-spec : {M : Type 1} → statement M
 add-run-spec =

@@ -17,7 +17,8 @@ whole-requires-5 : tie.Need-whole-requires-5
 whole-requires-5 c κs = rw (c .before .if5 .taken) at (c .before .before .before .before .before .before .before .pre)
 
 whole-requires-6 : tie.Need-whole-requires-6
-whole-requires-6 c κs = rw (c .before .if6 .taken) at (c .before .before .before .before .before .before .before .before .pre)
+whole-requires-6 c κs =
+    rw (c .before .if6 .taken) at (c .before .before .before .before .before .before .before .before .pre)
 
 whole-requires-7 : tie.Need-whole-requires-7
 whole-requires-7 c κs = c .before .before .before .before .before .before .before .before .pre

@@ -54,7 +54,10 @@ loop-less : tie.Need-loop-less Inv-loop μ-loop
 loop-less c = omega arith
 
 loop-again : tie.Need-loop-again Inv-loop μ-loop
-loop-again c = (omega arith, finished-more (c .before .before .before .loop .inv .1) (omega arith) (omega arith) (c .pixel-of .ensures))
+loop-again c = (
+  omega arith,
+  finished-more (c .before .before .before .loop .inv .1) (omega arith) (omega arith) (c .pixel-of .ensures),
+)
 
 returns : tie.Need-returns Inv-loop μ-loop
 returns c =

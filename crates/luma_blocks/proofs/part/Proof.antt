@@ -27,7 +27,8 @@ returns : tie.Need-returns
 returns c =
     let a = c .before .before .before .before .before .args in
     let p = c .before .before .before .before .before .pre in
-    part-in (a .s .now) (a .at) (a .t) (c .before .before .before .if1 .taken) (p .0) (p .1) (rw (← c .before .before .run-sum .ensures) (c .wrapping-add-u32 .ensures))
+    part-in (a .s .now) (a .at) (a .t) (c .before .before .before .if1 .taken) (p .0) (p .1)
+    (rw (← c .before .before .run-sum .ensures) (c .wrapping-add-u32 .ensures))
 
 returns-2 : tie.Need-returns-2
 returns-2 c n q p lo hi = added-past n _ q (c .before .before .args .c) _ _ p lo (c .if1 .left)

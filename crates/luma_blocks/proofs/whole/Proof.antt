@@ -46,7 +46,10 @@ element-write-sums : tie.Need-element-write-sums Inv-loop μ-loop
 element-write-sums c = search needs
 
 add-from : tie.Need-add-from Inv-loop μ-loop
-add-from c = omega (arith, inside (c .before .before .before .before .before .before .args .n) (c .before .before .before .loop-test .taken))
+add-from c = omega (
+  arith,
+  inside (c .before .before .before .before .before .before .args .n) (c .before .before .before .loop-test .taken),
+)
 
 add-j : tie.Need-add-j Inv-loop μ-loop
 add-j c = search needs
@@ -62,7 +65,8 @@ loop-again c =
     let here = l .inv .1 in (
       omega arith,
       omega (arith, add-mul (l .j) 1 (a .n)),
-      blocks-more (a .n) (a .c) _ (l .j) (a .s .now) (a .at) (l .inv .2) (omega (arith, h)) (rw (← here, ← c .before .before .run-sum .ensures) (c .wrapping-add-u32 .ensures)),
+      blocks-more (a .n) (a .c) _ (l .j) (a .s .now) (a .at) (l .inv .2) (omega (arith, h))
+          (rw (← here, ← c .before .before .run-sum .ensures) (c .wrapping-add-u32 .ensures)),
     )
 
 returns : tie.Need-returns Inv-loop μ-loop

@@ -45,7 +45,8 @@ returns c =
     (rw (q .before .rounds-to-nearest .ensures, q .before .before .opening-in .ensures) at (q .change-of .ensures))
     (q .before .before .before .before .score-of .ensures)
     (rw again at (c .before .before .before .before .note .ensures))
-    (rw (c .before .before .before .slot-of .ensures .0) at (c .before .clear .ensures)) (rw again at (c .next-picture .ensures))
+    (rw (c .before .before .before .slot-of .ensures .0) at (c .before .clear .ensures))
+    (rw again at (c .next-picture .ensures))
 
 pub end-picture-spec : {M : Type 1} → statement M
 end-picture-spec =

@@ -40,7 +40,13 @@ returns-2 : tie.Need-returns-2
 returns-2 c =
     record {
       early = λ h. absurd (omega arith);
-      later = λ h. rw (← c .before .before .before .before .before .slot-of .ensures .0, ← c .before .before .before .before .slot-of2 .ensures .0, ← c .before .before .before .slot-of3 .ensures .0, ← c .before .before .slot-of4 .ensures .0, ← c .before .slot-of5 .ensures .0) (c .least-of-six .ensures);
+      later = λ h. rw (
+        ← c .before .before .before .before .before .slot-of .ensures .0,
+        ← c .before .before .before .before .slot-of2 .ensures .0,
+        ← c .before .before .before .slot-of3 .ensures .0,
+        ← c .before .before .slot-of4 .ensures .0,
+        ← c .before .slot-of5 .ensures .0,
+      ) (c .least-of-six .ensures);
       small = c .before .before .before .before .before .before .before .first .ensures;
     }
 

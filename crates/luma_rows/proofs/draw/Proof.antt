@@ -14,7 +14,8 @@ plain-row-requires c κs = c .before .before .before .is-plain .ensures (c .befo
 returns : tie.Need-returns
 returns c =
     let p = c .before .before .before .before .before .before .pre in
-    took-plain _ _ (p .0) (c .before .before .before .before .is-plain .ensures (c .before .before .before .if1 .taken)) (c .plain-row .ensures)
+    took-plain _ _ (p .0) (c .before .before .before .before .is-plain .ensures
+    (c .before .before .before .if1 .taken)) (c .plain-row .ensures)
 
 feed-rows-requires : tie.Need-feed-rows-requires
 feed-rows-requires c κs =
@@ -35,15 +36,22 @@ end-row-requires : tie.Need-end-row-requires
 end-row-requires c κs =
     let p = c .before .before .before .before .before .before .before .before .before .before .before .before .pre in
     let a = c .before .before .before .before .before .before .before .before .before .before .before .before .args in
-    at-row-end (a .g) (a .s) (p .0) (p .1) (c .before .before .before .before .before .before .before .feed-rows .ensures) _
+    at-row-end (a .g) (a .s) (p .0) (p .1)
+    (c .before .before .before .before .before .before .before .feed-rows .ensures) _
     (c .before .before .before .before .before .before .moved-to .ensures) (c .before .before .before .if2 .taken)
 
 returns-2 : tie.Need-returns-2
 returns-2 c =
-    let p = c .before .before .before .before .before .before .before .before .before .before .before .before .before .pre in
-    let a = c .before .before .before .before .before .before .before .before .before .before .before .before .before .args in
+    let p =
+    c .before .before .before .before .before .before .before .before .before .before .before .before .before .pre in
+    let a =
+    c .before .before .before .before .before .before .before .before .before .before .before .before .before .args in
     to-row-end (a .g) (a .s) (p .0) (p .1)
-    (λ i. omega (arith, c .before .before .before .before .before .before .before .before .before .before .before .before .shared-slice-known .given i))
+    (λ i. omega (
+      arith,
+      c .before .before .before .before .before .before .before .before .before .before .before
+          .before .shared-slice-known .given i,
+    ))
     (c .before .before .before .before .before .before .before .before .feed-rows .ensures) _
     (c .before .before .before .before .before .before .before .moved-to .ensures) (c .end-row .ensures)
 
@@ -52,8 +60,12 @@ returns-3 c =
     let p = c .before .before .before .before .before .before .before .before .before .pre in
     let a = c .before .before .before .before .before .before .before .before .before .args in
     within-row (a .g) (a .s) (p .0) (p .1)
-    (λ i. omega (arith, c .before .before .before .before .before .before .before .before .shared-slice-known .given i))
-    (c .before .before .before .before .feed-rows .ensures) _ (c .before .before .before .moved-to .ensures) (c .if2 .left)
+    (λ i. omega (
+      arith,
+      c .before .before .before .before .before .before .before .before .shared-slice-known .given i,
+    ))
+    (c .before .before .before .before .feed-rows .ensures) _ (c .before .before .before .moved-to .ensures)
+    (c .if2 .left)
 
 pub draw-spec : {M : Type 1} → statement M
 draw-spec =

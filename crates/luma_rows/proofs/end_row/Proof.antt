@@ -6,7 +6,8 @@ use Rattle.luma_rows.proofs.end_row.Statement.{statement}
 use Rattle.luma_rows.proofs.end_row.Tie as tie
 
 mul-base : tie.Need-mul-base
-mul-base c = let p = c .before .pre in let a = c .before .args in omega (arith, row-room (a .g) (a .s) (p .line), p .fits .room)
+mul-base c =
+    let p = c .before .pre in let a = c .before .args in omega (arith, row-room (a .g) (a .s) (p .line), p .fits .room)
 
 keep-requires : tie.Need-keep-requires
 keep-requires c κs =
@@ -51,8 +52,10 @@ slice-aggregate-compare-run c = search needs
 
 compare-run-requires : tie.Need-compare-run-requires
 compare-run-requires c κs =
-    let p = c .before .before .before .before .before .before .before .before .before .before .before .before .before .before .before .before .pre in
-    let a = c .before .before .before .before .before .before .before .before .before .before .before .before .before .before .before .before .args in
+    let p = c .before .before .before .before .before .before .before .before .before .before .before .before .before
+    .before .before .before .pre in
+    let a = c .before .before .before .before .before .before .before .before .before .before .before .before .before
+    .before .before .before .args in
     record {
       kept-there = omega (arith, p .fits .narrow);
       made-there = omega (arith, row-room (a .g) (a .s) (p .line), p .fits .room);
@@ -61,18 +64,24 @@ compare-run-requires c κs =
 
 next-row-requires : tie.Need-next-row-requires
 next-row-requires c κs =
-    let p = c .before .before .before .before .before .before .before .before .before .before .before .before .before .before .before .before .before .pre in
+    let p = c .before .before .before .before .before .before .before .before .before .before .before .before .before
+    .before .before .before .before .pre in
     (p .fits, p .line)
 
 returns : tie.Need-returns
 returns c =
-    let p = c .before .before .before .before .before .before .before .before .before .before .before .before .before .before .before .before .before .before .pre in
-    let a = c .before .before .before .before .before .before .before .before .before .before .before .before .before .before .before .before .before .before .args in
+    let p = c .before .before .before .before .before .before .before .before .before .before .before .before .before
+    .before .before .before .before .before .pre in
+    let a = c .before .before .before .before .before .before .before .before .before .before .before .before .before
+    .before .before .before .before .before .args in
     row-ended (a .g) (a .s) (p .fits) (p .line) (p .row) (p .col) refl
-    (c .before .before .before .before .before .before .before .before .before .before .before .before .before .before .keep .ensures)
+    (c .before .before .before .before .before .before .before .before .before .before .before .before .before
+    .before .keep .ensures)
     (c .before .before .before .before .before .before .before .before .before .before .before .finish-row .ensures)
-    (rw (c .before .before .before .before .before .before .before .before .before .before .slot-of .ensures .0) at (c .before .before .before .before .before .before .count-row .ensures))
-    (c .before .before .before .before .before .moves-in .ensures) (c .before .compare-run .ensures) _ (c .next-row .ensures)
+    (rw (c .before .before .before .before .before .before .before .before .before .before .slot-of .ensures .0)
+    at (c .before .before .before .before .before .before .count-row .ensures))
+    (c .before .before .before .before .before .moves-in .ensures) (c .before .compare-run .ensures) _
+    (c .next-row .ensures)
 
 pub end-row-spec : {M : Type 1} → statement M
 end-row-spec =

@@ -1,4 +1,5 @@
--- `luma_scenes::count` meets its contract. The loop's invariant: the scenes counted and those from the start b on are all. The measure is the pictures that are left. Assumes nothing.
+-- `luma_scenes::count` meets its contract. The loop's invariant: the scenes counted and those from the start b on are
+-- all. The measure is the pictures that are left. Assumes nothing.
 use Prim.Native.Nat.{_-_, _≤_}
 use native.Mathlib.Omega.{arith}
 use borrow.Author.Needs.{needs}
@@ -28,8 +29,12 @@ loop-again : tie.Need-loop-again Inv-loop μ-loop
 loop-again c =
     let a = c .before .before .before .args in
     let l = c .before .before .loop in
-    let m = c .next-start .ensures .more (c .before .loop-test .taken) in
-    (omega arith, omega arith, tallied-more (a .luma .now) (a .n) (a .d) (l .scenes) (l .b) (c .next-start .result) (l .inv .2) (c .before .loop-test .taken) (c .next-start .ensures))
+    let m = c .next-start .ensures .more (c .before .loop-test .taken) in (
+      omega arith,
+      omega arith,
+      tallied-more (a .luma .now) (a .n) (a .d) (l .scenes) (l .b) (c .next-start .result) (l .inv .2)
+          (c .before .loop-test .taken) (c .next-start .ensures),
+    )
 
 returns : tie.Need-returns Inv-loop μ-loop
 returns c =

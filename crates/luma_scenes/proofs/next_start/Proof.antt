@@ -1,4 +1,5 @@
--- `luma_scenes::next_start` meets its contract. The loop's invariant: no start before picture i, and the sum of the scores since b. The measure is what is left. Assumes nothing.
+-- `luma_scenes::next_start` meets its contract. The loop's invariant: no start before picture i, and the sum of the
+-- scores since b. The measure is what is left. Assumes nothing.
 use Prim.Native.Nat.{_-_, _*_, _≤_, _<_}
 use native.Mathlib.Omega.{arith}
 use mathlib.Core.Path.{refl, sym, _∙_}
@@ -22,7 +23,9 @@ add-i : tie.Need-add-i Inv-loop μ-loop
 add-i c = omega arith
 
 loop-holds : tie.Need-loop-holds Inv-loop μ-loop
-loop-holds c = let a = c .before .before .args in (omega arith, omega arith, omega arith, seeks-first (a .luma .now) (a .n) (a .d) (a .b))
+loop-holds c =
+    let a = c .before .before .args in
+    (omega arith, omega arith, omega arith, seeks-first (a .luma .now) (a .n) (a .d) (a .b))
 
 add-figure : tie.Need-add-figure Inv-loop μ-loop
 add-figure c = omega arith
@@ -43,7 +46,9 @@ returns-3 : tie.Need-returns-3 Inv-loop μ-loop
 returns-3 c =
     let a = c .before .before .before .before .before .before .before .args in
     let l = c .before .before .before .before .loop in
-    seeks-found (a .luma .now) (a .n) (a .d) (a .b) (l .sum) (l .i) (l .inv .3) (l .inv .0) (c .before .before .figure .result) _ (c .before .before .figure .ensures) refl (c .before .before .before .loop-test .taken) (sym (c .if3 .taken) ∙ c .before .starts-scene .ensures)
+    seeks-found (a .luma .now) (a .n) (a .d) (a .b) (l .sum) (l .i) (l .inv .3) (l .inv .0)
+    (c .before .before .figure .result) _ (c .before .before .figure .ensures) refl
+    (c .before .before .before .loop-test .taken) (sym (c .if3 .taken) ∙ c .before .starts-scene .ensures)
 
 add-i-2 : tie.Need-add-i-2 Inv-loop μ-loop
 add-i-2 c = omega arith
@@ -54,8 +59,14 @@ loop-less c = omega arith
 loop-again : tie.Need-loop-again Inv-loop μ-loop
 loop-again c =
     let a = c .before .before .before .before .before .before .before .args in
-    let l = c .before .before .before .before .loop in
-    (omega arith, omega arith, omega arith, seeks-more (a .luma .now) (a .n) (a .d) (a .b) (l .sum) (l .i) (l .inv .3) (l .inv .0) (c .before .before .figure .result) _ (c .before .before .figure .ensures) refl (c .before .before .before .loop-test .taken) (sym (c .if3 .left) ∙ c .before .starts-scene .ensures))
+    let l = c .before .before .before .before .loop in (
+      omega arith,
+      omega arith,
+      omega arith,
+      seeks-more (a .luma .now) (a .n) (a .d) (a .b) (l .sum) (l .i) (l .inv .3) (l .inv .0)
+          (c .before .before .figure .result) _ (c .before .before .figure .ensures) refl
+          (c .before .before .before .loop-test .taken) (sym (c .if3 .left) ∙ c .before .starts-scene .ensures),
+    )
 
 returns-4 : tie.Need-returns-4 Inv-loop μ-loop
 returns-4 c =

@@ -1,4 +1,5 @@
--- `luma_scenes::repeated` meets its contract. The loop's invariant: those found and those still to come are all. The measure is what is left. Assumes nothing.
+-- `luma_scenes::repeated` meets its contract. The loop's invariant: those found and those still to come are all. The
+-- measure is what is left. Assumes nothing.
 use Prim.Native.Nat.{_-_, _≤_}
 use native.Mathlib.Omega.{arith}
 use Rattle.luma_scenes.proofs.Loops.{Counted, counted-more, counted-all, bit-small}
@@ -30,8 +31,13 @@ loop-again : tie.Need-loop-again Inv-loop μ-loop
 loop-again c =
     let b = c .before .before .before in
     let l = c .before .before .loop in
-    let s = bit-small (b .args .luma .now) (l .k) in
-    (omega arith, omega arith, omega arith, counted-more (b .args .luma .now) (b .args .i) (b .args .j) (l .found) (l .k) (c .repeat-bit .result) (l .inv .3) (c .before .loop-test .taken) (c .repeat-bit .ensures))
+    let s = bit-small (b .args .luma .now) (l .k) in (
+      omega arith,
+      omega arith,
+      omega arith,
+      counted-more (b .args .luma .now) (b .args .i) (b .args .j) (l .found) (l .k) (c .repeat-bit .result) (l .inv .3)
+          (c .before .loop-test .taken) (c .repeat-bit .ensures),
+    )
 
 returns : tie.Need-returns Inv-loop μ-loop
 returns c =
@@ -39,7 +45,8 @@ returns c =
     let l = c .before .loop in
     record {
       most = omega arith;
-      repeated = counted-all (b .args .luma .now) (b .args .i) (b .args .j) (l .found) (l .k) (l .inv .3) (c .loop-test .left);
+      repeated = counted-all (b .args .luma .now) (b .args .i) (b .args .j) (l .found) (l .k) (l .inv .3)
+          (c .loop-test .left);
     }
 
 pub repeated-spec : {M : Type 1} → statement M

@@ -62,8 +62,16 @@ returns-3 c =
     let peak = c .before .before .before .peak in
     let changes = c .before .total2 in
     λ n ss rs qs h g f.
-    rw (c .before .before .before .before .before .before .before .before .low .ensures, c .before .before .before .before .before .before .low2 .ensures, c .before .before .before .before .low3 .ensures, c .before .before .low4 .ensures, c .low5 .ensures)
-    (row-is (a .luma .now) (a .i) (a .j) (repeats .result) (run .result) (scores .result) (peak .result) (changes .result) (repeats .ensures) (run .ensures) (scores .ensures) (peak .ensures) (changes .ensures) n ss rs qs h g f)
+    rw (
+      c .before .before .before .before .before .before .before .before .low .ensures,
+      c .before .before .before .before .before .before .low2 .ensures,
+      c .before .before .before .before .low3 .ensures,
+      c .before .before .low4 .ensures,
+      c .low5 .ensures,
+    )
+    (row-is (a .luma .now) (a .i) (a .j) (repeats .result) (run .result) (scores .result)
+    (peak .result) (changes .result) (repeats .ensures) (run .ensures) (scores .ensures) (peak .ensures)
+    (changes .ensures) n ss rs qs h g f)
 
 pub scene-row-spec : {M : Type 1} → statement M
 scene-row-spec =

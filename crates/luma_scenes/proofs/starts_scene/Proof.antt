@@ -25,10 +25,14 @@ module _ (d n s sum : ℕ) where
   by-mean h k = rw (le-leb 600000 (n * d) h, lt-ltb 1000 s k)
 
 mul-if1 : tie.Need-mul-if1
-mul-if1 c = omega (arith, mul-le-mul {n₁ = c .args .n} {m₁ = c .args .d} {n₂ = 750} {m₂ = 4294967296} (omega arith) (omega arith))
+mul-if1 c = omega (
+  arith,
+  mul-le-mul {n₁ = c .args .n} {m₁ = c .args .d} {n₂ = 750} {m₂ = 4294967296} (omega arith) (omega arith),
+)
 
 returns : tie.Need-returns
-returns c = too-short (c .before .args .d) (c .before .args .n) (c .before .args .s) (c .before .args .sum) (c .if1 .taken)
+returns c =
+    too-short (c .before .args .d) (c .before .args .n) (c .before .args .s) (c .before .args .sum) (c .if1 .taken)
 
 returns-2 : tie.Need-returns-2
 returns-2 c = let a = c .before .before .args in no-cut (a .d) (a .n) (a .s) (a .sum) (c .if2 .taken)
@@ -45,7 +49,8 @@ mul-result-2 c =
     omega (arith, mul-le-mul {n₁ = a .s} {m₁ = a .n - 1} {n₂ = 4294967296} {m₂ = 750} (omega arith) (omega arith))
 
 returns-3 : tie.Need-returns-3
-returns-3 c = let a = c .before .before .args in by-mean (a .d) (a .n) (a .s) (a .sum) (c .before .if1 .left) (c .if2 .left)
+returns-3 c =
+    let a = c .before .before .args in by-mean (a .d) (a .n) (a .s) (a .sum) (c .before .if1 .left) (c .if2 .left)
 
 pub starts-scene-spec : {M : Type 1} → statement M
 starts-scene-spec = tie.close (tie.spec mul-if1 returns returns-2 mul-result sub-result mul-result-2 returns-3)

@@ -60,8 +60,13 @@ loop-less c = omega arith
 loop-again : tie.Need-loop-again Inv-loop μ-loop
 loop-again c =
     let l = c .before .before .before .before .before .before .before .before .before .before .loop in
-    let a = c .before .before .before .before .before .before .before .before .before .before .before .before .args in
-    (omega arith, three-more (a .base) (a .t) (a .x) (a .y) (a .z) (l .i) (a .pixels .now) (l .inv .1) (omega arith) (omega arith) (omega arith) (c .before .before .before .before .before .before .count .ensures) (c .before .before .before .count2 .ensures) (c .count3 .ensures))
+    let a =
+    c .before .before .before .before .before .before .before .before .before .before .before .before .args in (
+      omega arith,
+      three-more (a .base) (a .t) (a .x) (a .y) (a .z) (l .i) (a .pixels .now) (l .inv .1) (omega arith)
+          (omega arith) (omega arith) (c .before .before .before .before .before .before .count .ensures)
+          (c .before .before .before .count2 .ensures) (c .count3 .ensures),
+    )
 
 returns : tie.Need-returns Inv-loop μ-loop
 returns c =

@@ -43,45 +43,65 @@ count-columns-requires c κs =
 
 add-count-last : tie.Need-add-count-last
 add-count-last c =
-    let e = edges (c .before .before .before .before .pre .boundary) (c .before .before .before .before .pre .boundary-2) in omega arith
+    let e =
+    edges (c .before .before .before .before .pre .boundary) (c .before .before .before .before .pre .boundary-2) in
+    omega arith
 
 sub-count-last : tie.Need-sub-count-last
 sub-count-last c =
-    let e = edges (c .before .before .before .before .pre .boundary) (c .before .before .before .before .pre .boundary-2) in omega arith
+    let e =
+    edges (c .before .before .before .before .pre .boundary) (c .before .before .before .before .pre .boundary-2) in
+    omega arith
 
 count-last-requires : tie.Need-count-last-requires
 unfolding third
 count-last-requires c κs =
-    let e = edges (c .before .before .before .before .pre .boundary) (c .before .before .before .before .pre .boundary-2) in
-    let t = third-small (c .before .before .before .before .args .h) (c .before .before .before .before .args .r) (c .before .before .before .before .pre .inside) in
+    let e =
+    edges (c .before .before .before .before .pre .boundary) (c .before .before .before .before .pre .boundary-2) in
+    let t = third-small (c .before .before .before .before .args .h) (c .before .before .before .before .args .r)
+    (c .before .before .before .before .pre .inside) in
     (omega arith, omega arith, omega arith, omega arith)
 
 add-count-last-2 : tie.Need-add-count-last-2
 unfolding third
 add-count-last-2 c =
-    let t = third-small (c .before .before .before .before .before .before .args .h) (c .before .before .before .before .before .before .args .r) (c .before .before .before .before .before .before .pre .inside) in omega arith
+    let t = third-small (c .before .before .before .before .before .before .args .h)
+    (c .before .before .before .before .before .before .args .r)
+    (c .before .before .before .before .before .before .pre .inside) in
+    omega arith
 
 add-count-last-3 : tie.Need-add-count-last-3
 add-count-last-3 c =
-    let e = edges (c .before .before .before .before .before .before .pre .boundary) (c .before .before .before .before .before .before .pre .boundary-2) in omega arith
+    let e = edges (c .before .before .before .before .before .before .pre .boundary)
+    (c .before .before .before .before .before .before .pre .boundary-2) in
+    omega arith
 
 add-count-last-4 : tie.Need-add-count-last-4
 add-count-last-4 c =
-    let e = edges (c .before .before .before .before .before .before .pre .boundary) (c .before .before .before .before .before .before .pre .boundary-2) in omega arith
+    let e = edges (c .before .before .before .before .before .before .pre .boundary)
+    (c .before .before .before .before .before .before .pre .boundary-2) in
+    omega arith
 
 sub-count-last-2 : tie.Need-sub-count-last-2
 sub-count-last-2 c =
-    let e = edges (c .before .before .before .before .before .before .pre .boundary) (c .before .before .before .before .before .before .pre .boundary-2) in omega arith
+    let e = edges (c .before .before .before .before .before .before .pre .boundary)
+    (c .before .before .before .before .before .before .pre .boundary-2) in
+    omega arith
 
 sub-count-last-3 : tie.Need-sub-count-last-3
 sub-count-last-3 c =
-    let e = edges (c .before .before .before .before .before .before .pre .boundary) (c .before .before .before .before .before .before .pre .boundary-2) in omega arith
+    let e = edges (c .before .before .before .before .before .before .pre .boundary)
+    (c .before .before .before .before .before .before .pre .boundary-2) in
+    omega arith
 
 count-last-requires-2 : tie.Need-count-last-requires-2
 unfolding third
 count-last-requires-2 c κs =
-    let e = edges (c .before .before .before .before .before .before .pre .boundary) (c .before .before .before .before .before .before .pre .boundary-2) in
-    let t = third-small (c .before .before .before .before .before .before .args .h) (c .before .before .before .before .before .before .args .r) (c .before .before .before .before .before .before .pre .inside) in
+    let e = edges (c .before .before .before .before .before .before .pre .boundary)
+    (c .before .before .before .before .before .before .pre .boundary-2) in
+    let t = third-small (c .before .before .before .before .before .before .args .h)
+    (c .before .before .before .before .before .before .args .r)
+    (c .before .before .before .before .before .before .pre .inside) in
     (omega arith, omega arith, omega arith, omega arith)
 
 returns : tie.Need-returns
@@ -90,7 +110,9 @@ returns c =
     let a = c .before .before .before .before .before .before .before .args in
     let p = c .before .before .before .before .before .before .before .pre in
     let e = edges (p .boundary) (p .boundary-2) in
-    row-counted (a .w) (a .h) (a .r) (a .base) _ _ _ (a .pixels .now) (e .second) (e .third) refl (p .wide) (p .there) (c .before .before .before .before .count-columns .ensures) (c .before .before .count-last .ensures) (c .count-last2 .ensures)
+    row-counted (a .w) (a .h) (a .r) (a .base) _ _ _ (a .pixels .now) (e .second) (e .third) refl (p .wide)
+    (p .there) (c .before .before .before .before .count-columns .ensures) (c .before .before .count-last .ensures)
+    (c .count-last2 .ensures)
 
 pub count-row-spec : {M : Type 1} → statement M
 count-row-spec =

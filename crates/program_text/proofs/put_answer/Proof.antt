@@ -34,7 +34,8 @@ same-length-2 c = search needs
 
 returns-2 : tie.Need-returns-2
 unfolding answerText
-returns-2 c = rw (c .before .before .before .before .before .before .a2 .given .1) (c .before .before .put-line2 .ensures)
+returns-2 c =
+    rw (c .before .before .before .before .before .before .a2 .given .1) (c .before .before .put-line2 .ensures)
 
 pub put-answer-spec : {M : Type 1} → statement M
 put-answer-spec =

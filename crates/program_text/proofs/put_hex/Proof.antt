@@ -1,4 +1,5 @@
--- `answers::put_hex` meets its contract. The invariant: the digits of the bytes passed stand at the front, and all else is as it was.
+-- `answers::put_hex` meets its contract. The invariant: the digits of the bytes passed stand at the
+-- front, and all else is as it was.
 use Prim.Native.Nat.{_+_, _*_, _-_, _≤_}
 use native.Mathlib.Omega.{arith}
 use mathlib.Core.Path.{_≡_, refl, ap, _∙_}
@@ -13,7 +14,8 @@ use Rattle.program_text.proofs.put_hex.Statement.{statement}
 use Rattle.program_text.proofs.put_hex.Tie as tie
 
 abbrev Inv-loop : tie.InvT-loop
-Inv-loop text₀ bytes i₀ text i = (i ≤ length bytes) × (length text ≡ length text₀) × (text ≡ over (hexText (take i bytes)) text₀)
+Inv-loop text₀ bytes i₀ text i =
+    (i ≤ length bytes) × (length text ≡ length text₀) × (text ≡ over (hexText (take i bytes)) text₀)
 
 abbrev μ-loop : tie.MeasureT-loop
 μ-loop text₀ bytes i₀ text i = length bytes - i
@@ -60,7 +62,8 @@ loop-again c =
     let turn = c .before .before .before .before .before .loop in
     let high = c .before .before .digit in
     let low = c .digit2 in
-    let more = byte-more (start .args .bytes .now) (start .args .text .now) (turn .text) (turn .i) (omega arith) (start .pre) (turn .inv .2) (high .result) (low .result) (high .ensures) (low .ensures) in
+    let more = byte-more (start .args .bytes .now) (start .args .text .now) (turn .text) (turn .i) (omega arith)
+    (start .pre) (turn .inv .2) (high .result) (low .result) (high .ensures) (low .ensures) in
     (omega arith, simp length-set (turn .inv .1), more)
 
 mul-result : tie.Need-mul-result Inv-loop μ-loop
@@ -73,7 +76,8 @@ returns : tie.Need-returns Inv-loop μ-loop
 returns c =
     let start = c .before .before .before .before in
     let last = c .before .loop in
-    let all = all-written (start .args .bytes .now) (start .args .text .now) (last .text) (last .i) (last .inv .0) (omega arith) (last .inv .2) in
+    let all = all-written (start .args .bytes .now) (start .args .text .now) (last .text) (last .i) (last .inv .0)
+    (omega arith) (last .inv .2) in
     (all .0, counted _ _ (omega arith), all .1)
 
 pub put-hex-spec : {M : Type 1} → statement M

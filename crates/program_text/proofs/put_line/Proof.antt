@@ -23,7 +23,8 @@ same-length c = search needs
 returns : tie.Need-returns
 unfolding lineOf
 returns c =
-    let start = c .before .before .before .before .before .before .before .before .before .before .before .before .before .before .before .before in
+    let start = c .before .before .before .before .before .before .before .before .before .before .before .before
+    .before .before .before .before in
     let first = c .before .before .before .before .before .before .before .before .before .before .put-text in
     let second = c .before .before .before .before .before .before .put-fields in
     let third = c .before .before .put-text2 in
@@ -34,8 +35,20 @@ returns c =
     (omega (arith, first .ensures .0, start .pre))
     (omega (arith, first .ensures .0, second .ensures .1, start .pre))
     (first .ensures) (second .ensures .0) (second .ensures .2) (third .ensures)
-    in
-    (whole .0, counted _ _ (omega (arith, first .ensures .0, second .ensures .1, third .ensures .0, third .kept .0, second .kept .0, first .kept .0, start .pre)), whole .1)
+    in (
+      whole .0,
+      counted _ _ (omega (
+        arith,
+        first .ensures .0,
+        second .ensures .1,
+        third .ensures .0,
+        third .kept .0,
+        second .kept .0,
+        first .kept .0,
+        start .pre,
+      )),
+      whole .1,
+    )
 
 pub put-line-spec : {M : Type 1} → statement M
 put-line-spec =

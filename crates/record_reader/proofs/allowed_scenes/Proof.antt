@@ -10,7 +10,8 @@ use Rattle.record_reader.proofs.allowed_scenes.Statement.{statement}
 use Rattle.record_reader.proofs.allowed_scenes.Tie as tie
 
 abbrev Inv-loop : tie.InvT-loop
-Inv-loop bytes place n pictures from₀ j₀ from j = (j ≤ n) × (from ≤ 4294967296 * j) × (allowedScenes pictures n 0 (drop place bytes) ≡ allowedScenes pictures (n - j) from (drop (place + 32 * j) bytes))
+Inv-loop bytes place n pictures from₀ j₀ from j = (j ≤ n) × (from ≤ 4294967296 * j) × (allowedScenes pictures n 0
+    (drop place bytes) ≡ allowedScenes pictures (n - j) from (drop (place + 32 * j) bytes))
 
 abbrev μ-loop : tie.MeasureT-loop
 μ-loop bytes place n pictures from₀ j₀ from j = n - j
@@ -41,7 +42,8 @@ returns c =
     let c₃ = c .before .before .before in
     let c₄ = c₃ .before in
     let c₆ = c₄ .before .before in
-    scenes-stop (c₆ .args .bytes .now) (c₆ .args .place) (c₆ .args .pictures) (c₆ .args .n) (c₄ .loop .j) (c₄ .loop .from)
+    scenes-stop (c₆ .args .bytes .now) (c₆ .args .place) (c₆ .args .pictures) (c₆ .args .n) (c₄ .loop .j)
+    (c₄ .loop .from)
     (c₃ .loop-test .taken) (c .before .allowed-scene .result) _ (c₄ .loop .inv .2) (c .before .allowed-scene .ensures)
     (not-true _ (c .if1 .taken))
 
@@ -66,7 +68,8 @@ loop-again c =
       omega arith,
       omega arith,
       scenes-more (c₇ .args .bytes .now) (c₇ .args .place) (c₇ .args .pictures) (c₇ .args .n) (c₅ .loop .j)
-          (c₅ .loop .from) (c₄ .loop-test .taken) (c₂ .allowed-scene .result) _ (c₅ .loop .inv .2) (c₂ .allowed-scene .ensures) (c .word .result)
+          (c₅ .loop .from) (c₄ .loop-test .taken) (c₂ .allowed-scene .result) _ (c₅ .loop .inv .2)
+          (c₂ .allowed-scene .ensures) (c .word .result)
           (c .word .ensures .0) (not-false _ (c .before .if1 .left)),
     )
 

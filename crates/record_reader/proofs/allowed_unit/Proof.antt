@@ -27,7 +27,13 @@ returns c =
     let c₂ = c .before .before in
     let c₃ = c₂ .before in
     let c₄ = c₃ .before in
-    rw (c₄ .word .ensures .0, c₃ .word64 .ensures, c₂ .word642 .ensures, c .before .word2 .ensures .0, c .word3 .ensures .0)
+    rw (
+      c₄ .word .ensures .0,
+      c₃ .word64 .ensures,
+      c₂ .word642 .ensures,
+      c .before .word2 .ensures .0,
+      c .word3 .ensures .0,
+    )
 
 pub allowed-unit-spec : {M : Type 1} → statement M
 allowed-unit-spec =

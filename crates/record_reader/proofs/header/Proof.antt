@@ -23,14 +23,16 @@ returns : tie.Need-returns
 returns c =
     let c₃ = c .before .before .before in
     let c₅ = c₃ .before .before in
-    header-given (c₅ .args .bytes .now) _ (accepted (c₅ .args .bytes .now) _ (c₃ .«open» .ensures) _ _ (c .before .enum-told .given .1) .fault)
+    header-given (c₅ .args .bytes .now) _
+    (accepted (c₅ .args .bytes .now) _ (c₃ .«open» .ensures) _ _ (c .before .enum-told .given .1) .fault)
     (c .header-figures .ensures)
 
 returns-2 : tie.Need-returns-2
 returns-2 c =
     let c₃ = c .before .before .before in
     let c₅ = c₃ .before .before in
-    header-refused (c₅ .args .bytes .now) _ _ (refused (c₅ .args .bytes .now) _ (c₃ .«open» .ensures) _ _ (c .before .number .given .1))
+    header-refused (c₅ .args .bytes .now) _ _
+    (refused (c₅ .args .bytes .now) _ (c₃ .«open» .ensures) _ _ (c .before .number .given .1))
 
 pub header-spec : {M : Type 1} → statement M
 header-spec =

@@ -19,7 +19,8 @@ returns-2 : tie.Need-returns-2
 returns-2 c =
     let c₃ = c .before .before .before in
     let c₅ = c₃ .before .before in
-    opened-edition (c₅ .args .bytes .now) (c₃ .if1 .left) _ (edition-is (c .before .is-edition .ensures) (c .before .before .word32 .ensures))
+    opened-edition (c₅ .args .bytes .now) (c₃ .if1 .left) _
+    (edition-is (c .before .is-edition .ensures) (c .before .before .word32 .ensures))
     (not-true _ (c .if2 .taken))
 
 allowed-requires : tie.Need-allowed-requires

@@ -17,7 +17,11 @@ unit-row-requires c κs =
     let c₂ = c .before .before in
     let c₄ = c₂ .before .before in
     let c₆ = c₄ .before .before in
-    omega (arith, (accepted (c₆ .args .bytes .now) _ (c₄ .«open» .ensures) _ _ (c₂ .units .given .1)) .size, c .if1 .taken)
+    omega (
+      arith,
+      (accepted (c₆ .args .bytes .now) _ (c₄ .«open» .ensures) _ _ (c₂ .units .given .1)) .size,
+      c .if1 .taken,
+    )
 
 enum-known-number : tie.Need-enum-known-number
 enum-known-number c = search needs
@@ -27,7 +31,8 @@ returns c =
     let c₃ = c .before .before .before in
     let c₅ = c₃ .before .before in
     let c₇ = c₅ .before .before in
-    unit-given (c₇ .args .bytes .now) (c₇ .args .j) _ _ _ (accepted (c₇ .args .bytes .now) _ (c₅ .«open» .ensures) _ _ (c₃ .units .given .1))
+    unit-given (c₇ .args .bytes .now) (c₇ .args .j) _ _ _
+    (accepted (c₇ .args .bytes .now) _ (c₅ .«open» .ensures) _ _ (c₃ .units .given .1))
     (c .before .if1 .taken) (c .unit-row .ensures)
 
 returns-2 : tie.Need-returns-2
@@ -35,7 +40,8 @@ returns-2 c =
     let c₂ = c .before .before in
     let c₄ = c₂ .before .before in
     let c₆ = c₄ .before .before in
-    unit-missing (c₆ .args .bytes .now) (c₆ .args .j) _ _ (accepted (c₆ .args .bytes .now) _ (c₄ .«open» .ensures) _ _ (c₂ .units .given .1))
+    unit-missing (c₆ .args .bytes .now) (c₆ .args .j) _ _
+    (accepted (c₆ .args .bytes .now) _ (c₄ .«open» .ensures) _ _ (c₂ .units .given .1))
     (c .if1 .left)
 
 returns-3 : tie.Need-returns-3

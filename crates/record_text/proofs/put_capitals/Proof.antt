@@ -13,7 +13,8 @@ use Rattle.record_text.proofs.put_capitals.Statement.{statement}
 use Rattle.record_text.proofs.put_capitals.Tie as tie
 
 abbrev Inv-loop : tie.InvT-loop
-Inv-loop buffer₀ at text i₀ buffer i = (i ≤ length text) × (length buffer ≡ length buffer₀) × (buffer ≡ written at (take i (map capital text)) buffer₀)
+Inv-loop buffer₀ at text i₀ buffer i =
+    (i ≤ length text) × (length buffer ≡ length buffer₀) × (buffer ≡ written at (take i (map capital text)) buffer₀)
 
 abbrev μ-loop : tie.MeasureT-loop
 μ-loop buffer₀ at text i₀ buffer i = length text - i
@@ -49,7 +50,8 @@ loop-again c =
       omega arith,
       simp length-set (omega arith),
       ap (λ (b : List ℕ). set b (c₆ .args .at + c₃ .loop .i) (c .capital .result)) (c₃ .loop .inv .2)
-          ∙ capital-more (c₆ .args .buffer .now) (c₆ .args .text .now) (c₆ .args .at) (c₃ .loop .i) (c .capital .result) (c₆ .pre)
+          ∙ capital-more (c₆ .args .buffer .now) (c₆ .args .text .now) (c₆ .args .at) (c₃ .loop .i)
+          (c .capital .result) (c₆ .pre)
           (c₂ .loop-test .taken) (c .capital .ensures),
     )
 
@@ -64,7 +66,8 @@ returns c =
     let c₄ = c .before .before .before .before in (
       omega arith,
       c .before .loop .inv .2 ∙ ap (λ (x : List ℕ). written (c₄ .args .at) x (c₄ .args .buffer .now))
-          (take-all (c .before .loop .i) (map capital (c₄ .args .text .now)) (omega (arith, length-map (c₄ .args .text .now) capital))),
+          (take-all (c .before .loop .i) (map capital (c₄ .args .text .now))
+          (omega (arith, length-map (c₄ .args .text .now) capital))),
     )
 
 pub put-capitals-spec : {M : Type 1} → statement M

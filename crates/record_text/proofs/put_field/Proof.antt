@@ -24,7 +24,8 @@ put-text-requires : tie.Need-put-text-requires
 put-text-requires c κs =
     let c₂ = c .before .before in
     let c₅ = c₂ .before .before .before in
-    field-room (c₅ .args .buffer .now) (c₅ .args .at) (c₅ .args .n) _ _ (c₅ .fits .n .fits) (c₂ .decimal .ensures .1 .0)
+    field-room (c₅ .args .buffer .now) (c₅ .args .at) (c₅ .args .n) _ _ (c₅ .fits .n .fits)
+    (c₂ .decimal .ensures .1 .0)
     (c₂ .decimal .ensures .1 .1) (c₅ .pre)
 
 same-length : tie.Need-same-length
@@ -38,7 +39,8 @@ returns c =
     let c₂ = c .before .before in
     let c₅ = c₂ .before .before .before in
     let c₈ = c₅ .before .before .before in
-    field-written (c₈ .args .buffer .now) (c₈ .args .at) (c₈ .args .n) _ _ (c₈ .fits .n .fits) (c₅ .decimal .ensures .1 .0)
+    field-written (c₈ .args .buffer .now) (c₈ .args .at) (c₈ .args .n) _ _ (c₈ .fits .n .fits)
+    (c₅ .decimal .ensures .1 .0)
     (c₅ .decimal .ensures .1 .1) (c₈ .pre) _ _ (c₂ .put-text .ensures)
 
 pub put-field-spec : {M : Type 1} → statement M

@@ -10,7 +10,8 @@ use Rattle.record_text.proofs.put_fields.Statement.{statement}
 use Rattle.record_text.proofs.put_fields.Tie as tie
 
 abbrev Inv-loop : tie.InvT-loop
-Inv-loop buffer₀ at numbers end₀ i₀ buffer end i = (i ≤ length numbers) × (end ≡ at + length (fields (take i numbers))) × (end ≤ at + 21 * i) × (length buffer ≡ length buffer₀) × (buffer ≡ written at (fields (take i numbers)) buffer₀)
+Inv-loop buffer₀ at numbers end₀ i₀ buffer end i = (i ≤ length numbers) × (end ≡ at + length (fields (take i numbers)))
+    × (end ≤ at + 21 * i) × (length buffer ≡ length buffer₀) × (buffer ≡ written at (fields (take i numbers)) buffer₀)
 
 abbrev μ-loop : tie.MeasureT-loop
 μ-loop buffer₀ at numbers end₀ i₀ buffer end i = length numbers - i
@@ -18,7 +19,8 @@ abbrev μ-loop : tie.MeasureT-loop
 loop-holds : tie.Need-loop-holds Inv-loop μ-loop
 loop-holds c =
     let c₂ = c .before .before in
-    let z = no-fields (c₂ .args .buffer .now) (c₂ .args .numbers .now) (c₂ .args .at) in (omega arith, z .0, omega arith, omega arith, z .1)
+    let z = no-fields (c₂ .args .buffer .now) (c₂ .args .numbers .now) (c₂ .args .at) in
+    (omega arith, z .0, omega arith, omega arith, z .1)
 
 mul-put-field : tie.Need-mul-put-field Inv-loop μ-loop
 mul-put-field c = omega arith
@@ -41,8 +43,10 @@ loop-again c =
     let c₅ = c₂ .before .before .before in
     let c₆ = c₅ .before in
     let c₉ = c₆ .before .before .before in
-    let z = fields-step (c₉ .args .numbers .now) (c₉ .args .buffer .now) (c₆ .loop .buffer) (c₂ .put-field .last .0) (c₉ .args .at)
-    (c₆ .loop .i) (c₆ .loop .end) (c₂ .put-field .result) (c₅ .loop-test .taken) (omega arith) (c₆ .loop .inv .1) (c₆ .loop .inv .4)
+    let z = fields-step (c₉ .args .numbers .now) (c₉ .args .buffer .now) (c₆ .loop .buffer) (c₂ .put-field .last .0)
+    (c₉ .args .at)
+    (c₆ .loop .i) (c₆ .loop .end) (c₂ .put-field .result) (c₅ .loop-test .taken) (omega arith) (c₆ .loop .inv .1)
+    (c₆ .loop .inv .4)
     (c₂ .put-field .ensures .0) (c₂ .put-field .ensures .2) in
     (omega arith, z .0, omega (arith, c₂ .put-field .ensures .1), omega (arith, c₂ .put-field .kept .0), z .1)
 

@@ -24,7 +24,8 @@ put-capitals-requires : tie.Need-put-capitals-requires
 put-capitals-requires c κs =
     let c₂ = c .before .before in
     let c₅ = c₂ .before .before .before in
-    hex-room (c₅ .args .buffer .now) (c₅ .args .at) (c₅ .args .n) _ _ (c₅ .fits .n .fits) (c₂ .hex .ensures .1 .0) (c₂ .hex .ensures .1 .1)
+    hex-room (c₅ .args .buffer .now) (c₅ .args .at) (c₅ .args .n) _ _ (c₅ .fits .n .fits) (c₂ .hex .ensures .1 .0)
+    (c₂ .hex .ensures .1 .1)
     (c₅ .pre)
 
 same-length : tie.Need-same-length
@@ -38,7 +39,8 @@ returns c =
     let c₂ = c .before .before in
     let c₅ = c₂ .before .before .before in
     let c₈ = c₅ .before .before .before in
-    hex-written (c₈ .args .buffer .now) (c₈ .args .at) (c₈ .args .n) _ _ (c₈ .fits .n .fits) (c₅ .hex .ensures .1 .0) (c₅ .hex .ensures .1 .1)
+    hex-written (c₈ .args .buffer .now) (c₈ .args .at) (c₈ .args .n) _ _ (c₈ .fits .n .fits) (c₅ .hex .ensures .1 .0)
+    (c₅ .hex .ensures .1 .1)
     (c₈ .pre) _ _ (c₂ .put-capitals .ensures)
 
 pub put-hex-spec : {M : Type 1} → statement M

@@ -10,7 +10,8 @@ use Rattle.record_text.proofs.put_text.Statement.{statement}
 use Rattle.record_text.proofs.put_text.Tie as tie
 
 abbrev Inv-loop : tie.InvT-loop
-Inv-loop buffer₀ at text i₀ buffer i = (i ≤ length text) × (length buffer ≡ length buffer₀) × (buffer ≡ written at (take i text) buffer₀)
+Inv-loop buffer₀ at text i₀ buffer i =
+    (i ≤ length text) × (length buffer ≡ length buffer₀) × (buffer ≡ written at (take i text) buffer₀)
 
 abbrev μ-loop : tie.MeasureT-loop
 μ-loop buffer₀ at text i₀ buffer i = length text - i
@@ -40,8 +41,10 @@ loop-again c =
       omega arith,
       simp length-set (omega arith),
       ap
-          (λ (b : List ℕ). set b (c₃ .args .at + c₂ .loop .i) (getD (c₃ .args .text .now) (c₂ .loop .i) 0)) (c₂ .loop .inv .2) ∙ byte-more
-          (c₃ .args .buffer .now) (c₃ .args .text .now) (c₃ .args .at) (c₂ .loop .i) (c₃ .pre) (c .before .loop-test .taken),
+          (λ (b : List ℕ). set b (c₃ .args .at + c₂ .loop .i) (getD (c₃ .args .text .now) (c₂ .loop .i) 0))
+          (c₂ .loop .inv .2) ∙ byte-more
+          (c₃ .args .buffer .now) (c₃ .args .text .now) (c₃ .args .at) (c₂ .loop .i) (c₃ .pre)
+          (c .before .loop-test .taken),
     )
 
 add-result : tie.Need-add-result Inv-loop μ-loop

@@ -77,14 +77,20 @@ returns c =
     let c₁₁ = c₇ .before .before .before .before in
     let c₁₆ = c₁₁ .before .before .before .before .before in
     let c₂₈ = c₁₆ .before .before .before .before .before .before .before .before .before .before .before .before in
-    line-of-four (115 ∷ 97 ∷ 109 ∷ 112 ∷ 108 ∷ 101 ∷ []) (fields (c₂₈ .args .h .width ∷ c₂₈ .args .h .height ∷ c₂₈ .args .h .time ∷
-    c₂₈ .args .h .pid ∷ c₂₈ .args .h .pictures ∷ c₂₈ .args .h .frames ∷ c₂₈ .args .h .skipped ∷ c₂₈ .args .h .bad ∷ []))
-    (32 ∷ hexIn 16 (c₂₈ .args .h .index)) (10 ∷ []) (c₂₈ .args .buffer .now) (c₁₆ .put-text .last .0) (c₁₁ .put-fields .last .0)
-    (c₇ .put-hex .last .0) (c₂ .put-text2 .last .0) (c₁₆ .put-text .result) (c₁₁ .put-fields .result) (c₇ .put-hex .result)
+    line-of-four (115 ∷ 97 ∷ 109 ∷ 112 ∷ 108 ∷ 101 ∷ [])
+    (fields (c₂₈ .args .h .width ∷ c₂₈ .args .h .height ∷ c₂₈ .args .h .time ∷
+    c₂₈ .args .h .pid ∷ c₂₈ .args .h .pictures ∷ c₂₈ .args .h .frames ∷ c₂₈ .args .h .skipped
+    ∷ c₂₈ .args .h .bad ∷ []))
+    (32 ∷ hexIn 16 (c₂₈ .args .h .index)) (10 ∷ []) (c₂₈ .args .buffer .now) (c₁₆ .put-text .last .0)
+    (c₁₁ .put-fields .last .0)
+    (c₇ .put-hex .last .0) (c₂ .put-text2 .last .0) (c₁₆ .put-text .result) (c₁₁ .put-fields .result)
+    (c₇ .put-hex .result)
     (c₂ .put-text2 .result) (omega (arith, c₁₆ .put-text .ensures .0, c₂₈ .pre))
     (omega (arith, c₁₆ .put-text .ensures .0, c₁₁ .put-fields .ensures .1, c₂₈ .pre))
-    (omega (arith, c₁₆ .put-text .ensures .0, c₁₁ .put-fields .ensures .1, c₇ .put-hex .ensures .0, c₂₈ .pre)) (c₁₆ .put-text .ensures)
-    (c₁₁ .put-fields .ensures .0) (c₁₁ .put-fields .ensures .2) (omega (arith, c₇ .put-hex .ensures .0, length-hex 16 (c₂₈ .args .h .index)))
+    (omega (arith, c₁₆ .put-text .ensures .0, c₁₁ .put-fields .ensures .1, c₇ .put-hex .ensures .0, c₂₈ .pre))
+    (c₁₆ .put-text .ensures)
+    (c₁₁ .put-fields .ensures .0) (c₁₁ .put-fields .ensures .2)
+    (omega (arith, c₇ .put-hex .ensures .0, length-hex 16 (c₂₈ .args .h .index)))
     (c₇ .put-hex .ensures .1) (c₂ .put-text2 .ensures)
 
 pub sample-line-spec : {M : Type 1} → statement M

@@ -24,7 +24,8 @@ returns-2 : tie.Need-returns-2
 returns-2 c =
     let c₂ = c .before .before in
     let c₄ = c₂ .before .before in
-    counts-refused (c₄ .args .bytes .now) _ _ (refused (c₄ .args .bytes .now) _ (c₂ .«open» .ensures) _ _ (c .enum-told .given .1))
+    counts-refused (c₄ .args .bytes .now) _ _
+    (refused (c₄ .args .bytes .now) _ (c₂ .«open» .ensures) _ _ (c .enum-told .given .1))
 
 pub counts-in-spec : {M : Type 1} → statement M
 counts-in-spec = tie.close (tie.spec open-requires enum-known-units enum-told returns returns-2)

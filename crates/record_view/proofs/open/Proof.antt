@@ -1,7 +1,8 @@
 -- `record_view::open` meets its contract: a walk of its MIR, by hand. `counts_in` is called on the slice, and a view
 -- is made of the slice and the counts that it returns, in the result's local. All that the proof knows of `counts_in`
 -- is that it meets its contract.
--- A `&[u8]` is Copy, so what it owns is had three times: for the call, for the slice at exit, and inside the result, beside the facts of the counts.
+-- A `&[u8]` is Copy, so what it owns is had three times: for the call, for the slice at exit, and inside the result,
+-- beside the facts of the counts.
 use mathlib.Core.Path.{_≡_, refl, ap}
 use Prim.Native.Nat.{ℕ, _<_, _^_}
 use mathlib.Core.List.{List, [], _∷_}
@@ -18,9 +19,11 @@ use prog.Wp.{Heap, Calls, Loops, WpFn, Tables}
 use ghost.Atoms.{Atoms, sem}
 use contract.Monad.{Fun, fact}
 use contract.Running.{givenOf, tables, tablesOf}
-use types.Kit.{Given, ‵, raw, _⊛_, ⋆, some, later, _$_, _∵_, !, qed, by, move, drop, use1, use2, rewrite, split, join, pick, fsplit, fjoin, suffices, frame, await, done}
+use types.Kit.{Given, ‵, raw, _⊛_, ⋆, some, later, _$_, _∵_, !, qed, by, move, drop, use1, use2, rewrite, split, join}
+use types.Kit.{pick, fsplit, fjoin, suffices, frame, await, done}
 use types.Part.{whole, sub, look-in, agg}
-use types.Run.{look, init, forget, stop, fld, from, load, and-then, no-more, assigns, land, returns, enter, alloc1, alloc0, params1, pass1, pass0, free1, free0}
+use types.Run.{look, init, forget, stop, fld, from, load, and-then, no-more, assigns, land, returns, enter, alloc1}
+use types.Run.{alloc0, params1, pass1, pass0, free1, free0}
 use sound.WpLaws.{FmC, fmOf, WpFn-mono}
 use denote.RattleType.{owns}
 use denote.Laws.{Is, shows}
@@ -70,7 +73,8 @@ module _ {M : Type 1} (𝓤 : URA M) (H : Heap 𝓤) (A : Atoms 𝓤) (mem : Mem
   abbrev Counting : Contract 𝓤
   Counting = tripleOf 𝓤 H A counting.signature (counting.spec 𝓤 H A mem run)
 
-module _ {M : Type 1} (𝓤 : URA M) (H : Heap 𝓤) (A : Atoms 𝓤) (W : Given 𝓤 H A) (mem : Memory → SProp 𝓤) (run : Routine → Fun 𝓤) (κ : Lft) (q : Share) (s : RefT (List ℕ)) where
+module _ {M : Type 1} (𝓤 : URA M) (H : Heap 𝓤) (A : Atoms 𝓤) (W : Given 𝓤 H A) (mem : Memory → SProp 𝓤)
+    (run : Routine → Fun 𝓤) (κ : Lft) (q : Share) (s : RefT (List ℕ)) where
   abbrev α : NamedLft
   α = namedLft 1 0 tt (κ, tt)
 
@@ -86,7 +90,8 @@ module _ {M : Type 1} (𝓤 : URA M) (H : Heap 𝓤) (A : Atoms 𝓤) (W : Given
   Known n = (n .units ≡ unitsOf (now s)) × (n .scenes ≡ scenesOf (now s))
 
   abbrev Post : Val → SProp 𝓤
-  Post = walkOf 𝓤 H A opening.ended stayed (opening.clauses 𝓤 H A mem run) .post (((κ, tt), (q, tt), tt, (s, tt), (v ∷ [], tt)), tt)
+  Post = walkOf 𝓤 H A opening.ended stayed (opening.clauses 𝓤 H A mem run) .post
+      (((κ, tt), (q, tt), tt, (s, tt), (v ∷ [], tt)), tt)
 
   abbrev Own : Fml
   Own = ShrSlice (named 0) κ u8 .own s (v ∷ [])
@@ -94,54 +99,89 @@ module _ {M : Type 1} (𝓤 : URA M) (H : Heap 𝓤) (A : Atoms 𝓤) (W : Given
   abbrev to : Counting 𝓤 H A mem run .Ghost
   to = (((κ, tt), (q, tt), tt, (s, tt), (v ∷ [], tt)), tt)
 
-  goes : ent 𝓤 (onEntry 𝓤 H A opening.signature (κ, tt) (q, tt) (s, tt) (v ∷ [], tt)) (sep 𝓤 (Counting 𝓤 H A mem run .pre to) (sem 𝓤 H A Own))
+  goes : ent 𝓤 (onEntry 𝓤 H A opening.signature (κ, tt) (q, tt) (s, tt) (v ∷ [], tt))
+      (sep 𝓤 (Counting 𝓤 H A mem run .pre to) (sem 𝓤 H A Own))
   goes =
       qed W ((‵ (flft κ q) ⊛ ‵ ftrue) ∷ ‵ (owns (ShrSlice (named 0) κ u8 ∷ []) (s, tt) (v ∷ [], tt)) ∷ []) ∵
-      move ! (1 ∷ []) $ fsplit ! $ use1 W (‵ Own ⊛ ‵ Own) (shr-slice-copy 𝓤 H A W (named 0) κ u8 .twice s (v ∷ [])) $ split ! $
-      move ! (0 ∷ 2 ∷ []) $ fjoin ! $ move ! (2 ∷ 0 ∷ []) $ use2 W (raw (Counting 𝓤 H A mem run .pre to)) (qed W ((‵ (flft κ q) ⊛ ‵ ftrue) ∷ ‵ (owns (ShrSlice (named 0) κ u8 ∷ []) (s, tt) (v ∷ [], tt)) ∷ []) ∵ join ! $ frame ! $ done !) $ frame ! $ done !
+      move ! (1 ∷ []) $ fsplit ! $
+      use1 W (‵ Own ⊛ ‵ Own) (shr-slice-copy 𝓤 H A W (named 0) κ u8 .twice s (v ∷ [])) $ split ! $
+      move ! (0 ∷ 2 ∷ []) $ fjoin ! $ move ! (2 ∷ 0 ∷ []) $ use2 W (raw (Counting 𝓤 H A mem run .pre to))
+      (qed W ((‵ (flft κ q) ⊛ ‵ ftrue) ∷ ‵ (owns (ShrSlice (named 0) κ u8 ∷ []) (s, tt) (v ∷ [], tt)) ∷ []) ∵ join ! $
+      frame ! $ done !) $ frame ! $ done !
 
-  said : (n : Counts) → ent 𝓤 (ensured 𝓤 H A counting.ended (counting.clauses 𝓤 H A mem run) (κ, tt) (s, tt) tt n) (fact 𝓤 (Known n))
+  said : (n : Counts) →
+      ent 𝓤 (ensured 𝓤 H A counting.ended (counting.clauses 𝓤 H A mem run) (κ, tt) (s, tt) tt n) (fact 𝓤 (Known n))
   said n = exE 𝓤 _ (λ ws. snd∗ 𝓤 (sem 𝓤 H A (lasts counting.ended (κ, tt) (s, tt) ws)) (fact 𝓤 (Known n)))
 
-  exits : (n : Counts) → Known n → n .units < 2 ^ 64 → n .scenes < 2 ^ 64 → ent 𝓤 (⋆ 𝓤 H A ((‵ (flft κ q) ⊛ ‵ ftrue) ∷ ‵ Own ∷ [])) (Post (T′.lowered (made n)))
+  exits : (n : Counts) → Known n → n .units < 2 ^ 64 → n .scenes < 2 ^ 64 →
+      ent 𝓤 (⋆ 𝓤 H A ((‵ (flft κ q) ⊛ ‵ ftrue) ∷ ‵ Own ∷ [])) (Post (T′.lowered (made n)))
   exits n e fu fs =
       qed W ((‵ (flft κ q) ⊛ ‵ ftrue) ∷ ‵ Own ∷ []) ∵
-      suffices ! _ (ends-at 𝓤 H A opening.ended stayed (opening.clauses 𝓤 H A mem run) W (((κ, tt), (q, tt), tt, (s, tt), (v ∷ [], tt)), tt) (T′.lowered (made n)) (made n) (tt, tt) (tt, tt)) $ says ! (refl, e .0, e .1) $
-      frame ! $ use1 W (‵ Own ⊛ ‵ Own) (shr-slice-copy 𝓤 H A W (named 0) κ u8 .twice s (v ∷ [])) $ split ! $ nothing ! $ move ! (1 ∷ 0 ∷ []) $ fjoin ! $ frame ! $
+      suffices ! _ (ends-at 𝓤 H A opening.ended stayed (opening.clauses 𝓤 H A mem run) W
+      (((κ, tt), (q, tt), tt, (s, tt), (v ∷ [], tt)), tt) (T′.lowered (made n)) (made n) (tt, tt) (tt, tt)) $
+      says ! (refl, e .0, e .1) $
+      frame ! $ use1 W (‵ Own ⊛ ‵ Own) (shr-slice-copy 𝓤 H A W (named 0) κ u8 .twice s (v ∷ [])) $ split ! $
+      nothing ! $ move ! (1 ∷ 0 ∷ []) $ fjoin ! $ frame ! $
       -- [what the slice owns]: what the fields own together, of it and of the counts' facts, is what the struct owns
-      nothing ! $ owned ! usize (Is usize) (uint-makes 𝓤 H A W w64) (n .scenes) _ (refl, fs) $ fjoin ! $ owned ! usize (Is usize) (uint-makes 𝓤 H A W w64) (n .units) _ (refl, fu) $ fjoin ! $
-      move ! (1 ∷ 0 ∷ []) $ fjoin ! $ by ! (own-shut 𝓤 H A W (T.the-type α) (T′.the-laws α) (s, (n .units, (n .scenes, tt))))
+      nothing ! $ owned ! usize (Is usize) (uint-makes 𝓤 H A W w64) (n .scenes) _ (refl, fs) $ fjoin ! $
+      owned ! usize (Is usize) (uint-makes 𝓤 H A W w64) (n .units) _ (refl, fu) $ fjoin ! $
+      move ! (1 ∷ 0 ∷ []) $
+      fjoin ! $ by ! (own-shut 𝓤 H A W (T.the-type α) (T′.the-laws α) (s, (n .units, (n .scenes, tt))))
 
   module _ (C : Calls 𝓤 H) (Λ : Loops 𝓤 H) (fm : FmC 𝓤 H (W .laws) C)
       (known : Triple 𝓤 (C #record-view·counts-in) (Counting 𝓤 H A mem run)) where
-    walk : Is (ShrSlice (named 0) κ u8) s (v ∷ []) → ent 𝓤 (onEntry 𝓤 H A opening.signature (κ, tt) (q, tt) (s, tt) (v ∷ [], tt)) (WpFn 𝓤 H C Λ code.function (v ∷ []) Post)
+    walk : Is (ShrSlice (named 0) κ u8) s (v ∷ []) → ent 𝓤 (onEntry 𝓤 H A opening.signature (κ, tt) (q, tt) (s, tt)
+        (v ∷ [], tt)) (WpFn 𝓤 H C Λ code.function (v ∷ []) Post)
     walk p =
-        qed W (raw (onEntry 𝓤 H A opening.signature (κ, tt) (q, tt) (s, tt) (v ∷ [], tt)) ∷ []) ∵ enter ! C Λ code.function (v ∷ []) _ $
-        alloc1 ! (λ l₀. alloc1 ! (λ l₁. alloc1 ! (λ l₂. alloc0 ! $ params1 ! $ pass1 ! (init ! 2 refl (shr-slice-lawful 𝓤 H A W (named 0) κ u8 .typed s (v ∷ []) p .0)) $ pass0 ! $
+        qed W (raw (onEntry 𝓤 H A opening.signature (κ, tt) (q, tt) (s, tt) (v ∷ [], tt)) ∷ []) ∵
+        enter ! C Λ code.function (v ∷ []) _ $
+        alloc1 ! (λ l₀. alloc1 ! (λ l₁. alloc1 ! (λ l₂. alloc0 ! $ params1 ! $
+        pass1 ! (init ! 2 refl (shr-slice-lawful 𝓤 H A W (named 0) κ u8 .typed s (v ∷ []) p .0)) $ pass0 ! $
         move ! (6 ∷ []) $ use1 W (raw (Counting 𝓤 H A mem run .pre to) ⊛ ‵ Own) goes $ split ! $
-        calls-at ! fm (Counting 𝓤 H A mem run) known to (and-then ! (load ! (from ! (stop !)) (look ! 4 refl)) (no-more !)) (λ u.
-        use1 W (later (some (λ (n : Counts). ((‵ (flft κ q) ⊛ ‵ ftrue) ⊛ ‵ (N.the-row .own n (u ∷ []))) ⊛ raw (ensured 𝓤 H A counting.ended (counting.clauses 𝓤 H A mem run) (κ, tt) (s, tt) tt n)))) (id⊢ 𝓤 _) $ await ! tt $ pick ! (λ n.
-        split ! $ move ! (1 ∷ []) $ use1 W (raw (fact 𝓤 (Known n))) (said n) $ heard ! (Known n) (λ e. split ! $ move ! (1 ∷ []) $
+        calls-at ! fm (Counting 𝓤 H A mem run) known to
+        (and-then ! (load ! (from ! (stop !)) (look ! 4 refl)) (no-more !)) (λ u.
+        use1 W (later (some (λ (n : Counts). ((‵ (flft κ q) ⊛ ‵ ftrue) ⊛ ‵ (N.the-row .own n (u ∷ [])))
+        ⊛ raw (ensured 𝓤 H A counting.ended (counting.clauses 𝓤 H A mem run) (κ, tt) (s, tt) tt n)))) (id⊢ 𝓤 _) $
+        await ! tt $ pick ! (λ n.
+        split ! $ move ! (1 ∷ []) $ use1 W (raw (fact 𝓤 (Known n))) (said n) $ heard ! (Known n) (λ e. split ! $
+        move ! (1 ∷ []) $
         -- [what the counts own; the token; what s owns; room for _2; …; _1; …; room for _0; …]
         peeks ! N.the-row (Is N.the-row) (shows 𝓤 H A N.the-row) n (u ∷ []) (λ is.
         land ! (from ! (stop !)) (init ! 3 refl (LL.lawful N.the-type N′.the-laws 𝓤 H A W .typed n _ is .0)) $
-        rewrite ! 3 (λ (x : Val). ‵ (fat fullShare N′.mir l₂ 0 x)) (ap only (LL.tells N.the-type N′.the-laws n (u ∷ []) is)) refl $
-        assigns ! (agg ! (and-then ! (load ! (from ! (stop !)) (look ! 5 refl)) (and-then ! (load ! (from ! (fld ! refl (stop !))) (look-in ! 3 (sub ! 0 refl (whole !)))) (and-then ! (load ! (from ! (fld ! refl (stop !))) (look-in ! 3 (sub ! 1 refl (whole !)))) (no-more !))))) (from ! (stop !))
-        (init ! 7 refl (tt, (shr-slice-lawful 𝓤 H A W (named 0) κ u8 .typed s (v ∷ []) p .0 .1, (record { fits = fits n u is .0 }, (record { fits = fits n u is .1 }, tt))))) $
-        returns ! (look ! 7 refl) $ forget ! 3 refl $ forget ! 5 refl $ forget ! 7 refl $ move ! (7 ∷ 8 ∷ []) $ free1 ! $ move ! (5 ∷ 6 ∷ []) $ free1 ! $ move ! (3 ∷ 4 ∷ []) $ free1 ! $ free0 ! $
+        rewrite ! 3 (λ (x : Val). ‵ (fat fullShare N′.mir l₂ 0 x))
+        (ap only (LL.tells N.the-type N′.the-laws n (u ∷ []) is)) refl $
+        assigns ! (agg ! (and-then ! (load ! (from ! (stop !)) (look ! 5 refl))
+        (and-then ! (load ! (from ! (fld ! refl (stop !))) (look-in ! 3 (sub ! 0 refl (whole !))))
+        (and-then ! (load ! (from ! (fld ! refl (stop !))) (look-in ! 3 (sub ! 1 refl (whole !)))) (no-more !)))))
+        (from ! (stop !))
+        (init ! 7 refl (
+          tt,
+          (
+            shr-slice-lawful 𝓤 H A W (named 0) κ u8 .typed s (v ∷ []) p .0 .1,
+            (record { fits = fits n u is .0 }, (record { fits = fits n u is .1 }, tt)),
+          ),
+        )) $
+        returns ! (look ! 7 refl) $ forget ! 3 refl $ forget ! 5 refl $ forget ! 7 refl $ move ! (7 ∷ 8 ∷ []) $
+        free1 ! $ move ! (5 ∷ 6 ∷ []) $ free1 ! $ move ! (3 ∷ 4 ∷ []) $ free1 ! $ free0 ! $
         drop ! $ by ! (exits n e (fits n u is .0) (fits n u is .1)))))))))
 
-module _ {M : Type 1} (𝓤 : URA M) (H : Heap 𝓤) (A : Atoms 𝓤) (W : Given 𝓤 H A) (mem : Memory → SProp 𝓤) (run : Routine → Fun 𝓤) where
+module _ {M : Type 1} (𝓤 : URA M) (H : Heap 𝓤) (A : Atoms 𝓤) (W : Given 𝓤 H A) (mem : Memory → SProp 𝓤)
+    (run : Routine → Fun 𝓤) where
   open-walks : (C : Calls 𝓤 H) (Λ : Loops 𝓤 H) → FmC 𝓤 H (W .laws) C →
       Triple 𝓤 (C #record-view·counts-in) (Counting 𝓤 H A mem run)
       → Walks 𝓤 H A opening.ended stayed (WpFn 𝓤 H C Λ code.function) (opening.clauses 𝓤 H A mem run)
-  open-walks C Λ fm known = walked 𝓤 H A opening.ended stayed (opening.clauses 𝓤 H A mem run) (WpFn 𝓤 H C Λ code.function) (λ κs. (slice-vals, tt)) (λ κs. (shr-slice-tells (named 0) (κs .0) u8, tt))
-      (λ κs qs bounds a g are. via 𝓤 _ (fst∗ 𝓤 _ (emp 𝓤)) (walk 𝓤 H A W mem run (κs .0) (qs .0) (a .0) C Λ fm known (are .0)))
+  open-walks C Λ fm known = walked 𝓤 H A opening.ended stayed (opening.clauses 𝓤 H A mem run)
+      (WpFn 𝓤 H C Λ code.function) (λ κs. (slice-vals, tt)) (λ κs. (shr-slice-tells (named 0) (κs .0) u8, tt))
+      (λ κs qs bounds a g are.
+      via 𝓤 _ (fst∗ 𝓤 _ (emp 𝓤)) (walk 𝓤 H A W mem run (κs .0) (qs .0) (a .0) C Λ fm known (are .0)))
 
-open-meets : {M : Type 1} (𝓤 : URA M) (H : Heap 𝓤) (A : Atoms 𝓤) (W : Given 𝓤 H A) (mem : Memory → SProp 𝓤) (run : Routine → Fun 𝓤) (𝓣 : Tables 𝓤 H)
+open-meets : {M : Type 1} (𝓤 : URA M) (H : Heap 𝓤) (A : Atoms 𝓤) (W : Given 𝓤 H A) (mem : Memory → SProp 𝓤)
+    (run : Routine → Fun 𝓤) (𝓣 : Tables 𝓤 H)
     → Triple 𝓤 (𝓣 .C #record-view·counts-in) (Counting 𝓤 H A mem run)
     → Meets 𝓤 H A opening.signature (WpFn 𝓤 H (𝓣 .C) (𝓣 .Λ) code.function) (opening.spec 𝓤 H A mem run)
-open-meets 𝓤 H A W mem run 𝓣 known = walk-meets 𝓤 H A opening.ended stayed W (goes-none-slice 𝓤 H A W 1 (0 ∷ []) tt (plain (λ _. u8)) yes, tt) (opening.clauses 𝓤 H A mem run) (WpFn 𝓤 H (𝓣 .C) (𝓣 .Λ) code.function) (WpFn-mono 𝓤 H (W .laws) 𝓣 code.function)
+open-meets 𝓤 H A W mem run 𝓣 known =
+    walk-meets 𝓤 H A opening.ended stayed W (goes-none-slice 𝓤 H A W 1 (0 ∷ []) tt (plain (λ _. u8)) yes, tt)
+    (opening.clauses 𝓤 H A mem run) (WpFn 𝓤 H (𝓣 .C) (𝓣 .Λ) code.function) (WpFn-mono 𝓤 H (W .laws) 𝓣 code.function)
     (open-walks 𝓤 H A W mem run (𝓣 .C) (𝓣 .Λ) (fmOf 𝓤 H (W .laws) 𝓣) known)
 
 pub open-spec : {M : Type 1} → stated.statement M

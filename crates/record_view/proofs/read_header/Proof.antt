@@ -1,6 +1,7 @@
 -- `record_view::read_header` meets its contract: a walk of its MIR, by hand. The `View` that `open` returns is held in
 -- a local and passed to `header`. All that the proof knows of the two is that each meets its contract.
--- In a local of a body MIR erases the lifetime of the struct's type, so the value is shown to have the type at `erased`: what the struct owns does not say the lifetime's name.
+-- In a local of a body MIR erases the lifetime of the struct's type, so the value is shown to have the type at
+-- `erased`: what the struct owns does not say the lifetime's name.
 use mathlib.Core.Path.{_≡_, refl}
 use Prim.Native.Nat.{ℕ}
 use mathlib.Core.List.{List, [], _∷_}
@@ -17,8 +18,10 @@ use ghost.Atoms.{Atoms, sem}
 use contract.Lifetimes.{Lfts}
 use contract.Monad.{Fun, fact}
 use contract.Running.{givenOf, tables, tablesOf}
-use types.Kit.{Given, ‵, raw, _⊛_, ⋆, some, later, _$_, _∵_, !, qed, by, move, use1, use2, split, join, pick, fsplit, fjoin, suffices, frame, await, done}
-use types.Run.{look, init, forget, stop, from, load, and-then, no-more, land, returns, enter, alloc1, alloc0, params1, pass1, pass0, free1, free0}
+use types.Kit.{Given, ‵, raw, _⊛_, ⋆, some, later, _$_, _∵_, !, qed, by, move, use1, use2, split, join, pick, fsplit}
+use types.Kit.{fjoin, suffices, frame, await, done}
+use types.Run.{look, init, forget, stop, from, load, and-then, no-more, land, returns, enter, alloc1, alloc0, params1}
+use types.Run.{pass1, pass0, free1, free0}
 use sound.WpLaws.{FmC, fmOf, WpFn-mono}
 use denote.RattleType.{RattleType, owns}
 use denote.Laws.{Is, shows}
@@ -74,7 +77,8 @@ module _ {M : Type 1} (𝓤 : URA M) (H : Heap 𝓤) (A : Atoms 𝓤) (mem : Mem
   abbrev Ask : Contract 𝓤
   Ask = tripleOf 𝓤 H A asking.signature (asking.spec 𝓤 H A mem run)
 
-module _ {M : Type 1} (𝓤 : URA M) (H : Heap 𝓤) (A : Atoms 𝓤) (W : Given 𝓤 H A) (mem : Memory → SProp 𝓤) (run : Routine → Fun 𝓤) (κ : Lft) (q : Share) (s : RefT (List ℕ)) where
+module _ {M : Type 1} (𝓤 : URA M) (H : Heap 𝓤) (A : Atoms 𝓤) (W : Given 𝓤 H A) (mem : Memory → SProp 𝓤)
+    (run : Routine → Fun 𝓤) (κ : Lft) (q : Share) (s : RefT (List ℕ)) where
   -- the machine value that s has
   abbrev v : Val
   v = sliceVal (s .ptr) (length (s .now))
@@ -87,7 +91,8 @@ module _ {M : Type 1} (𝓤 : URA M) (H : Heap 𝓤) (A : Atoms 𝓤) (W : Given
   αᵉ = record { mir = erased; lft = κ }
 
   abbrev Post : Val → SProp 𝓤
-  Post = walkOf 𝓤 H A reading.ended stayed (reading.clauses 𝓤 H A mem run) .post (((κ, tt), (q, tt), tt, (s, tt), (v ∷ [], tt)), tt)
+  Post = walkOf 𝓤 H A reading.ended stayed (reading.clauses 𝓤 H A mem run) .post
+      (((κ, tt), (q, tt), tt, (s, tt), (v ∷ [], tt)), tt)
 
   abbrev Own : Fml
   Own = ShrSlice (named 0) κ u8 .own s (v ∷ [])
@@ -96,66 +101,97 @@ module _ {M : Type 1} (𝓤 : URA M) (H : Heap 𝓤) (A : Atoms 𝓤) (W : Given
   abbrev to-open : Open 𝓤 H A mem run .Ghost
   to-open = (((κ, tt), (q, tt), tt, (s, tt), (v ∷ [], tt)), tt)
 
-  goes-open : ent 𝓤 (onEntry 𝓤 H A reading.signature (κ, tt) (q, tt) (s, tt) (v ∷ [], tt)) (sep 𝓤 (Open 𝓤 H A mem run .pre to-open) (sem 𝓤 H A Own))
+  goes-open : ent 𝓤 (onEntry 𝓤 H A reading.signature (κ, tt) (q, tt) (s, tt) (v ∷ [], tt))
+      (sep 𝓤 (Open 𝓤 H A mem run .pre to-open) (sem 𝓤 H A Own))
   goes-open =
       qed W ((‵ (flft κ q) ⊛ ‵ ftrue) ∷ ‵ (owns (ShrSlice (named 0) κ u8 ∷ []) (s, tt) (v ∷ [], tt)) ∷ []) ∵
-      move ! (1 ∷ []) $ fsplit ! $ use1 W (‵ Own ⊛ ‵ Own) (shr-slice-copy 𝓤 H A W (named 0) κ u8 .twice s (v ∷ [])) $ split ! $
-      move ! (0 ∷ 2 ∷ []) $ fjoin ! $ move ! (2 ∷ 0 ∷ []) $ use2 W (raw (Open 𝓤 H A mem run .pre to-open)) (qed W ((‵ (flft κ q) ⊛ ‵ ftrue) ∷ ‵ (owns (ShrSlice (named 0) κ u8 ∷ []) (s, tt) (v ∷ [], tt)) ∷ []) ∵ join ! $ frame ! $ done !) $ frame ! $ done !
+      move ! (1 ∷ []) $ fsplit ! $
+      use1 W (‵ Own ⊛ ‵ Own) (shr-slice-copy 𝓤 H A W (named 0) κ u8 .twice s (v ∷ [])) $ split ! $
+      move ! (0 ∷ 2 ∷ []) $ fjoin ! $ move ! (2 ∷ 0 ∷ []) $ use2 W (raw (Open 𝓤 H A mem run .pre to-open))
+      (qed W ((‵ (flft κ q) ⊛ ‵ ftrue) ∷ ‵ (owns (ShrSlice (named 0) κ u8 ∷ []) (s, tt) (v ∷ [], tt)) ∷ []) ∵ join ! $
+      frame ! $ done !) $ frame ! $ done !
 
-  open-said : (r : View) → ent 𝓤 (ensured 𝓤 H A opening.ended (opening.clauses 𝓤 H A mem run) (κ, tt) (s, tt) tt r) (fact 𝓤 (ViewOf s r))
+  open-said : (r : View) →
+      ent 𝓤 (ensured 𝓤 H A opening.ended (opening.clauses 𝓤 H A mem run) (κ, tt) (s, tt) tt r) (fact 𝓤 (ViewOf s r))
   open-said r = exE 𝓤 _ (λ ws. snd∗ 𝓤 (sem 𝓤 H A (lasts opening.ended (κ, tt) (s, tt) ws)) (fact 𝓤 (ViewOf s r)))
 
   -- the call of `header`, at the struct r with the machine value u
   abbrev to-ask : View → Val → Ask 𝓤 H A mem run .Ghost
   to-ask r u = (((κ, tt), (q, tt), tt, (r, tt), (u ∷ [], tt)), tt)
 
-  goes-ask : (r : View) (u : Val) → ent 𝓤 (⋆ 𝓤 H A (‵ (B (κ, tt) .own r (u ∷ [])) ∷ (‵ (flft κ q) ⊛ ‵ ftrue) ∷ [])) (Ask 𝓤 H A mem run .pre (to-ask r u))
-  goes-ask r u = qed W (‵ (B (κ, tt) .own r (u ∷ [])) ∷ (‵ (flft κ q) ⊛ ‵ ftrue) ∷ []) ∵ nothing ! $ move ! (1 ∷ 0 ∷ []) $ fjoin ! $ move ! (1 ∷ 0 ∷ []) $ join ! $ frame ! $ done !
+  goes-ask : (r : View) (u : Val) → ent 𝓤 (⋆ 𝓤 H A (‵ (B (κ, tt) .own r (u ∷ [])) ∷ (‵ (flft κ q) ⊛ ‵ ftrue) ∷ []))
+      (Ask 𝓤 H A mem run .pre (to-ask r u))
+  goes-ask r u = qed W (‵ (B (κ, tt) .own r (u ∷ [])) ∷ (‵ (flft κ q) ⊛ ‵ ftrue) ∷ []) ∵ nothing ! $
+      move ! (1 ∷ 0 ∷ []) $ fjoin ! $ move ! (1 ∷ 0 ∷ []) $ join ! $ frame ! $ done !
 
-  ask-said : (r : View) (t : HeaderAnswer) → ent 𝓤 (ensured 𝓤 H A asking.ended (asking.clauses 𝓤 H A mem run) (κ, tt) (r, tt) tt t) (fact 𝓤 (HeaderSeen (now (r .bytes)) (r .units) (r .scenes) t))
-  ask-said r t = exE 𝓤 _ (λ ws. snd∗ 𝓤 (sem 𝓤 H A (lasts asking.ended (κ, tt) (r, tt) ws)) (fact 𝓤 (HeaderSeen (now (r .bytes)) (r .units) (r .scenes) t)))
+  ask-said : (r : View) (t : HeaderAnswer) → ent 𝓤 (ensured 𝓤 H A asking.ended (asking.clauses 𝓤 H A mem run) (κ, tt)
+      (r, tt) tt t) (fact 𝓤 (HeaderSeen (now (r .bytes)) (r .units) (r .scenes) t))
+  ask-said r t = exE 𝓤 _ (λ ws. snd∗ 𝓤 (sem 𝓤 H A (lasts asking.ended (κ, tt) (r, tt) ws))
+      (fact 𝓤 (HeaderSeen (now (r .bytes)) (r .units) (r .scenes) t)))
 
-  exits : (t : HeaderAnswer) (u : Val) → t ≡ found → ent 𝓤 (⋆ 𝓤 H A (‵ (S.the-row .own t (u ∷ [])) ∷ (‵ (flft κ q) ⊛ ‵ ftrue) ∷ ‵ Own ∷ [])) (Post u)
+  exits : (t : HeaderAnswer) (u : Val) → t ≡ found →
+      ent 𝓤 (⋆ 𝓤 H A (‵ (S.the-row .own t (u ∷ [])) ∷ (‵ (flft κ q) ⊛ ‵ ftrue) ∷ ‵ Own ∷ [])) (Post u)
   exits t u e =
       qed W (‵ (S.the-row .own t (u ∷ [])) ∷ (‵ (flft κ q) ⊛ ‵ ftrue) ∷ ‵ Own ∷ []) ∵
-      suffices ! _ (ends-at 𝓤 H A reading.ended stayed (reading.clauses 𝓤 H A mem run) W (((κ, tt), (q, tt), tt, (s, tt), (v ∷ [], tt)), tt) u t (tt, tt) (tt, tt)) $ says ! e $
+      suffices ! _ (ends-at 𝓤 H A reading.ended stayed (reading.clauses 𝓤 H A mem run) W
+      (((κ, tt), (q, tt), tt, (s, tt), (v ∷ [], tt)), tt) u t (tt, tt) (tt, tt)) $ says ! e $
       move ! (1 ∷ []) $ frame ! $ nothing ! $ move ! (2 ∷ 0 ∷ []) $ fjoin ! $ frame ! $ done !
 
   module _ (C : Calls 𝓤 H) (Λ : Loops 𝓤 H) (fm : FmC 𝓤 H (W .laws) C)
       (known-open : Triple 𝓤 (C #record-view·open) (Open 𝓤 H A mem run))
       (known-ask : Triple 𝓤 (C #record-view·header) (Ask 𝓤 H A mem run)) where
-    walk : Is (ShrSlice (named 0) κ u8) s (v ∷ []) → ent 𝓤 (onEntry 𝓤 H A reading.signature (κ, tt) (q, tt) (s, tt) (v ∷ [], tt)) (WpFn 𝓤 H C Λ code.function (v ∷ []) Post)
+    walk : Is (ShrSlice (named 0) κ u8) s (v ∷ []) → ent 𝓤 (onEntry 𝓤 H A reading.signature (κ, tt) (q, tt) (s, tt)
+        (v ∷ [], tt)) (WpFn 𝓤 H C Λ code.function (v ∷ []) Post)
     walk p =
-        qed W (raw (onEntry 𝓤 H A reading.signature (κ, tt) (q, tt) (s, tt) (v ∷ [], tt)) ∷ []) ∵ enter ! C Λ code.function (v ∷ []) _ $
-        alloc1 ! (λ l₀. alloc1 ! (λ l₁. alloc1 ! (λ l₂. alloc0 ! $ params1 ! $ pass1 ! (init ! 2 refl (shr-slice-lawful 𝓤 H A W (named 0) κ u8 .typed s (v ∷ []) p .0)) $ pass0 ! $
+        qed W (raw (onEntry 𝓤 H A reading.signature (κ, tt) (q, tt) (s, tt) (v ∷ [], tt)) ∷ []) ∵
+        enter ! C Λ code.function (v ∷ []) _ $
+        alloc1 ! (λ l₀. alloc1 ! (λ l₁. alloc1 ! (λ l₂. alloc0 ! $ params1 ! $
+        pass1 ! (init ! 2 refl (shr-slice-lawful 𝓤 H A W (named 0) κ u8 .typed s (v ∷ []) p .0)) $ pass0 ! $
         move ! (6 ∷ []) $ use1 W (raw (Open 𝓤 H A mem run .pre to-open) ⊛ ‵ Own) goes-open $ split ! $
-        calls-at ! fm (Open 𝓤 H A mem run) known-open to-open (and-then ! (load ! (from ! (stop !)) (look ! 4 refl)) (no-more !)) (λ u.
-        use1 W (later (some (λ (r : View). ((‵ (flft κ q) ⊛ ‵ ftrue) ⊛ ‵ (B (κ, tt) .own r (u ∷ []))) ⊛ raw (ensured 𝓤 H A opening.ended (opening.clauses 𝓤 H A mem run) (κ, tt) (s, tt) tt r)))) (id⊢ 𝓤 _) $ await ! tt $ pick ! (λ r.
-        split ! $ move ! (1 ∷ []) $ use1 W (raw (fact 𝓤 (ViewOf s r))) (open-said r) $ heard ! (ViewOf s r) (λ e. split ! $ move ! (1 ∷ []) $
+        calls-at ! fm (Open 𝓤 H A mem run) known-open to-open
+        (and-then ! (load ! (from ! (stop !)) (look ! 4 refl)) (no-more !)) (λ u.
+        use1 W (later (some (λ (r : View). ((‵ (flft κ q) ⊛ ‵ ftrue) ⊛ ‵ (B (κ, tt) .own r (u ∷ [])))
+        ⊛ raw (ensured 𝓤 H A opening.ended (opening.clauses 𝓤 H A mem run) (κ, tt) (s, tt) tt r)))) (id⊢ 𝓤 _) $
+        await ! tt $ pick ! (λ r.
+        split ! $ move ! (1 ∷ []) $ use1 W (raw (fact 𝓤 (ViewOf s r))) (open-said r) $
+        heard ! (ViewOf s r) (λ e. split ! $ move ! (1 ∷ []) $
         -- [what the struct owns; the token; what s owns; room for _2; …; _1; …; room for _0; …]
         peeks ! (B (κ, tt)) (Is (B (κ, tt))) (shows 𝓤 H A (B (κ, tt))) r (u ∷ []) (λ is.
-        land ! (from ! (stop !)) (init ! 3 refl (LL.lawful (T.the-type αᵉ) (T′.the-laws αᵉ) 𝓤 H A W .typed r _ is .0)) $
+        land ! (from ! (stop !))
+        (init ! 3 refl (LL.lawful (T.the-type αᵉ) (T′.the-laws αᵉ) 𝓤 H A W .typed r _ is .0)) $
         use2 W (raw (Ask 𝓤 H A mem run .pre (to-ask r u))) (goes-ask r u) $
-        calls-at ! fm (Ask 𝓤 H A mem run) known-ask (to-ask r u) (and-then ! (load ! (from ! (stop !)) (look ! 2 refl)) (no-more !)) (λ u′.
-        use1 W (later (some (λ (t : HeaderAnswer). ((‵ (flft κ q) ⊛ ‵ ftrue) ⊛ ‵ (S.the-row .own t (u′ ∷ []))) ⊛ raw (ensured 𝓤 H A asking.ended (asking.clauses 𝓤 H A mem run) (κ, tt) (r, tt) tt t)))) (id⊢ 𝓤 _) $ await ! tt $ pick ! (λ t.
-        split ! $ move ! (1 ∷ []) $ use1 W (raw (fact 𝓤 (HeaderSeen (now (r .bytes)) (r .units) (r .scenes) t))) (ask-said r t) $ heard ! (HeaderSeen (now (r .bytes)) (r .units) (r .scenes) t) (λ e′. split ! $ move ! (1 ∷ []) $
+        calls-at ! fm (Ask 𝓤 H A mem run) known-ask (to-ask r u)
+        (and-then ! (load ! (from ! (stop !)) (look ! 2 refl)) (no-more !)) (λ u′.
+        use1 W (later (some (λ (t : HeaderAnswer). ((‵ (flft κ q) ⊛ ‵ ftrue) ⊛ ‵ (S.the-row .own t (u′ ∷ [])))
+        ⊛ raw (ensured 𝓤 H A asking.ended (asking.clauses 𝓤 H A mem run) (κ, tt) (r, tt) tt t)))) (id⊢ 𝓤 _) $
+        await ! tt $ pick ! (λ t.
+        split ! $ move ! (1 ∷ []) $
+        use1 W (raw (fact 𝓤 (HeaderSeen (now (r .bytes)) (r .units) (r .scenes) t))) (ask-said r t) $
+        heard ! (HeaderSeen (now (r .bytes)) (r .units) (r .scenes) t) (λ e′. split ! $ move ! (1 ∷ []) $
         -- [the result; the token; what s owns; _2; …; _1; …; room for _0; …]
         peeks ! S.the-row (Is S.the-row) (shows 𝓤 H A S.the-row) t (u′ ∷ []) (λ is′.
         land ! (from ! (stop !)) (init ! 7 refl (EL.lawful S.the-type S′.the-laws 𝓤 H A W tt .typed t _ is′ .0)) $
-        returns ! (look ! 7 refl) $ forget ! 3 refl $ forget ! 5 refl $ forget ! 7 refl $ move ! (7 ∷ 8 ∷ []) $ free1 ! $ move ! (5 ∷ 6 ∷ []) $ free1 ! $ move ! (3 ∷ 4 ∷ []) $ free1 ! $ free0 ! $
+        returns ! (look ! 7 refl) $ forget ! 3 refl $ forget ! 5 refl $ forget ! 7 refl $ move ! (7 ∷ 8 ∷ []) $
+        free1 ! $ move ! (5 ∷ 6 ∷ []) $ free1 ! $ move ! (3 ∷ 4 ∷ []) $ free1 ! $ free0 ! $
         by ! (exits t u′ (answers s r e .0 t e′)))))))))))))
 
-module _ {M : Type 1} (𝓤 : URA M) (H : Heap 𝓤) (A : Atoms 𝓤) (W : Given 𝓤 H A) (mem : Memory → SProp 𝓤) (run : Routine → Fun 𝓤) where
+module _ {M : Type 1} (𝓤 : URA M) (H : Heap 𝓤) (A : Atoms 𝓤) (W : Given 𝓤 H A) (mem : Memory → SProp 𝓤)
+    (run : Routine → Fun 𝓤) where
   read-header-walks : (C : Calls 𝓤 H) (Λ : Loops 𝓤 H) → FmC 𝓤 H (W .laws) C →
       Triple 𝓤 (C #record-view·open) (Open 𝓤 H A mem run) → Triple 𝓤 (C #record-view·header) (Ask 𝓤 H A mem run)
       → Walks 𝓤 H A reading.ended stayed (WpFn 𝓤 H C Λ code.function) (reading.clauses 𝓤 H A mem run)
-  read-header-walks C Λ fm known-open known-ask = walked 𝓤 H A reading.ended stayed (reading.clauses 𝓤 H A mem run) (WpFn 𝓤 H C Λ code.function) (λ κs. (slice-vals, tt)) (λ κs. (shr-slice-tells (named 0) (κs .0) u8, tt))
-      (λ κs qs bounds a g are. via 𝓤 _ (fst∗ 𝓤 _ (emp 𝓤)) (walk 𝓤 H A W mem run (κs .0) (qs .0) (a .0) C Λ fm known-open known-ask (are .0)))
+  read-header-walks C Λ fm known-open known-ask = walked 𝓤 H A reading.ended stayed (reading.clauses 𝓤 H A mem run)
+      (WpFn 𝓤 H C Λ code.function) (λ κs. (slice-vals, tt)) (λ κs. (shr-slice-tells (named 0) (κs .0) u8, tt))
+      (λ κs qs bounds a g are.
+      via 𝓤 _ (fst∗ 𝓤 _ (emp 𝓤)) (walk 𝓤 H A W mem run (κs .0) (qs .0) (a .0) C Λ fm known-open known-ask (are .0)))
 
-read-header-meets : {M : Type 1} (𝓤 : URA M) (H : Heap 𝓤) (A : Atoms 𝓤) (W : Given 𝓤 H A) (mem : Memory → SProp 𝓤) (run : Routine → Fun 𝓤) (𝓣 : Tables 𝓤 H)
+read-header-meets : {M : Type 1} (𝓤 : URA M) (H : Heap 𝓤) (A : Atoms 𝓤) (W : Given 𝓤 H A) (mem : Memory → SProp 𝓤)
+    (run : Routine → Fun 𝓤) (𝓣 : Tables 𝓤 H)
     → Triple 𝓤 (𝓣 .C #record-view·open) (Open 𝓤 H A mem run) → Triple 𝓤 (𝓣 .C #record-view·header) (Ask 𝓤 H A mem run)
     → Meets 𝓤 H A reading.signature (WpFn 𝓤 H (𝓣 .C) (𝓣 .Λ) code.function) (reading.spec 𝓤 H A mem run)
-read-header-meets 𝓤 H A W mem run 𝓣 known-open known-ask = walk-meets 𝓤 H A reading.ended stayed W (goes-none-slice 𝓤 H A W 1 (0 ∷ []) tt (plain (λ _. u8)) yes, tt) (reading.clauses 𝓤 H A mem run) (WpFn 𝓤 H (𝓣 .C) (𝓣 .Λ) code.function) (WpFn-mono 𝓤 H (W .laws) 𝓣 code.function)
+read-header-meets 𝓤 H A W mem run 𝓣 known-open known-ask =
+    walk-meets 𝓤 H A reading.ended stayed W (goes-none-slice 𝓤 H A W 1 (0 ∷ []) tt (plain (λ _. u8)) yes, tt)
+    (reading.clauses 𝓤 H A mem run) (WpFn 𝓤 H (𝓣 .C) (𝓣 .Λ) code.function) (WpFn-mono 𝓤 H (W .laws) 𝓣 code.function)
     (read-header-walks 𝓤 H A W mem run (𝓣 .C) (𝓣 .Λ) (fmOf 𝓤 H (W .laws) 𝓣) known-open known-ask)
 
 pub read-header-spec : {M : Type 1} → stated.statement M

@@ -56,7 +56,8 @@ returns c =
     let c₁₈ = c₁₄ .before .before .before .before in
     let c₂₂ = c₁₈ .before .before .before .before in
     let c₂₇ = c₂₂ .before .before .before .before .before in
-    header-written (c₂₇ .args .h) (c₂₇ .args .buffer .now) (c₂₇ .pre .0) (c₂₂ .put-four .ensures) (c₁₈ .put-four2 .ensures)
+    header-written (c₂₇ .args .h) (c₂₇ .args .buffer .now) (c₂₇ .pre .0) (c₂₂ .put-four .ensures)
+    (c₁₈ .put-four2 .ensures)
     (c₁₄ .put-four3 .ensures) (c₁₀ .put32 .ensures) (c₆ .put322 .ensures) (c₂ .put64 .ensures)
 
 pub write-header-spec : {M : Type 1} → statement M

@@ -1,4 +1,5 @@
--- `all` meets its contract. The loop's invariant: the calls before `at` were made, and their outcomes stand in out up to `to`.
+-- `all` meets its contract. The loop's invariant: the calls before `at` were made, and their
+-- outcomes stand in out up to `to`.
 use Prim.Native.Nat.{ℕ, _+_, _-_, _≤_}
 use native.Mathlib.Omega.{arith}
 use mathlib.Core.Path.{_≡_, refl, sym, ap, _∙_}
@@ -11,20 +12,34 @@ use Rattle.replay.proofs.all.Statement.{statement}
 use Rattle.replay.proofs.all.Tie as tie
 
 abbrev Inv-loop : tie.InvT-loop
-Inv-loop walk₀ kept₀ numbers₀ table₀ luma₀ sums₀ bins₀ picture₀ script out₀ at₀ to₀ walk kept numbers table luma sums bins picture out at to =
+Inv-loop walk₀ kept₀ numbers₀ table₀ luma₀ sums₀ bins₀ picture₀ script out₀ at₀ to₀ walk kept numbers table luma sums
+    bins picture out at to =
     (to ≤ length out)
     × (length out ≡ length out₀)
     × Sofar
-    (record { capture = record { walk = walk₀; kept = kept₀; numbers = numbers₀; table = table₀ }; luma = luma₀; sums = sums₀; bins = bins₀; picture = picture₀ })
+    (record {
+      capture = record { walk = walk₀; kept = kept₀; numbers = numbers₀; table = table₀ };
+      luma = luma₀;
+      sums = sums₀;
+      bins = bins₀;
+      picture = picture₀;
+    })
     script
     out₀
     at
     to
-    (record { capture = record { walk = walk; kept = kept; numbers = numbers; table = table }; luma = luma; sums = sums; bins = bins; picture = picture })
+    (record {
+      capture = record { walk = walk; kept = kept; numbers = numbers; table = table };
+      luma = luma;
+      sums = sums;
+      bins = bins;
+      picture = picture;
+    })
     out
 
 abbrev μ-loop : tie.MeasureT-loop
-μ-loop walk₀ kept₀ numbers₀ table₀ luma₀ sums₀ bins₀ picture₀ script out₀ at₀ to₀ walk kept numbers table luma sums bins picture out at to = length script - at
+μ-loop walk₀ kept₀ numbers₀ table₀ luma₀ sums₀ bins₀ picture₀ script out₀ at₀ to₀ walk kept numbers table luma sums
+    bins picture out at to = length script - at
 
 loop-holds : tie.Need-loop-holds Inv-loop μ-loop
 loop-holds c = (omega arith, refl, start _ _ _)
@@ -79,13 +94,19 @@ part-call-end c = omega arith
 
 call-requires : tie.Need-call-requires Inv-loop μ-loop
 call-requires c κs =
-    let l = c .before .before .before .before .before .before .before .before .before .before .before .before .before .before .loop in
-    let end = l .to + c .before .before .before .before .before .before .before .before .before .before .before .size .result in
-    let size : length (midOf (l .to) (end - l .to) (l .out)) ≡ c .before .before .before .before .before .before .before .before .before .before .before .size .result = mid-len (l .to) end (l .out) (omega arith) ∙ omega arith in
+    let l = c .before .before .before .before .before .before .before .before .before .before .before .before .before
+    .before .loop in
+    let end =
+    l .to + c .before .before .before .before .before .before .before .before .before .before .before .size .result in
+    let size : length (midOf (l .to) (end - l .to) (l .out))
+    ≡ c .before .before .before .before .before .before .before .before .before .before .before .size .result =
+    mid-len (l .to) end (l .out) (omega arith) ∙ omega arith in
     record {
-      here = c .before .before .before .before .before .before .before .before .before .before .before .before .head-at .ensures;
+      here = c .before .before .before .before .before .before .before .before .before .before .before
+          .before .head-at .ensures;
       inside = omega arith;
-      size = size ∙ c .before .before .before .before .before .before .before .before .before .before .before .size .ensures;
+      size = size
+          ∙ c .before .before .before .before .before .before .before .before .before .before .before .size .ensures;
       some = rw size (omega arith);
     }
 
@@ -94,13 +115,17 @@ loop-less c = omega (arith, c .before .before .call .ensures .on)
 
 loop-again : tie.Need-loop-again Inv-loop μ-loop
 loop-again c =
-    let l = c .before .before .before .before .before .before .before .before .before .before .before .before .before .before .before .before .before .loop in
-    let end = l .to + c .before .before .before .before .before .before .before .before .before .before .before .before .before .before .size .result in
+    let l = c .before .before .before .before .before .before .before .before .before .before .before .before .before
+    .before .before .before .before .loop in
+    let end = l .to + c .before .before .before .before .before .before .before .before .before .before .before .before
+    .before .before .size .result in
     let room : end ≤ length (l .out) = omega arith in
     let part = c .before .before .call .last .1 .1 .1 .1 .1 .1 .1 .1 .1 .1 .1 .0 in
     let kept = c .before .before .call .kept .1 .1 .1 .1 .1 .1 .1 .1 .1 .1 .1 .0 in
     let same = same-len-mid (l .to) (end - l .to) (l .out) part kept in
-    let size = c .before .before .before .before .before .before .before .before .before .before .before .before .before .before .size .ensures ∙ ap sizeOf (c .before .before .before .before .before .before .before .before .before .before .before .before .before .before .before .head-at .ensures) in (
+    let size = c .before .before .before .before .before .before .before .before .before .before .before .before
+    .before .before .size .ensures ∙ ap sizeOf (c .before .before .before .before .before .before .before .before
+    .before .before .before .before .before .before .before .head-at .ensures) in (
       rw same room,
       same ∙ l .inv .1,
       go-on
@@ -120,7 +145,8 @@ loop-again c =
           (ap (λ (n : ℕ). l .to + n) size)
           room
           (kept ∙ mid-len (l .to) end (l .out) room)
-          (rw (c .before .before .before .before .before .before .before .before .before .before .before .before .before .before .before .head-at .ensures) at (c .before .before .call .ensures)),
+          (rw (c .before .before .before .before .before .before .before .before .before .before .before .before
+          .before .before .before .head-at .ensures) at (c .before .before .call .ensures)),
     )
 
 same-length-3 : tie.Need-same-length-3 Inv-loop μ-loop

@@ -1,4 +1,5 @@
--- `call` meets its contract: the script has the bytes of the call that the head names, and each arm is that call. No head is a Stop whose outcome takes a byte.
+-- `call` meets its contract: the script has the bytes of the call that the head names, and each arm is that call. No
+-- head is a Stop whose outcome takes a byte.
 use native.Mathlib.Omega.{arith}
 use mathlib.Core.Path.{refl, sym, ap, _∙_}
 use borrow.Author.Needs.{needs}
@@ -61,10 +62,18 @@ part-call-capture-start : tie.Need-part-call-capture-start
 part-call-capture-start c = search needs
 
 part-call-capture-end : tie.Need-part-call-capture-end
-part-call-capture-end c = omega (arith, fits-capture (c .before .before .before .before .before .before .before .before .before .before .args .script .now) (c .before .before .before .before .before .before .before .before .before .before .args .at) _ (sym (c .before .before .before .before .before .before .h2 .given .1) ∙ c .before .before .before .before .before .before .before .before .before .before .pre .here))
+part-call-capture-end c = omega (
+  arith,
+  fits-capture (c .before .before .before .before .before .before .before .before .before .before .args .script .now)
+      (c .before .before .before .before .before .before .before .before .before .before .args .at) _
+      (sym (c .before .before .before .before .before .before .h2 .given .1)
+      ∙ c .before .before .before .before .before .before .before .before .before .before .pre .here),
+)
 
 call-capture-requires : tie.Need-call-capture-requires
-call-capture-requires c κs = c .before .before .before .before .before .before .before .before .before .before .before .before .pre .size ∙ ap sizeOf (c .before .before .before .before .before .before .before .before .h2 .given .1)
+call-capture-requires c κs =
+    c .before .before .before .before .before .before .before .before .before .before .before .before .pre .size
+    ∙ ap sizeOf (c .before .before .before .before .before .before .before .before .h2 .given .1)
 
 enum-known-h-3 : tie.Need-enum-known-h-3
 enum-known-h-3 c = search needs
@@ -82,13 +91,25 @@ part-call-luma-start : tie.Need-part-call-luma-start
 part-call-luma-start c = search needs
 
 part-call-luma-end : tie.Need-part-call-luma-end
-part-call-luma-end c = omega (arith, fits-luma (c .before .before .before .before .before .before .before .before .before .before .args .script .now) (c .before .before .before .before .before .before .before .before .before .before .args .at) _ (sym (c .before .before .before .before .before .before .h3 .given .1) ∙ c .before .before .before .before .before .before .before .before .before .before .pre .here))
+part-call-luma-end c = omega (
+  arith,
+  fits-luma (c .before .before .before .before .before .before .before .before .before .before .args .script .now)
+      (c .before .before .before .before .before .before .before .before .before .before .args .at) _
+      (sym (c .before .before .before .before .before .before .h3 .given .1)
+      ∙ c .before .before .before .before .before .before .before .before .before .before .pre .here),
+)
 
 call-luma-requires : tie.Need-call-luma-requires
-call-luma-requires c κs = c .before .before .before .before .before .before .before .before .before .before .before .before .pre .size ∙ ap sizeOf (c .before .before .before .before .before .before .before .before .h3 .given .1)
+call-luma-requires c κs =
+    c .before .before .before .before .before .before .before .before .before .before .before .before .pre .size
+    ∙ ap sizeOf (c .before .before .before .before .before .before .before .before .h3 .given .1)
 
 returns : tie.Need-returns
-returns c = absurd (omega (arith, c .before .before .before .before .pre .some, c .before .before .before .before .pre .size ∙ ap sizeOf (c .enum-told .given .1)))
+returns c = absurd (omega (
+  arith,
+  c .before .before .before .before .pre .some,
+  c .before .before .before .before .pre .size ∙ ap sizeOf (c .enum-told .given .1),
+))
 
 same-length : tie.Need-same-length
 same-length c = search needs

@@ -17,7 +17,16 @@ same-length : tie.Need-same-length
 same-length c = search needs
 
 returns : tie.Need-returns
-returns c = record { answer = _; post = c .before .before .before .before .feed-capture .ensures; wrote = c .before .before .put .ensures ∙ rw (drop-of-length-le (c .before .before .before .before .before .before .before .before .before .before .before .args .out .now) {i = 17} (omega arith), append-nil) }
+returns c = record {
+  answer = _;
+  post = c .before .before .before .before .feed-capture .ensures;
+  wrote = c .before .before .put .ensures ∙ rw (
+    drop-of-length-le
+        (c .before .before .before .before .before .before .before .before .before .before .before .args .out .now)
+        {i = 17} (omega arith),
+    append-nil,
+  );
+}
 
 pub call-capture-spec : {M : Type 1} → statement M
 call-capture-spec = tie.close (tie.spec feed-capture-requires put-requires same-length returns)

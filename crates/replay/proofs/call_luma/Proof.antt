@@ -17,7 +17,16 @@ same-length : tie.Need-same-length
 same-length c = search needs
 
 returns : tie.Need-returns
-returns c = record { answer = _; post = c .before .before .before .before .feed-luma .ensures; wrote = c .before .before .put .ensures ∙ rw (drop-of-length-le (c .before .before .before .before .before .before .before .before .before .before .before .args .out .now) {i = 17} (omega arith), append-nil) }
+returns c = record {
+  answer = _;
+  post = c .before .before .before .before .feed-luma .ensures;
+  wrote = c .before .before .put .ensures ∙ rw (
+    drop-of-length-le
+        (c .before .before .before .before .before .before .before .before .before .before .before .args .out .now)
+        {i = 17} (omega arith),
+    append-nil,
+  );
+}
 
 pub call-luma-spec : {M : Type 1} → statement M
 call-luma-spec = tie.close (tie.spec feed-luma-requires put-requires same-length returns)

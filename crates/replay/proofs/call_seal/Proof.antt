@@ -42,9 +42,12 @@ same-length c = search needs
 
 returns : tie.Need-returns
 returns c =
-    let out : List ℕ = c .before .before .before .before .before .before .before .before .before .before .before .before .before .args .out .now in
-    let filled : List ℕ = c .before .before .before .before .before .before .before .before .before .before .fill .last .0 in
-    let kept : length (putMid 17 (length out - 17) out filled) ≡ length out = same-len-mid 17 (length out - 17) out filled (c .before .before .before .before .before .before .before .before .before .before .fill .kept .0) in
+    let out : List ℕ = c .before .before .before .before .before .before .before .before .before .before .before
+    .before .before .args .out .now in
+    let filled : List ℕ =
+    c .before .before .before .before .before .before .before .before .before .before .fill .last .0 in
+    let kept : length (putMid 17 (length out - 17) out filled) ≡ length out = same-len-mid 17 (length out - 17) out
+    filled (c .before .before .before .before .before .before .before .before .before .before .fill .kept .0) in
     sealed-law
     _
     out
@@ -58,7 +61,8 @@ returns c =
     (ap (λ (n : ℕ). n - 17) kept)
     (c .before .before .before .before .before .before .seal .ensures)
     (c .before .before .put .ensures)
-    (rw kept (c .before .before .before .before .before .before .before .before .before .before .before .before .before .pre))
+    (rw kept
+    (c .before .before .before .before .before .before .before .before .before .before .before .before .before .pre))
     (omega arith)
 
 pub call-seal-spec : {M : Type 1} → statement M

@@ -22,13 +22,39 @@ open-requires : tie.Need-open-requires
 open-requires c κs = search needs
 
 put-requires : tie.Need-put-requires
-put-requires c κs = answer-fits (c .before .before .before .before .before .before .before .before .before .before .before .before .before .before .before .args .script .now) (c .before .before .before .before .before .before .before .before .before .before .before .before .before .before .before .args .out .now) _ (c .before .before .before .before .before .before .before .before .before .before .before .before .has-room .ensures) (not-false _ (c .before .before .before .before .before .before .before .before .before .before .before .if1 .left))
+put-requires c κs = answer-fits (c .before .before .before .before .before .before .before .before .before .before
+    .before .before .before .before .before .args .script .now) (c .before .before .before .before .before .before
+    .before .before .before .before .before .before .before .before .before .args .out .now) _ (c .before .before
+    .before .before .before .before .before .before .before .before .before .before .has-room .ensures) (not-false _
+    (c .before .before .before .before .before .before .before .before .before .before .before .if1 .left))
 
 sub-all : tie.Need-sub-all
-sub-all c = omega (arith, answer-fits (c .before .before .before .before .before .before .before .before .before .before .before .before .before .before .before .before .before .before .before .before .before .before .before .before .before .before .args .script .now) (c .before .before .before .before .before .before .before .before .before .before .before .before .before .before .before .before .before .before .before .before .before .before .before .before .before .before .args .out .now) _ (c .before .before .before .before .before .before .before .before .before .before .before .before .before .before .before .before .before .before .before .before .before .before .before .has-room .ensures) (not-false _ (c .before .before .before .before .before .before .before .before .before .before .before .before .before .before .before .before .before .before .before .before .before .before .if1 .left)))
+sub-all c = omega (
+  arith,
+  answer-fits (c .before .before .before .before .before .before .before .before .before .before
+      .before .before .before .before .before .before .before .before .before .before .before .before
+      .before .before .before .before .args .script .now) (c .before .before .before .before .before
+      .before .before .before .before .before .before .before .before .before .before .before .before
+      .before .before .before .before .before .before .before .before .before .args .out .now) _
+      (c .before .before .before .before .before .before .before .before .before .before .before .before .before
+      .before .before .before .before .before .before .before .before .before .before .has-room .ensures)
+      (not-false _ (c .before .before .before .before .before .before .before .before .before .before .before .before
+      .before .before .before .before .before .before .before .before .before .before .if1 .left)),
+)
 
 part-all-start : tie.Need-part-all-start
-part-all-start c = omega (arith, answer-fits (c .before .before .before .before .before .before .before .before .before .before .before .before .before .before .before .before .before .before .before .before .before .before .before .before .before .before .args .script .now) (c .before .before .before .before .before .before .before .before .before .before .before .before .before .before .before .before .before .before .before .before .before .before .before .before .before .before .args .out .now) _ (c .before .before .before .before .before .before .before .before .before .before .before .before .before .before .before .before .before .before .before .before .before .before .before .has-room .ensures) (not-false _ (c .before .before .before .before .before .before .before .before .before .before .before .before .before .before .before .before .before .before .before .before .before .before .if1 .left)))
+part-all-start c = omega (
+  arith,
+  answer-fits (c .before .before .before .before .before .before .before .before .before .before
+      .before .before .before .before .before .before .before .before .before .before .before .before
+      .before .before .before .before .args .script .now) (c .before .before .before .before .before
+      .before .before .before .before .before .before .before .before .before .before .before .before
+      .before .before .before .before .before .before .before .before .before .args .out .now) _
+      (c .before .before .before .before .before .before .before .before .before .before .before .before .before
+      .before .before .before .before .before .before .before .before .before .before .has-room .ensures)
+      (not-false _ (c .before .before .before .before .before .before .before .before .before .before .before .before
+      .before .before .before .before .before .before .before .before .before .before .if1 .left)),
+)
 
 part-all-end : tie.Need-part-all-end
 part-all-end c = search needs
@@ -41,15 +67,30 @@ same-length c = search needs
 
 returns-2 : tie.Need-returns-2
 returns-2 c =
-    let script : List ℕ = c .before .before .before .before .before .before .before .before .before .before .before .before .before .before .before .before .before .before .before .before .before .before .before .before .before .before .before .before .before .before .args .script .now in
-    let out : List ℕ = c .before .before .before .before .before .before .before .before .before .before .before .before .before .before .before .before .before .before .before .before .before .before .before .before .before .before .before .before .before .before .args .out .now in
-    let front : List ℕ = c .before .before .before .before .before .before .before .before .before .before .before .before .before .before .put .last .0 in
-    let asked = c .before .before .before .before .before .before .before .before .before .before .before .before .before .before .before .before .before .before .before .before .before .before .before .before .before .before .before .has-room .ensures in
-    let there = not-false _ (c .before .before .before .before .before .before .before .before .before .before .before .before .before .before .before .before .before .before .before .before .before .before .before .before .before .before .if1 .left) in
+    let script : List ℕ = c .before .before .before .before .before .before .before .before .before .before .before
+    .before .before .before .before .before .before .before .before .before .before .before .before .before .before
+    .before .before .before .before .before .args .script .now in
+    let out : List ℕ = c .before .before .before .before .before .before .before .before .before .before .before
+    .before .before .before .before .before .before .before .before .before .before .before .before .before .before
+    .before .before .before .before .before .args .out .now in
+    let front : List ℕ = c .before .before .before .before .before .before .before .before .before .before .before
+    .before .before .before .put .last .0 in
+    let asked = c .before .before .before .before .before .before .before .before .before .before .before .before
+    .before .before .before .before .before .before .before .before .before .before .before .before .before .before
+    .before .has-room .ensures in
+    let there = not-false _
+    (c .before .before .before .before .before .before .before .before .before .before .before .before .before .before
+    .before .before .before .before .before .before .before .before .before .before .before .before .if1 .left) in
     let room = answer-fits script out _ asked there in
-    let opened = rw (c .before .before .before .before .before .before .before .before .before .before .before .before .before .before .before .before .before .before .before .before .before .before .before .before .before .opening .ensures) at (c .before .before .before .before .before .before .before .before .before .before .before .before .before .before .before .before .«open» .ensures) in
+    let opened =
+    rw (c .before .before .before .before .before .before .before .before .before .before .before .before .before
+    .before .before .before .before .before .before .before .before .before .before .before .before .opening .ensures)
+    at (c .before .before .before .before .before .before .before .before .before .before .before .before .before
+    .before .before .before .«open» .ensures) in
     kept-promise script out _ _ asked there
-    (replays _ _ script out front _ (length front - 17) opened room (c .before .before .before .before .before .before .before .before .before .before .before .before .before .before .put .ensures) (omega arith) (c .before .before .all .ensures))
+    (replays _ _ script out front _ (length front - 17) opened room (c .before .before .before .before .before
+    .before .before .before .before .before .before .before .before .before .put .ensures) (omega arith)
+    (c .before .before .all .ensures))
 
 pub replay-spec : {M : Type 1} → statement M
 replay-spec =

@@ -12,10 +12,12 @@ zeros : (n a : ℕ) → length (replicate n a) ≡ n
 zeros n a = length-replicate n a
 
 abbrev Inv-loop : tie.InvT-loop
-Inv-loop walk₀ kept₀ numbers₀ table₀ luma₀ sums₀ bins₀ picture₀ piece₀ turns₀ walk kept numbers table luma sums bins picture piece turns = length piece ≡ 1048576
+Inv-loop walk₀ kept₀ numbers₀ table₀ luma₀ sums₀ bins₀ picture₀ piece₀ turns₀ walk kept numbers table luma sums bins
+    picture piece turns = length piece ≡ 1048576
 
 abbrev μ-loop : tie.MeasureT-loop
-μ-loop walk₀ kept₀ numbers₀ table₀ luma₀ sums₀ bins₀ picture₀ piece₀ turns₀ walk kept numbers table luma sums bins picture piece turns = turns
+μ-loop walk₀ kept₀ numbers₀ table₀ luma₀ sums₀ bins₀ picture₀ piece₀ turns₀ walk kept numbers table luma sums bins
+    picture piece turns = turns
 
 run-opening-requires : tie.Need-run-opening-requires Inv-loop μ-loop
 run-opening-requires c κs = search needs

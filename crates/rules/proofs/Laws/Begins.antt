@@ -1,4 +1,5 @@
--- Refusal 9 stays: the packets that show what they are stay, and later bytes show further ones only behind the old bytes.
+-- Refusal 9 stays: the packets that show what they are stay, and later bytes show further
+-- ones only behind the old bytes.
 use Prim.Native.Nat.{ℕ, zero, suc, _+_, _-_, _/_, _≤_, _<_}
 use native.Mathlib.Omega.{arith}
 use native.Mathlib.Nat.{lt-of-not-le}
@@ -13,17 +14,21 @@ use borrow.Author.Tests.{le-leb, lt-leb}
 use Rattle.rules.specs.declared.Opening.{Opening}
 use Rattle.rules.specs.Bytes.{pick, byte, word32, network16, only, All, and, empty}
 use Rattle.rules.specs.Refusals.{none, fault}
-use Rattle.rules.specs.Frames.{seconds, microseconds, storedLength, frameTime, body, frameSize, frames, rest, behindHeader}
+use Rattle.rules.specs.Frames.{seconds, microseconds, storedLength, frameTime, body, frameSize, frames, rest}
+use Rattle.rules.specs.Frames.{behindHeader}
 use Rattle.rules.specs.Editions.{knowsDamage}
 use Rattle.rules.specs.Packets.{Packet, ipLength, udpLength, carries, packetsFrom, packetsIn, packetsOf, packets}
 use Rattle.rules.specs.Packets.{shown, startsCell, damageMark, condition, identifier, isWanted, startMark}
 use Rattle.rules.specs.Packets.{wantedOf}
 use Rattle.rules.specs.Units.{Arrival, setApart, firstArrival, damagedArrival, laterArrival, arrivalsAfter}
 use Rattle.rules.specs.Units.{arrivals, beginnings}
-use Rattle.rules.specs.Capture.{wholeFrames, unfinished, allFrames, shownWanted, beginsAt, tooManyUnits, captureFault}
+use Rattle.rules.specs.Capture.{wholeFrames, unfinished, allFrames, shownWanted, beginsAt, tooManyUnits}
+use Rattle.rules.specs.Capture.{captureFault}
 use Rattle.rules.proofs.Laws.Lists.{all-drop, only-append}
-use Rattle.rules.proofs.Laws.Faults.{no-fault, at-fault, late-fault, Grows, same, new, grows-kept, earlier-grows, long-grows, magic-grows, link-grows, frames-grow}
-use Rattle.rules.proofs.Laws.Frames.{size-least, size-append, frames-none, rest-none, frames-one, rest-one, frames-onward, rest-onward, by-frames}
+use Rattle.rules.proofs.Laws.Faults.{no-fault, at-fault, late-fault, Grows, same, new, grows-kept}
+use Rattle.rules.proofs.Laws.Faults.{earlier-grows, long-grows, magic-grows, link-grows, frames-grow}
+use Rattle.rules.proofs.Laws.Frames.{size-least, size-append, frames-none, rest-none, frames-one, rest-one}
+use Rattle.rules.proofs.Laws.Frames.{frames-onward, rest-onward, by-frames}
 
 module _ {A : Type 0} {P : A → Type 0} where
   pub only-all : (test : A → Bool) {xs : List A} → All P xs → All P (only test xs)
@@ -78,35 +83,46 @@ from-none (suc m) time place s h =
     rw (lt-leb 4 (length (take 188 s)) (simp length-take (omega arith)))
     (from-none m time (place + 188) (drop 188 s) (simp length-drop (omega arith)))
 
-from-early : (n m time place : ℕ) (s : List ℕ) → place + length s ≤ n → All (Early n) (shown (packetsFrom m time place s))
+from-early : (n m time place : ℕ) (s : List ℕ) → place + length s ≤ n →
+    All (Early n) (shown (packetsFrom m time place s))
 unfolding shown only packetsFrom
 from-early n zero time place s h = empty
-from-early n (suc m) time place s h = go (decLe 4 (length s)) (decLe 188 (length s)) (from-early n m time (place + 188) (drop 188 s))
+from-early n (suc m) time place s h =
+    go (decLe 4 (length s)) (decLe 188 (length s)) (from-early n m time (place + 188) (drop 188 s))
   where
     go : Dec (4 ≤ length s) → Dec (188 ≤ length s) →
-        (place + 188 + length (drop 188 s) ≤ n → All (Early n) (shown (packetsFrom m time (place + 188) (drop 188 s)))) →
+        (place + 188 + length (drop 188 s) ≤ n →
+        All (Early n) (shown (packetsFrom m time (place + 188) (drop 188 s)))) →
         All (Early n) (shown (packetsFrom (suc m) time place s))
     go (no g) d ih = rw (from-none (suc m) time place s (lt-of-not-le g)) empty
     go (yes g) (yes k) ih =
         let e : place + 3 < n = omega arith in
-        rw (le-leb 4 (length (take 188 s)) (simp length-take (omega arith))) (and e (ih (simp length-drop (omega arith))))
+        rw (le-leb 4 (length (take 188 s)) (simp length-take (omega arith)))
+        (and e (ih (simp length-drop (omega arith))))
     go (yes g) (no k) ih =
         let e : place + 3 < n = omega arith in
-        rw (le-leb 4 (length (take 188 s)) (simp length-take (omega arith)), drop-of-length-le s {i = 188} (omega arith), from-none m time (place + 188) [] (omega arith))
+        rw (
+          le-leb 4 (length (take 188 s)) (simp length-take (omega arith)),
+          drop-of-length-le s {i = 188} (omega arith),
+          from-none m time (place + 188) [] (omega arith),
+        )
         (and e empty)
 
 from-grow : (n m time place : ℕ) (s t : List ℕ) → n ≡ place + length s →
     Extends n (shown (packetsFrom m time place s)) (shown (packetsFrom m time place (s ++ t)))
 unfolding shown only packetsFrom
 from-grow n zero time place s t h = ends empty
-from-grow n (suc m) time place s t h = go (decLe 4 (length s)) (decLe 188 (length s)) (from-grow n m time (place + 188) (drop 188 s) t)
+from-grow n (suc m) time place s t h =
+    go (decLe 4 (length s)) (decLe 188 (length s)) (from-grow n m time (place + 188) (drop 188 s) t)
   where
-    first : 4 ≤ length s → Alike n (record { time = time; place = place; bytes = take 188 s }) (record { time = time; place = place; bytes = take 188 (s ++ t) })
+    first : 4 ≤ length s → Alike n (record { time = time; place = place; bytes = take 188 s })
+        (record { time = time; place = place; bytes = take 188 (s ++ t) })
     first g =
         record {
           place = refl;
           early = omega arith;
-          bytes = λ i k. getD-take 188 (s ++ t) i 0 (omega arith) ∙ List·getD-append s t 0 i (omega arith) ∙ sym (getD-take 188 s i 0 (omega arith));
+          bytes = λ i k. getD-take 188 (s ++ t) i 0 (omega arith) ∙ List·getD-append s t 0 i (omega arith)
+              ∙ sym (getD-take 188 s i 0 (omega arith));
         }
 
     old : 4 ≤ length s → leb 4 (length (take 188 s)) ≡ true
@@ -116,16 +132,25 @@ from-grow n (suc m) time place s t h = go (decLe 4 (length s)) (decLe 188 (lengt
     longer g = le-leb 4 (length (take 188 (s ++ t))) (simp (length-take, length-append) (omega arith))
 
     go : Dec (4 ≤ length s) → Dec (188 ≤ length s) →
-        (n ≡ place + 188 + length (drop 188 s) → Extends n (shown (packetsFrom m time (place + 188) (drop 188 s))) (shown (packetsFrom m time (place + 188) (drop 188 s ++ t)))) →
+        (n ≡ place + 188 + length (drop 188 s) → Extends n (shown (packetsFrom m time (place + 188) (drop 188 s)))
+        (shown (packetsFrom m time (place + 188) (drop 188 s ++ t)))) →
         Extends n (shown (packetsFrom (suc m) time place s)) (shown (packetsFrom (suc m) time place (s ++ t)))
     go (no g) d ih =
         rw (from-none (suc m) time place s (lt-of-not-le g))
-        (ends (only-all (λ (p : Packet). leb 4 (length (p .bytes))) (from-late n (suc m) time place (s ++ t) (omega arith))))
-    go (yes g) (yes k) ih = rw (old g, longer g, drop-append-le 188 s t k) (pair (first g) (ih (simp length-drop (omega arith))))
+        (ends (only-all (λ (p : Packet). leb 4 (length (p .bytes)))
+        (from-late n (suc m) time place (s ++ t) (omega arith))))
+    go (yes g) (yes k) ih =
+        rw (old g, longer g, drop-append-le 188 s t k) (pair (first g) (ih (simp length-drop (omega arith))))
     go (yes g) (no k) ih =
-        rw (old g, longer g, drop-of-length-le s {i = 188} (omega arith), from-none m time (place + 188) [] (omega arith))
+        rw (
+          old g,
+          longer g,
+          drop-of-length-le s {i = 188} (omega arith),
+          from-none m time (place + 188) [] (omega arith),
+        )
         (pair (first g)
-        (ends (only-all (λ (p : Packet). leb 4 (length (p .bytes))) (from-late n m time (place + 188) (drop 188 (s ++ t)) (omega arith)))))
+        (ends (only-all (λ (p : Packet). leb 4 (length (p .bytes)))
+        (from-late n m time (place + 188) (drop 188 (s ++ t)) (omega arith)))))
 
 -- ---- the packets of a frame
 
@@ -137,7 +162,8 @@ unfolding shown packetsOf packetsIn
 of-late n place f h = go (carries f)
   where
     go : (b : Bool) → All (After n) (shown (pick b (packetsIn place f) []))
-    go true = only-all isShown (from-late n ((udpLength f - 8) / 188) (frameTime f) (place + 58) (drop 42 (body f)) (omega arith))
+    go true = only-all isShown
+        (from-late n ((udpLength f - 8) / 188) (frameTime f) (place + 58) (drop 42 (body f)) (omega arith))
     go false = only-all isShown empty
 
 of-early : (n place : ℕ) (f : List ℕ) → place + length f ≤ n → All (Early n) (shown (packetsOf place f))
@@ -147,9 +173,11 @@ of-early n place f h = go (carries f) (decLe 58 (length f))
     go : (b : Bool) → Dec (58 ≤ length f) → All (Early n) (shown (pick b (packetsIn place f) []))
     go false d = empty
     go true (yes g) =
-        from-early n ((udpLength f - 8) / 188) (frameTime f) (place + 58) (drop 42 (drop 16 f)) (simp length-drop (omega arith))
+        from-early n ((udpLength f - 8) / 188) (frameTime f) (place + 58) (drop 42 (drop 16 f))
+        (simp length-drop (omega arith))
     go true (no g) =
-        rw (from-none ((udpLength f - 8) / 188) (frameTime f) (place + 58) (drop 42 (drop 16 f)) (simp length-drop (omega arith))) empty
+        rw (from-none ((udpLength f - 8) / 188) (frameTime f) (place + 58) (drop 42 (drop 16 f))
+        (simp length-drop (omega arith))) empty
 
 -- the fields of a frame that is there up to its first packet's byte 3 stay
 module _ (x t : List ℕ) (h : 62 ≤ length x) where
@@ -172,31 +200,60 @@ module _ (x t : List ℕ) (h : 62 ≤ length x) where
   stored-more : storedLength (x ++ t) ≡ storedLength x
   unfolding storedLength word32
   stored-more =
-      rw (List·getD-append x t 0 8 (omega arith), List·getD-append x t 0 9 (omega arith), List·getD-append x t 0 10 (omega arith), List·getD-append x t 0 11 (omega arith))
+      rw (
+        List·getD-append x t 0 8 (omega arith),
+        List·getD-append x t 0 9 (omega arith),
+        List·getD-append x t 0 10 (omega arith),
+        List·getD-append x t 0 11 (omega arith),
+      )
 
   time-more : frameTime (x ++ t) ≡ frameTime x
   unfolding frameTime seconds microseconds word32
   time-more =
-      rw (List·getD-append x t 0 0 (omega arith), List·getD-append x t 0 1 (omega arith), List·getD-append x t 0 2 (omega arith), List·getD-append x t 0 3 (omega arith), List·getD-append x t 0 4 (omega arith), List·getD-append x t 0 5 (omega arith), List·getD-append x t 0 6 (omega arith), List·getD-append x t 0 7 (omega arith))
+      rw (
+        List·getD-append x t 0 0 (omega arith),
+        List·getD-append x t 0 1 (omega arith),
+        List·getD-append x t 0 2 (omega arith),
+        List·getD-append x t 0 3 (omega arith),
+        List·getD-append x t 0 4 (omega arith),
+        List·getD-append x t 0 5 (omega arith),
+        List·getD-append x t 0 6 (omega arith),
+        List·getD-append x t 0 7 (omega arith),
+      )
 
   carries-more : carries (x ++ t) ≡ carries x
   unfolding carries network16
   carries-more =
-      rw (stored-more, ip-more, udp-more, body-more, in-body 12 (omega arith), in-body 13 (omega arith), in-body 14 (omega arith), in-body 20 (omega arith), in-body 21 (omega arith), in-body 23 (omega arith))
+      rw (
+        stored-more,
+        ip-more,
+        udp-more,
+        body-more,
+        in-body 12 (omega arith),
+        in-body 13 (omega arith),
+        in-body 14 (omega arith),
+        in-body 20 (omega arith),
+        in-body 21 (omega arith),
+        in-body 23 (omega arith),
+      )
 
 first-packet : (x t : List ℕ) → 62 ≤ length x → drop 42 (body (x ++ t)) ≡ drop 42 (body x) ++ t
 unfolding body
-first-packet x t h = rw (drop-append-le 16 x t (omega arith)) (drop-append-le 42 (drop 16 x) t (simp length-drop (omega arith)))
+first-packet x t h =
+    rw (drop-append-le 16 x t (omega arith)) (drop-append-le 42 (drop 16 x) t (simp length-drop (omega arith)))
 
-in-grow : (n place : ℕ) (x t : List ℕ) → n ≡ place + length x → 62 ≤ length x → Extends n (shown (packetsIn place x)) (shown (packetsIn place (x ++ t)))
+in-grow : (n place : ℕ) (x t : List ℕ) → n ≡ place + length x → 62 ≤ length x →
+    Extends n (shown (packetsIn place x)) (shown (packetsIn place (x ++ t)))
 unfolding packetsIn
 in-grow n place x t e h =
     rw (udp-more x t h, time-more x t h, first-packet x t h)
-    (from-grow n ((udpLength x - 8) / 188) (frameTime x) (place + 58) (drop 42 (body x)) t (unfold body in simp length-drop (omega arith)))
+    (from-grow n ((udpLength x - 8) / 188) (frameTime x) (place + 58) (drop 42 (body x)) t
+    (unfold body in simp length-drop (omega arith)))
 
 in-none : (place : ℕ) (x : List ℕ) → length x < 62 → shown (packetsIn place x) ≡ []
 unfolding packetsIn body
-in-none place x h = from-none ((udpLength x - 8) / 188) (frameTime x) (place + 58) (drop 42 (drop 16 x)) (simp length-drop (omega arith))
+in-none place x h = from-none ((udpLength x - 8) / 188) (frameTime x) (place + 58) (drop 42 (drop 16 x))
+    (simp length-drop (omega arith))
 
 of-none : (place : ℕ) (x : List ℕ) → length x < 62 → shown (packetsOf place x) ≡ []
 unfolding packetsOf shown only
@@ -206,11 +263,13 @@ of-none place x h = go (carries x)
     go true = in-none place x h
     go false = refl
 
-of-grow : (n place : ℕ) (x t : List ℕ) → n ≡ place + length x → Extends n (shown (packetsOf place x)) (shown (packetsOf place (x ++ t)))
+of-grow : (n place : ℕ) (x t : List ℕ) → n ≡ place + length x →
+    Extends n (shown (packetsOf place x)) (shown (packetsOf place (x ++ t)))
 unfolding packetsOf shown only
 of-grow n place x t e = go (decLe 62 (length x))
   where
-    there : 62 ≤ length x → (b : Bool) → Extends n (shown (pick b (packetsIn place x) [])) (shown (pick b (packetsIn place (x ++ t)) []))
+    there : 62 ≤ length x → (b : Bool) →
+        Extends n (shown (pick b (packetsIn place x) [])) (shown (pick b (packetsIn place (x ++ t)) []))
     there h true = in-grow n place x t e h
     there h false = ends empty
 
@@ -228,22 +287,26 @@ single : (place : ℕ) (x : List ℕ) → packets place (x ∷ []) ≡ packetsOf
 unfolding packets
 single place x = append-nil (packetsOf place x)
 
-split : (place : ℕ) (f : List ℕ) (fs : List (List ℕ)) → shown (packets place (f ∷ fs)) ≡ shown (packetsOf place f) ++ shown (packets (place + length f) fs)
+split : (place : ℕ) (f : List ℕ) (fs : List (List ℕ)) →
+    shown (packets place (f ∷ fs)) ≡ shown (packetsOf place f) ++ shown (packets (place + length f) fs)
 unfolding packets
 split place f fs = shown-append (packetsOf place f) (packets (place + length f) fs)
 
 packets-late : (n place : ℕ) (fs : List (List ℕ)) → n ≤ place → All (After n) (shown (packets place fs))
 packets-late n place [] h = unfold shown only packets in empty
 packets-late n place (f ∷ fs) h =
-    rw (split place f fs) (all-append (of-late n place f (omega arith)) (packets-late n (place + length f) fs (omega arith)))
+    rw (split place f fs)
+    (all-append (of-late n place f (omega arith)) (packets-late n (place + length f) fs (omega arith)))
 
 abbrev pieces : List ℕ → List (List ℕ)
 pieces x = frames x ++ rest x ∷ []
 
 -- a frame that is not whole is the front of the frame that it becomes
-cut-is : (x t : List ℕ) → length x < frameSize x → take (frameSize (x ++ t)) (x ++ t) ≡ x ++ take (frameSize (x ++ t) - length x) t
+cut-is : (x t : List ℕ) → length x < frameSize x →
+    take (frameSize (x ++ t)) (x ++ t) ≡ x ++ take (frameSize (x ++ t) - length x) t
 cut-is x t h =
-    let e : frameSize (x ++ t) ≡ length x + (frameSize (x ++ t) - length x) = omega (arith, longer (decLe 16 (length x))) in
+    let e : frameSize (x ++ t) ≡ length x + (frameSize (x ++ t) - length x) =
+    omega (arith, longer (decLe 16 (length x))) in
     ap (λ (m : ℕ). take m (x ++ t)) e ∙ take-append-add x t (frameSize (x ++ t) - length x)
   where
     longer : Dec (16 ≤ length x) → length x ≤ frameSize (x ++ t)
@@ -251,25 +314,50 @@ cut-is x t h =
     longer (no g) = let e = size-least (x ++ t) in omega arith
 
 module _ (n : ℕ) (t : List ℕ) where
-  cut-extends : (x : List ℕ) → length x < frameSize x → (place : ℕ) → n ≡ place + length x → Dec (frameSize (x ++ t) ≤ length (x ++ t)) →
+  cut-extends : (x : List ℕ) → length x < frameSize x → (place : ℕ) → n ≡ place + length x →
+      Dec (frameSize (x ++ t) ≤ length (x ++ t)) →
       Extends n (shown (packets place (pieces x))) (shown (packets place (pieces (x ++ t))))
   cut-extends x c place e (yes g) =
       let u = take (frameSize (x ++ t) - length x) t in
       let fs = frames (drop (frameSize (x ++ t)) (x ++ t)) ++ rest (x ++ t) ∷ [] in
-      rw (frames-none x c, rest-none x c, frames-one (x ++ t) g, single place x, split place (take (frameSize (x ++ t)) (x ++ t)) fs, cut-is x t c)
-      (extends-late (of-grow n place x u e) (packets-late n (place + length (x ++ u)) fs (simp length-append (omega arith))))
+      rw (
+        frames-none x c,
+        rest-none x c,
+        frames-one (x ++ t) g,
+        single place x,
+        split place (take (frameSize (x ++ t)) (x ++ t)) fs,
+        cut-is x t c,
+      )
+      (extends-late (of-grow n place x u e)
+      (packets-late n (place + length (x ++ u)) fs (simp length-append (omega arith))))
   cut-extends x c place e (no g) =
-      rw (frames-none x c, rest-none x c, frames-none (x ++ t) (lt-of-not-le g), rest-none (x ++ t) (lt-of-not-le g), single place x, single place (x ++ t))
+      rw (
+        frames-none x c,
+        rest-none x c,
+        frames-none (x ++ t) (lt-of-not-le g),
+        rest-none (x ++ t) (lt-of-not-le g),
+        single place x,
+        single place (x ++ t),
+      )
       (of-grow n place x t e)
 
-  pieces-extend : (x : List ℕ) (place : ℕ) → n ≡ place + length x → Extends n (shown (packets place (pieces x))) (shown (packets place (pieces (x ++ t))))
+  pieces-extend : (x : List ℕ) (place : ℕ) → n ≡ place + length x →
+      Extends n (shown (packets place (pieces x))) (shown (packets place (pieces (x ++ t))))
   pieces-extend =
-      by-frames (λ (x : List ℕ). (place : ℕ) → n ≡ place + length x → Extends n (shown (packets place (pieces x))) (shown (packets place (pieces (x ++ t)))))
+      by-frames (λ (x : List ℕ). (place : ℕ) → n ≡ place + length x →
+      Extends n (shown (packets place (pieces x))) (shown (packets place (pieces (x ++ t)))))
       (λ x c place e. cut-extends x c place e (decLe (frameSize (x ++ t)) (length (x ++ t))))
       (λ x c ih place e.
       let f = take (frameSize x) x in
       let y = drop (frameSize x) x in
-      rw (frames-one x c, rest-one x c, frames-onward x t c, rest-onward x t c, split place f (pieces y), split place f (pieces (y ++ t)))
+      rw (
+        frames-one x c,
+        rest-one x c,
+        frames-onward x t c,
+        rest-onward x t c,
+        split place f (pieces y),
+        split place f (pieces (y ++ t)),
+      )
       (extends-both (of-early n place f (rw (length-take-le (frameSize x) x c) (omega arith)))
       (ih (place + length f) (rw (length-take-le (frameSize x) x c, length-drop) (omega arith)))))
 
@@ -283,7 +371,8 @@ wanted-alike : (o : Opening) {n : ℕ} {p q : Packet} → Alike n p q → isWant
 unfolding isWanted identifier
 wanted-alike o a = rw (condition-alike a, a .bytes 1 (omega arith), a .bytes 2 (omega arith))
 
-wanted-extends : (o : Opening) {n : ℕ} {ps qs : List Packet} → Extends n ps qs → Extends n (wantedOf o ps) (wantedOf o qs)
+wanted-extends : (o : Opening) {n : ℕ} {ps qs : List Packet} → Extends n ps qs →
+    Extends n (wantedOf o ps) (wantedOf o qs)
 unfolding wantedOf only
 wanted-extends o (ends h) = ends (only-all (λ (p : Packet). isWanted o (p .bytes)) h)
 wanted-extends o {n} (pair {p} {q} {ps} {qs} a e) =
@@ -301,7 +390,8 @@ Behind n a = n ≤ a .place + 3
 
 data Follows (n : ℕ) : List Arrival → List Arrival → Type 0 where
   stops : {bs : List Arrival} → All (Behind n) bs → Follows n [] bs
-  next : {a b : Arrival} {xs bs : List Arrival} → b .place ≡ a .place → b .begins ≡ a .begins → a .place + 3 < n → Follows n xs bs → Follows n (a ∷ xs) (b ∷ bs)
+  next : {a b : Arrival} {xs bs : List Arrival} → b .place ≡ a .place → b .begins ≡ a .begins → a .place + 3 < n →
+      Follows n xs bs → Follows n (a ∷ xs) (b ∷ bs)
 
 module _ (known : Bool) where
   after-late : (n : ℕ) (q : Packet) {qs : List Packet} → All (After n) qs →
@@ -372,7 +462,8 @@ begins-follow (stops h) = stops (only-all beginsUnit h)
 begins-follow {n} (next {a} {b} {xs} {bs} p e l f) = go (a .begins) (b .begins) e (begins-follow f)
   where
     go : (t u : Bool) → u ≡ t → Follows n (only beginsUnit xs) (only beginsUnit bs) →
-        Follows n (pick t (a ∷ only beginsUnit xs) (only beginsUnit xs)) (pick u (b ∷ only beginsUnit bs) (only beginsUnit bs))
+        Follows n (pick t (a ∷ only beginsUnit xs) (only beginsUnit xs))
+        (pick u (b ∷ only beginsUnit bs) (only beginsUnit bs))
     go true true z r = next p e l r
     go true false z r = absurd (false≢true z)
     go false true z r = absurd (true≢false z)
@@ -388,15 +479,24 @@ at-follow (stops empty) = same no-fault
 at-follow (stops (and h hs)) = new (late-fault h)
 at-follow (next p e l f) = rw p (same (at-fault l))
 
-shown-extend : (s t : List ℕ) → Extends (length s) (shown (packets 24 (allFrames s))) (shown (packets 24 (allFrames (s ++ t))))
+shown-extend : (s t : List ℕ) →
+    Extends (length s) (shown (packets 24 (allFrames s))) (shown (packets 24 (allFrames (s ++ t))))
 unfolding allFrames wholeFrames unfinished behindHeader
 shown-extend s t = go (decLe 24 (length s))
   where
-    go : Dec (24 ≤ length s) → Extends (length s) (shown (packets 24 (pieces (drop 24 s)))) (shown (packets 24 (pieces (drop 24 (s ++ t)))))
-    go (yes g) = rw (drop-append-le 24 s t g) (pieces-extend (length s) t (drop 24 s) 24 (simp length-drop (omega arith)))
+    go : Dec (24 ≤ length s) →
+        Extends (length s) (shown (packets 24 (pieces (drop 24 s)))) (shown (packets 24 (pieces (drop 24 (s ++ t)))))
+    go (yes g) =
+        rw (drop-append-le 24 s t g) (pieces-extend (length s) t (drop 24 s) 24 (simp length-drop (omega arith)))
     go (no g) =
         let c : length {A = ℕ} [] < frameSize [] = omega (arith, size-least []) in
-        rw (drop-of-length-le s {i = 24} (omega arith), frames-none [] c, rest-none [] c, single 24 [], of-none 24 [] (omega arith))
+        rw (
+          drop-of-length-le s {i = 24} (omega arith),
+          frames-none [] c,
+          rest-none [] c,
+          single 24 [],
+          of-none 24 [] (omega arith),
+        )
         (ends (packets-late (length s) 24 (pieces (drop 24 (s ++ t))) (omega arith)))
 
 pub units-grow : (o : Opening) (s t : List ℕ) → Grows (length s) (tooManyUnits o s) (tooManyUnits o (s ++ t))
@@ -410,7 +510,9 @@ units-grow o s t = at-follow
 pub capture-grows : (o : Opening) (s t : List ℕ) → Grows (length s) (captureFault o s) (captureFault o (s ++ t))
 unfolding captureFault
 capture-grows o s t =
-    earlier-grows (long-grows s t) (earlier-grows (magic-grows s t) (earlier-grows (link-grows s t) (earlier-grows (frames-grow s t) (units-grow o s t))))
+    earlier-grows (long-grows s t) (earlier-grows (magic-grows s t)
+    (earlier-grows (link-grows s t) (earlier-grows (frames-grow s t) (units-grow o s t))))
 
-pub capture-kept : (o : Opening) (s t : List ℕ) (k p : ℕ) → captureFault o s ≡ fault k p → captureFault o (s ++ t) ≡ fault k p
+pub capture-kept : (o : Opening) (s t : List ℕ) (k p : ℕ) → captureFault o s ≡ fault k p →
+    captureFault o (s ++ t) ≡ fault k p
 capture-kept o s t k p h = grows-kept (capture-grows o s t) h

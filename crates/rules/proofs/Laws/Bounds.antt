@@ -15,7 +15,8 @@ use Rattle.rules.specs.Editions.{knowsDamage}
 use Rattle.rules.specs.Packets.{Packet, carries, packetsFrom, packetsOf, packets, skipped, condition, isBad}
 use Rattle.rules.specs.Packets.{identifier, isWanted, wantedOf, badOf}
 use Rattle.rules.specs.Units.{setApart, beforeUnits}
-use Rattle.rules.specs.Capture.{wholeFrames, unfinished, allFrames, wholeWanted, frameCount, skippedCount, badCount}
+use Rattle.rules.specs.Capture.{wholeFrames, unfinished, allFrames, wholeWanted, frameCount, skippedCount}
+use Rattle.rules.specs.Capture.{badCount}
 use Rattle.rules.proofs.Laws.Lists.{count-few, only-append, endToEnd-append}
 use Rattle.rules.proofs.Laws.Frames.{size-least, frames-all}
 use Rattle.rules.proofs.Laws.Onward.{Whole, frames-whole, countOf, of-from, reaching}
@@ -27,7 +28,8 @@ module _ {A : Type 0} (test : A → Bool) where
   only-few [] = omega arith
   only-few (x ∷ xs) = go (test x) (only-few xs)
     where
-      go : (b : Bool) → length (only test xs) ≤ length xs → length (pick b (x ∷ only test xs) (only test xs)) ≤ suc (length xs)
+      go : (b : Bool) → length (only test xs) ≤ length xs →
+          length (pick b (x ∷ only test xs) (only test xs)) ≤ suc (length xs)
       go true h = omega arith
       go false h = omega arith
 
@@ -70,21 +72,26 @@ from-few (suc m) τ q y = go (decLe 188 (length y)) (from-few m τ (q + 188) (dr
     more = reaching 188 (packetsFrom m τ (q + 188) (drop 188 y))
 
     go : Dec (188 ≤ length y) → 188 * length more ≤ length (drop 188 y) →
-        188 * length (pick (leb 188 (length (take 188 y))) (record { time = τ; place = q; bytes = take 188 y } ∷ more) more) ≤ length y
+        188 * length (pick (leb 188 (length (take 188 y)))
+        (record { time = τ; place = q; bytes = take 188 y } ∷ more) more) ≤ length y
     go (yes g) h =
-        rw (le-leb 188 (length (take 188 y)) (simp length-take (omega arith))) (let d = length-drop 188 y in omega arith)
+        rw (le-leb 188 (length (take 188 y)) (simp length-take (omega arith)))
+        (let d = length-drop 188 y in omega arith)
     go (no g) h =
-        rw (lt-leb 188 (length (take 188 y)) (simp length-take (omega arith))) (let d = length-drop 188 y in omega arith)
+        rw (lt-leb 188 (length (take 188 y)) (simp length-take (omega arith)))
+        (let d = length-drop 188 y in omega arith)
 
 of-few : (place : ℕ) (f : List ℕ) → 188 * length (reaching 188 (packetsOf place f)) ≤ length f
 of-few place f =
-    rw (of-from place f) (let h = from-few (countOf f) (frameTime f) (place + 58) (drop 58 f) in let d = length-drop 58 f in omega arith)
+    rw (of-from place f) (let h = from-few (countOf f) (frameTime f) (place + 58) (drop 58 f) in
+    let d = length-drop 58 f in omega arith)
 
 packets-few : (place : ℕ) (fs : List (List ℕ)) → 188 * length (reaching 188 (packets place fs)) ≤ length (endToEnd fs)
 unfolding packets endToEnd
 packets-few place [] = unfold only in omega arith
 packets-few place (f ∷ fs) =
-    let e = only-append (λ (p : Packet). leb 188 (length (p .bytes))) (packetsOf place f) (packets (place + length f) fs) in
+    let e =
+    only-append (λ (p : Packet). leb 188 (length (p .bytes))) (packetsOf place f) (packets (place + length f) fs) in
     rw e
     (let l = length-append (reaching 188 (packetsOf place f)) (reaching 188 (packets (place + length f) fs)) in
     let a = of-few place f in
@@ -99,7 +106,8 @@ reached-few s =
     let j = ap length (endToEnd-append (wholeFrames s) (unfinished s ∷ [])) in
     let l = length-append (endToEnd (wholeFrames s)) (endToEnd (unfinished s ∷ [])) in
     let a = all-bytes s in
-    let e : length (endToEnd (unfinished s ∷ [])) ≡ length (unfinished s) = unfold endToEnd in length-append (unfinished s) [] ∙ omega arith in
+    let e : length (endToEnd (unfinished s ∷ [])) ≡ length (unfinished s) =
+    unfold endToEnd in length-append (unfinished s) [] ∙ omega arith in
     omega arith
 
 -- no packet is bad and of PID

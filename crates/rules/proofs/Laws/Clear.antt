@@ -14,12 +14,15 @@ use Rattle.rules.specs.Refusals.{Fault, none, fault}
 use Rattle.rules.specs.Frames.{microseconds, storedLength, frameSize}
 use Rattle.rules.specs.Packets.{packets, wantedOf}
 use Rattle.rules.specs.Units.{arrivals, beginnings}
-use Rattle.rules.specs.Capture.{wholeFrames, unfinished, allFrames, earlier, showing, tooLong, wrongMagic, wrongLink, wrongFrameHeader, wrongFrame, tooManyUnits, captureFault}
+use Rattle.rules.specs.Capture.{wholeFrames, unfinished, allFrames, earlier, showing, tooLong, wrongMagic}
+use Rattle.rules.specs.Capture.{wrongLink, wrongFrameHeader, wrongFrame, tooManyUnits, captureFault}
 use Rattle.rules.proofs.Laws.Frames.{size-least}
 use Rattle.rules.proofs.Laws.Capture.{too-long}
-use Rattle.rules.proofs.Laws.Faults.{Late, late-none, late-fault, Grows, same, new, showing-none, earlier-grows, magic-grows, link-grows, frames-grow}
+use Rattle.rules.proofs.Laws.Faults.{Late, late-none, late-fault, Grows, same, new, showing-none, earlier-grows}
+use Rattle.rules.proofs.Laws.Faults.{magic-grows, link-grows, frames-grow}
 use Rattle.rules.proofs.Laws.Begins.{units-grow}
-use Rattle.rules.proofs.Laws.Onward.{base, base-sum, Whole, frames-whole, whole-part, unfinished-part, whole-full, unfinished-full, header-alone, of-none, layout}
+use Rattle.rules.proofs.Laws.Onward.{base, base-sum, Whole, frames-whole, whole-part, unfinished-part}
+use Rattle.rules.proofs.Laws.Onward.{whole-full, unfinished-full, header-alone, of-none, layout}
 use Rattle.rules.proofs.Laws.Flow.{reached, nine, nine-of}
 
 never : {k p : ℕ} → fault k p ≡ none → ⊥
@@ -82,10 +85,12 @@ four-first n late-none = refl
 four-first n (late-fault {p = q} h) = rw (le-leb n q h)
 
 -- at one byte 4 comes first
-pub four : (o : Opening) (s t : List ℕ) → Clear o s → length s ≡ 268435456 → 0 < length t → captureFault o (s ++ t) ≡ fault 4 268435456
+pub four : (o : Opening) (s t : List ℕ) → Clear o s → length s ≡ 268435456 → 0 < length t →
+    captureFault o (s ++ t) ≡ fault 4 268435456
 unfolding captureFault
 four o s t c e h =
-    let g = earlier-grows (magic-grows s t) (earlier-grows (link-grows s t) (earlier-grows (frames-grow s t) (units-grow o s t))) in
+    let g = earlier-grows (magic-grows s t)
+    (earlier-grows (link-grows s t) (earlier-grows (frames-grow s t) (units-grow o s t))) in
     let l = grows-late g (rw (c .magic, c .link, c .frames, c .units)) in
     rw (too-long (s ++ t) (simp length-append (omega arith))) (four-first 268435456 (rw e at l))
 
@@ -149,15 +154,23 @@ module _ (n place : ℕ) (r : List ℕ) (e : n ≡ place + length r) where
   pub header-fine : Fine r → wrongFrameHeader n place r ≡ none
   unfolding wrongFrameHeader
   header-fine f =
-      rw (shows-not n 7 (place + 7) (ltb 999999 (microseconds r)) (λ h. le-ltb 999999 (microseconds r) (f .time (omega arith))), shows-not n 8 (place + 11) (ltb 65535 (storedLength r)) (λ h. le-ltb 65535 (storedLength r) (f .size (omega arith))))
+      rw (
+        shows-not n 7 (place + 7) (ltb 999999 (microseconds r))
+            (λ h. le-ltb 999999 (microseconds r) (f .time (omega arith))),
+        shows-not n 8 (place + 11) (ltb 65535 (storedLength r))
+            (λ h. le-ltb 65535 (storedLength r) (f .size (omega arith))),
+      )
 
   pub fine-header : wrongFrameHeader n place r ≡ none → Fine r
   unfolding wrongFrameHeader
   fine-header h =
-      let b = none-both (showing n 7 (place + 7) (ltb 999999 (microseconds r))) (showing n 8 (place + 11) (ltb 65535 (storedLength r))) h in
+      let b = none-both (showing n 7 (place + 7) (ltb 999999 (microseconds r)))
+      (showing n 8 (place + 11) (ltb 65535 (storedLength r))) h in
       record {
-        time = λ g. ltb-false 999999 (microseconds r) (shows n 7 (place + 7) (ltb 999999 (microseconds r)) (omega arith) (b .0));
-        size = λ g. ltb-false 65535 (storedLength r) (shows n 8 (place + 11) (ltb 65535 (storedLength r)) (omega arith) (b .1));
+        time = λ g. ltb-false 999999 (microseconds r)
+            (shows n 7 (place + 7) (ltb 999999 (microseconds r)) (omega arith) (b .0));
+        size = λ g. ltb-false 65535 (storedLength r)
+            (shows n 8 (place + 11) (ltb 65535 (storedLength r)) (omega arith) (b .1));
       }
 
   pub header-seven : length r ≡ 8 → 999999 < microseconds r → wrongFrameHeader n place r ≡ fault 7 (place + 7)
@@ -166,19 +179,25 @@ module _ (n place : ℕ) (r : List ℕ) (e : n ≡ place + length r) where
       rw (shows-not n 8 (place + 11) (ltb 65535 (storedLength r)) (λ g. absurd (omega arith)))
       (unfold showing in rw (lt-ltb (place + 7) n (omega arith), lt-ltb 999999 (microseconds r) h))
 
-  pub header-eight : length r ≡ 12 → microseconds r ≤ 999999 → 65535 < storedLength r → wrongFrameHeader n place r ≡ fault 8 (place + 11)
+  pub header-eight : length r ≡ 12 → microseconds r ≤ 999999 → 65535 < storedLength r →
+      wrongFrameHeader n place r ≡ fault 8 (place + 11)
   unfolding wrongFrameHeader
   header-eight l g h =
       rw (shows-not n 7 (place + 7) (ltb 999999 (microseconds r)) (λ k. le-ltb 999999 (microseconds r) g))
       (unfold showing in rw (lt-ltb (place + 11) n (omega arith), lt-ltb 65535 (storedLength r) h))
 
-header-same : (n n′ place : ℕ) (f : List ℕ) → place + 11 < n → n ≤ n′ → wrongFrameHeader n′ place f ≡ wrongFrameHeader n place f
+header-same : (n n′ place : ℕ) (f : List ℕ) → place + 11 < n → n ≤ n′ →
+    wrongFrameHeader n′ place f ≡ wrongFrameHeader n place f
 unfolding wrongFrameHeader
 header-same n n′ place f h g =
-    rw (showing-same n n′ 7 (place + 7) (ltb 999999 (microseconds f)) (omega arith) (omega arith), showing-same n n′ 8 (place + 11) (ltb 65535 (storedLength f)) (omega arith) (omega arith))
+    rw (
+      showing-same n n′ 7 (place + 7) (ltb 999999 (microseconds f)) (omega arith) (omega arith),
+      showing-same n n′ 8 (place + 11) (ltb 65535 (storedLength f)) (omega arith) (omega arith),
+    )
 
 -- frames that showed nothing show nothing later
-frames-next : (n n′ p : ℕ) {fs : List (List ℕ)} (r : List ℕ) (gs : List (List ℕ)) → All Whole fs → p + length (endToEnd fs) ≤ n → n ≤ n′ →
+frames-next : (n n′ p : ℕ) {fs : List (List ℕ)} (r : List ℕ) (gs : List (List ℕ)) → All Whole fs →
+    p + length (endToEnd fs) ≤ n → n ≤ n′ →
     wrongFrame n p (fs ++ r ∷ []) ≡ none → wrongFrame n′ p (fs ++ gs) ≡ wrongFrame n′ (p + length (endToEnd fs)) gs
 unfolding wrongFrame endToEnd
 frames-next n n′ p r gs empty a h e = ap (λ (q : ℕ). wrongFrame n′ q gs) (omega arith)
@@ -196,7 +215,8 @@ one-frame n p r = earlier-none (wrongFrameHeader n p r)
 
 empty-frame : (n p : ℕ) → n ≤ p → wrongFrameHeader n p [] ≡ none
 unfolding wrongFrameHeader
-empty-frame n p h = rw (shows-not n 7 (p + 7) _ (λ g. absurd (omega arith)), shows-not n 8 (p + 11) _ (λ g. absurd (omega arith)))
+empty-frame n p h =
+    rw (shows-not n 7 (p + 7) _ (λ g. absurd (omega arith)), shows-not n 8 (p + 11) _ (λ g. absurd (omega arith)))
 
 module _ (s t : List ℕ) (h : 24 ≤ length s) (fits : length (unfinished s ++ t) ≤ frameSize (unfinished s ++ t))
     (c : wrongFrame (length s) 24 (allFrames s) ≡ none) where
@@ -207,41 +227,66 @@ module _ (s t : List ℕ) (h : 24 ≤ length s) (fits : length (unfinished s ++ 
       let d = base-sum s h in
       omega arith
 
-  behind-frames : (gs : List (List ℕ)) → wrongFrame (length (s ++ t)) 24 (wholeFrames s ++ gs) ≡ wrongFrame (length (s ++ t)) (base s) gs
+  behind-frames : (gs : List (List ℕ)) →
+      wrongFrame (length (s ++ t)) 24 (wholeFrames s ++ gs) ≡ wrongFrame (length (s ++ t)) (base s) gs
   unfolding base allFrames
   behind-frames gs =
-      frames-next (length s) (length (s ++ t)) 24 (unfinished s) gs (frames-whole s) (omega (arith, base-sum s h)) (grown s t) c
+      frames-next (length s) (length (s ++ t)) 24 (unfinished s) gs (frames-whole s)
+      (omega (arith, base-sum s h)) (grown s t) c
 
-  frame-more : wrongFrame (length (s ++ t)) 24 (allFrames (s ++ t)) ≡ wrongFrameHeader (length (s ++ t)) (base s) (unfinished s ++ t)
+  frame-more : wrongFrame (length (s ++ t)) 24 (allFrames (s ++ t)) ≡ wrongFrameHeader (length (s ++ t)) (base s)
+      (unfinished s ++ t)
   unfolding allFrames
   frame-more = go (decLe (frameSize (unfinished s ++ t)) (length (unfinished s ++ t)))
     where
       go : Dec (frameSize (unfinished s ++ t) ≤ length (unfinished s ++ t)) →
-          wrongFrame (length (s ++ t)) 24 (wholeFrames (s ++ t) ++ unfinished (s ++ t) ∷ []) ≡ wrongFrameHeader (length (s ++ t)) (base s) (unfinished s ++ t)
+          wrongFrame (length (s ++ t)) 24 (wholeFrames (s ++ t) ++ unfinished (s ++ t) ∷ [])
+          ≡ wrongFrameHeader (length (s ++ t)) (base s) (unfinished s ++ t)
       go (no g) =
-          rw (whole-part s t h (omega arith), unfinished-part s t h (omega arith), behind-frames ((unfinished s ++ t) ∷ []))
+          rw (
+            whole-part s t h (omega arith),
+            unfinished-part s t h (omega arith),
+            behind-frames ((unfinished s ++ t) ∷ []),
+          )
           (one-frame (length (s ++ t)) (base s) (unfinished s ++ t))
       go (yes g) =
           let e : length (unfinished s ++ t) ≡ frameSize (unfinished s ++ t) = omega arith in
-          rw (whole-full s t h e, unfinished-full s t h e, append-assoc (wholeFrames s) ((unfinished s ++ t) ∷ []) ([] ∷ []), behind-frames ((unfinished s ++ t) ∷ [] ∷ []))
-          (unfold wrongFrame in rw (empty-frame (length (s ++ t)) (base s + length (unfinished s ++ t)) (omega (arith, size-now))) (earlier-none (wrongFrameHeader (length (s ++ t)) (base s) (unfinished s ++ t))))
+          rw (
+            whole-full s t h e,
+            unfinished-full s t h e,
+            append-assoc (wholeFrames s) ((unfinished s ++ t) ∷ []) ([] ∷ []),
+            behind-frames ((unfinished s ++ t) ∷ [] ∷ []),
+          )
+          (unfold wrongFrame in rw (empty-frame (length (s ++ t)) (base s + length (unfinished s ++ t))
+          (omega (arith, size-now))) (earlier-none (wrongFrameHeader (length (s ++ t)) (base s) (unfinished s ++ t))))
 
 -- of the frame that is not whole yet
 pub fine-now : {o : Opening} {s : List ℕ} → 24 ≤ length s → Clear o s → Fine (unfinished s)
 unfolding allFrames base
 fine-now {o} {s} h c =
-    let e = frames-next (length s) (length s) 24 (unfinished s) (unfinished s ∷ []) (frames-whole s) (omega (arith, base-sum s h)) (omega arith) (c .frames) in
+    let e = frames-next (length s) (length s) 24 (unfinished s) (unfinished s ∷ []) (frames-whole s)
+    (omega (arith, base-sum s h)) (omega arith) (c .frames) in
     let f : wrongFrame (length s) (base s) (unfinished s ∷ []) ≡ none = sym e ∙ c .frames in
-    fine-header (length s) (base s) (unfinished s) (sym (base-sum s h)) (sym (one-frame (length s) (base s) (unfinished s)) ∙ f)
+    fine-header (length s) (base s) (unfinished s) (sym (base-sum s h))
+    (sym (one-frame (length s) (base s) (unfinished s)) ∙ f)
 
 -- ---- bytes more that do not pass the frame's end, nor the limit
 
-module _ (o : Opening) (s t : List ℕ) (h : 24 ≤ length s) (fits : length (unfinished s ++ t) ≤ frameSize (unfinished s ++ t))
+module _ (o : Opening) (s t : List ℕ) (h : 24 ≤ length s)
+    (fits : length (unfinished s ++ t) ≤ frameSize (unfinished s ++ t))
     (few : length (s ++ t) ≤ 268435456) (c : Clear o s) where
-  pub shows-next : captureFault o (s ++ t) ≡ earlier (wrongFrameHeader (length (s ++ t)) (base s) (unfinished s ++ t)) (tooManyUnits o (s ++ t))
+  pub shows-next : captureFault o (s ++ t) ≡ earlier (wrongFrameHeader (length (s ++ t)) (base s) (unfinished s ++ t))
+      (tooManyUnits o (s ++ t))
   unfolding captureFault
   shows-next =
-      rw (long-none (s ++ t) few, magic-more s t (omega arith), c .magic, link-more s t h, c .link, frame-more s t h fits (c .frames))
+      rw (
+        long-none (s ++ t) few,
+        magic-more s t (omega arith),
+        c .magic,
+        link-more s t h,
+        c .link,
+        frame-more s t h fits (c .frames),
+      )
 
   at-end : length (s ++ t) ≡ base s + length (unfinished s ++ t)
   at-end = size-now s t h fits (c .frames)
@@ -254,11 +299,13 @@ module _ (o : Opening) (s t : List ℕ) (h : 24 ≤ length s) (fits : length (un
   pub next-units : Fine (unfinished s ++ t) → captureFault o (s ++ t) ≡ tooManyUnits o (s ++ t)
   next-units f = shows-next ∙ rw (header-fine (length (s ++ t)) (base s) (unfinished s ++ t) at-end f)
 
-  pub next-seven : tooManyUnits o (s ++ t) ≡ none → length (unfinished s ++ t) ≡ 8 → 999999 < microseconds (unfinished s ++ t) →
+  pub next-seven : tooManyUnits o (s ++ t) ≡ none → length (unfinished s ++ t) ≡ 8 →
+      999999 < microseconds (unfinished s ++ t) →
       captureFault o (s ++ t) ≡ fault 7 (base s + 7)
   next-seven u l g = shows-next ∙ rw (header-seven (length (s ++ t)) (base s) (unfinished s ++ t) at-end l g, u)
 
-  pub next-eight : tooManyUnits o (s ++ t) ≡ none → length (unfinished s ++ t) ≡ 12 → microseconds (unfinished s ++ t) ≤ 999999 →
+  pub next-eight : tooManyUnits o (s ++ t) ≡ none → length (unfinished s ++ t) ≡ 12 →
+      microseconds (unfinished s ++ t) ≤ 999999 →
       65535 < storedLength (unfinished s ++ t) → captureFault o (s ++ t) ≡ fault 8 (base s + 11)
   next-eight u l g k = shows-next ∙ rw (header-eight (length (s ++ t)) (base s) (unfinished s ++ t) at-end l g k, u)
 
@@ -271,11 +318,13 @@ module _ (s : List ℕ) (h : length s ≤ 24) where
       layout d p q s ∙ rw (header-alone s h .0, header-alone s h .1, of-none d p q (base s) [] (omega arith))
 
   pub header-units : (o : Opening) → tooManyUnits o s ≡ none
-  header-units o = nine-of o s ∙ rw (reached-none 4 (omega arith) (omega arith)) (unfold nine wantedOf beginnings arrivals only in refl)
+  header-units o = nine-of o s
+      ∙ rw (reached-none 4 (omega arith) (omega arith)) (unfold nine wantedOf beginnings arrivals only in refl)
 
   pub header-frames : wrongFrame (length s) 24 (allFrames s) ≡ none
   unfolding allFrames
-  header-frames = rw (header-alone s h .0, header-alone s h .1, one-frame (length s) 24 []) (empty-frame (length s) 24 h)
+  header-frames =
+      rw (header-alone s h .0, header-alone s h .1, one-frame (length s) 24 []) (empty-frame (length s) 24 h)
 
   pub header-shows : (o : Opening) → captureFault o s ≡ earlier (wrongMagic s) (wrongLink s)
   unfolding captureFault

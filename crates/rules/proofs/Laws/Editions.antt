@@ -48,13 +48,14 @@ pub edition-one : (ps : List Packet) → unitsOf 1 ps ≡ firstUnits ps
 unfolding heedsSplices knowsDamage firstUnits
 edition-one ps = plain-units 1 ps refl ∙ ap (λ (xs : List Arrival). map plainUnit (groups xs)) (arrivals-first ps)
 
--- where splice marks are heeded, a packet that has one loses nothing by its own gap, and any other what its gap says. Whichever it is, the packet behind it is
--- measured from its counter: `arrivalsAfter` goes on from it
+-- where splice marks are heeded, a packet that has one loses nothing by its own gap, and any other what its gap says.
+-- Whichever it is, the packet behind it is measured from its counter: `arrivalsAfter` goes on from it
 pub spliced : (q p : Packet) → spliceMark (p .bytes) ≡ true → lossBetween true q p ≡ 0
 unfolding lossBetween
 spliced q p h = rw h
 
-pub unspliced : (q p : Packet) → spliceMark (p .bytes) ≡ false → lossBetween true q p ≡ gapLoss (counter (q .bytes)) (counter (p .bytes))
+pub unspliced : (q p : Packet) → spliceMark (p .bytes) ≡ false →
+    lossBetween true q p ≡ gapLoss (counter (q .bytes)) (counter (p .bytes))
 unfolding lossBetween
 unspliced q p h = rw h
 

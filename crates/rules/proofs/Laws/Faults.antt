@@ -1,4 +1,5 @@
--- A refusal that the joined bytes show stays what they show first, whatever is fed later: what later bytes show stands behind them.
+-- A refusal that the joined bytes show stays what they show first, whatever is fed later: what later
+-- bytes show stands behind them.
 use Prim.Native.Nat.{ℕ, _+_, _≤_, _<_}
 use native.Mathlib.Omega.{arith}
 use native.Mathlib.Nat.{lt-of-not-le}
@@ -13,8 +14,10 @@ use borrow.Author.Tests.{le-leb, lt-leb, lt-ltb, le-ltb}
 use Rattle.rules.specs.Bytes.{pick, byte, word32}
 use Rattle.rules.specs.Refusals.{Fault, none, fault}
 use Rattle.rules.specs.Frames.{microseconds, storedLength, frameSize, frames, rest, behindHeader}
-use Rattle.rules.specs.Capture.{wholeFrames, unfinished, allFrames, earlier, showing, tooLong, wrongMagic, wrongLink, wrongFrameHeader, wrongFrame}
-use Rattle.rules.proofs.Laws.Frames.{size-least, size-append, frames-none, rest-none, frames-one, rest-one, frames-onward, rest-onward, by-frames}
+use Rattle.rules.specs.Capture.{wholeFrames, unfinished, allFrames, earlier, showing, tooLong, wrongMagic}
+use Rattle.rules.specs.Capture.{wrongLink, wrongFrameHeader, wrongFrame}
+use Rattle.rules.proofs.Laws.Frames.{size-least, size-append, frames-none, rest-none, frames-one, rest-one}
+use Rattle.rules.proofs.Laws.Frames.{frames-onward, rest-onward, by-frames}
 
 -- ---- refusals below a place and refusals from it on
 
@@ -57,10 +60,12 @@ pub earlier-grows : {n : ℕ} {f f′ g g′ : Fault} → Grows n f f′ → Gro
 earlier-grows (same b) (same c) = same (earlier-below b c)
 earlier-grows (same no-fault) (new l) = new l
 earlier-grows (same (at-fault h)) (new late-none) = same (at-fault h)
-earlier-grows (same (at-fault {p = p} h)) (new (late-fault {p = q} g)) = rw (le-leb p q (omega arith)) (same (at-fault h))
+earlier-grows (same (at-fault {p = p} h)) (new (late-fault {p = q} g)) =
+    rw (le-leb p q (omega arith)) (same (at-fault h))
 earlier-grows (new late-none) (same b) = same b
 earlier-grows (new (late-fault h)) (same no-fault) = new (late-fault h)
-earlier-grows (new (late-fault {p = p} h)) (same (at-fault {p = q} g)) = rw (lt-leb p q (omega arith)) (same (at-fault g))
+earlier-grows (new (late-fault {p = p} h)) (same (at-fault {p = q} g)) =
+    rw (lt-leb p q (omega arith)) (same (at-fault g))
 earlier-grows (new l) (new m) = new (earlier-late l m)
 
 -- ---- one field
@@ -127,21 +132,33 @@ module _ (n n′ : ℕ) (h : n ≤ n′) where
   header-late : (place : ℕ) (f : List ℕ) → n ≤ place → Late n (wrongFrameHeader n′ place f)
   unfolding wrongFrameHeader
   header-late place f g =
-      earlier-late (showing-late n n′ 7 (place + 7) true _ (omega arith)) (showing-late n n′ 8 (place + 11) true _ (omega arith))
+      earlier-late (showing-late n n′ 7 (place + 7) true _ (omega arith))
+      (showing-late n n′ 8 (place + 11) true _ (omega arith))
 
   frame-late : (place : ℕ) (fs : List (List ℕ)) → n ≤ place → Late n (wrongFrame n′ place fs)
   unfolding wrongFrame
   frame-late place [] g = late-none
   frame-late place (f ∷ fs) g = earlier-late (header-late place f g) (frame-late (place + length f) fs (omega arith))
 
-  header-grows : (place : ℕ) (x f : List ℕ) → Agrees n place x f → Grows n (wrongFrameHeader n place x) (wrongFrameHeader n′ place f)
+  header-grows : (place : ℕ) (x f : List ℕ) → Agrees n place x f →
+      Grows n (wrongFrameHeader n place x) (wrongFrameHeader n′ place f)
   unfolding wrongFrameHeader microseconds storedLength word32
   header-grows place x f a =
       earlier-grows
       (showing-grows n n′ 7 (place + 7) _ _ h
-      (λ g. rw (a 4 (omega arith) (omega arith), a 5 (omega arith) (omega arith), a 6 (omega arith) (omega arith), a 7 (omega arith) (omega arith))))
+      (λ g. rw (
+        a 4 (omega arith) (omega arith),
+        a 5 (omega arith) (omega arith),
+        a 6 (omega arith) (omega arith),
+        a 7 (omega arith) (omega arith),
+      )))
       (showing-grows n n′ 8 (place + 11) _ _ h
-      (λ g. rw (a 8 (omega arith) (omega arith), a 9 (omega arith) (omega arith), a 10 (omega arith) (omega arith), a 11 (omega arith) (omega arith))))
+      (λ g. rw (
+        a 8 (omega arith) (omega arith),
+        a 9 (omega arith) (omega arith),
+        a 10 (omega arith) (omega arith),
+        a 11 (omega arith) (omega arith),
+      )))
 
 -- a frame that was cut off goes on: its header's bytes stay, and what follows it stands behind the old bytes
 module _ (n place : ℕ) (x t : List ℕ) (e : n ≡ place + length x) where
@@ -164,24 +181,29 @@ abbrev pieces : List ℕ → List (List ℕ)
 pieces x = frames x ++ rest x ∷ []
 
 module _ (n n′ : ℕ) (t : List ℕ) (h : n ≤ n′) where
-  cut-grows : (x : List ℕ) → length x < frameSize x → (place : ℕ) → n ≡ place + length x → Dec (frameSize (x ++ t) ≤ length (x ++ t)) →
+  cut-grows : (x : List ℕ) → length x < frameSize x → (place : ℕ) → n ≡ place + length x →
+      Dec (frameSize (x ++ t) ≤ length (x ++ t)) →
       Grows n (wrongFrame n place (pieces x)) (wrongFrame n′ place (pieces (x ++ t)))
   unfolding wrongFrame
   cut-grows x c place e (yes g) =
       rw (frames-none x c, rest-none x c, frames-one (x ++ t) g)
       (earlier-grows
-      (header-grows n n′ h place x (take (frameSize (x ++ t)) (x ++ t)) (agrees-cut n place x t e (frameSize (x ++ t)) (size-least (x ++ t))))
+      (header-grows n n′ h place x (take (frameSize (x ++ t)) (x ++ t))
+      (agrees-cut n place x t e (frameSize (x ++ t)) (size-least (x ++ t))))
       (new
-      (frame-late n n′ h (place + length (take (frameSize (x ++ t)) (x ++ t))) (frames (drop (frameSize (x ++ t)) (x ++ t)) ++ rest (x ++ t) ∷ [])
+      (frame-late n n′ h (place + length (take (frameSize (x ++ t)) (x ++ t)))
+      (frames (drop (frameSize (x ++ t)) (x ++ t)) ++ rest (x ++ t) ∷ [])
       (rw (length-take-le (frameSize (x ++ t)) (x ++ t) g) (omega (arith, cut-short x t c))))))
   cut-grows x c place e (no g) =
       rw (frames-none x c, rest-none x c, frames-none (x ++ t) (lt-of-not-le g), rest-none (x ++ t) (lt-of-not-le g))
       (earlier-grows (header-grows n n′ h place x (x ++ t) (agrees-on n place x t e)) (same no-fault))
 
-  pieces-grow : (x : List ℕ) (place : ℕ) → n ≡ place + length x → Grows n (wrongFrame n place (pieces x)) (wrongFrame n′ place (pieces (x ++ t)))
+  pieces-grow : (x : List ℕ) (place : ℕ) → n ≡ place + length x →
+      Grows n (wrongFrame n place (pieces x)) (wrongFrame n′ place (pieces (x ++ t)))
   unfolding wrongFrame
   pieces-grow =
-      by-frames (λ (x : List ℕ). (place : ℕ) → n ≡ place + length x → Grows n (wrongFrame n place (pieces x)) (wrongFrame n′ place (pieces (x ++ t))))
+      by-frames (λ (x : List ℕ). (place : ℕ) → n ≡ place + length x →
+      Grows n (wrongFrame n place (pieces x)) (wrongFrame n′ place (pieces (x ++ t))))
       (λ x c place e. cut-grows x c place e (decLe (frameSize (x ++ t)) (length (x ++ t))))
       (λ x c ih place e.
       rw (frames-one x c, rest-one x c, frames-onward x t c, rest-onward x t c)
@@ -194,21 +216,27 @@ module _ (n : ℕ) where
   header-none : (place : ℕ) (f : List ℕ) → n ≤ place → wrongFrameHeader n place f ≡ none
   unfolding wrongFrameHeader
   header-none place f g =
-      rw (showing-none n n 7 (place + 7) (ltb 999999 (microseconds f)) true (omega arith), showing-none n n 8 (place + 11) (ltb 65535 (storedLength f)) true (omega arith))
+      rw (
+        showing-none n n 7 (place + 7) (ltb 999999 (microseconds f)) true (omega arith),
+        showing-none n n 8 (place + 11) (ltb 65535 (storedLength f)) true (omega arith),
+      )
 
   frame-none : (place : ℕ) (fs : List (List ℕ)) → n ≤ place → wrongFrame n place fs ≡ none
   unfolding wrongFrame
   frame-none place [] g = refl
   frame-none place (f ∷ fs) g = rw (header-none place f g, frame-none (place + length f) fs (omega arith))
 
-pub frames-grow : (s t : List ℕ) → Grows (length s) (wrongFrame (length s) 24 (allFrames s)) (wrongFrame (length (s ++ t)) 24 (allFrames (s ++ t)))
+pub frames-grow : (s t : List ℕ) →
+    Grows (length s) (wrongFrame (length s) 24 (allFrames s)) (wrongFrame (length (s ++ t)) 24 (allFrames (s ++ t)))
 unfolding allFrames wholeFrames unfinished behindHeader
 frames-grow s t = go (decLe 24 (length s))
   where
-    go : Dec (24 ≤ length s) → Grows (length s) (wrongFrame (length s) 24 (allFrames s)) (wrongFrame (length (s ++ t)) 24 (allFrames (s ++ t)))
+    go : Dec (24 ≤ length s) → Grows (length s) (wrongFrame (length s) 24 (allFrames s))
+        (wrongFrame (length (s ++ t)) 24 (allFrames (s ++ t)))
     go (yes g) =
         rw (drop-append-le 24 s t g)
         (pieces-grow (length s) (length (s ++ t)) t (grown s t) (drop 24 s) 24 (simp length-drop (omega arith)))
     go (no g) =
         rw (frame-none (length s) 24 (frames (drop 24 s) ++ rest (drop 24 s) ∷ []) (omega arith))
-        (new (frame-late (length s) (length (s ++ t)) (grown s t) 24 (frames (drop 24 (s ++ t)) ++ rest (drop 24 (s ++ t)) ∷ []) (omega arith)))
+        (new (frame-late (length s) (length (s ++ t)) (grown s t) 24
+        (frames (drop 24 (s ++ t)) ++ rest (drop 24 (s ++ t)) ∷ []) (omega arith)))

@@ -15,9 +15,12 @@ use Rattle.rules.specs.Editions.{knowsDamage}
 use Rattle.rules.specs.Packets.{Packet, carries, packetsFrom, packetsOf, packets, shown, whole, skipped}
 use Rattle.rules.specs.Packets.{wantedOf, badOf}
 use Rattle.rules.specs.Units.{Arrival, beforeUnits, beginnings}
-use Rattle.rules.specs.Capture.{wholeFrames, unfinished, allFrames, wholeWanted, shownWanted, badCount, beginsAt, tooManyUnits}
+use Rattle.rules.specs.Capture.{wholeFrames, unfinished, allFrames, wholeWanted, shownWanted, badCount, beginsAt}
+use Rattle.rules.specs.Capture.{tooManyUnits}
 use Rattle.rules.proofs.Laws.Lists.{only-append, count-append}
-use Rattle.rules.proofs.Laws.Onward.{base, unfinished-short, whole-part, whole-full, countOf, of-from, time-more, count-more, reaching, from-split, from-done, from-whole, from-short, from-first, of-none, layout, layout-more}
+use Rattle.rules.proofs.Laws.Onward.{base, unfinished-short, whole-part, whole-full, countOf, of-from}
+use Rattle.rules.proofs.Laws.Onward.{time-more, count-more, reaching, from-split, from-done, from-whole}
+use Rattle.rules.proofs.Laws.Onward.{from-short, from-first, of-none, layout, layout-more}
 
 -- of the bytes r of a frame: k of its packets are behind, m are not, of which the first may be there in part
 pub record Split (r : List ℕ) (k m : ℕ) : Type 0 where
@@ -35,7 +38,8 @@ reached d s = reaching d (packets 24 (allFrames s))
 
 -- the packets behind: those of the whole frames, and k of the frame that is not whole yet
 unfoldable pub passed : List ℕ → ℕ → List Packet
-passed s k = packets 24 (wholeFrames s) ++ packetsFrom k (frameTime (unfinished s)) (base s + 58) (drop 58 (unfinished s))
+passed s k =
+    packets 24 (wholeFrames s) ++ packetsFrom k (frameTime (unfinished s)) (base s + 58) (drop 58 (unfinished s))
 
 -- the packet under way, with the bytes y
 abbrev pub packetAt : List ℕ → ℕ → List ℕ → Packet
@@ -44,22 +48,40 @@ packetAt s k y = record { time = frameTime (unfinished s); place = base s + 58 +
 module _ (d : ℕ) (some : 0 < d) (small : d ≤ 188) where
   of-split : (q : ℕ) (r t : List ℕ) (k m : ℕ) → Split r k m →
       reaching d (packetsOf q (r ++ t))
-      ≡ packetsFrom k (frameTime r) (q + 58) (drop 58 r) ++ reaching d (packetsFrom m (frameTime r) (q + 58 + 188 * k) (current r k ++ t))
+      ≡ packetsFrom k (frameTime r) (q + 58) (drop 58 r)
+      ++ reaching d (packetsFrom m (frameTime r) (q + 58 + 188 * k) (current r k ++ t))
   of-split q r t k m p =
       let room : 188 * k ≤ length (drop 58 r) = simp length-drop (omega (arith, p .past)) in
-      rw (of-from q (r ++ t), count-more r t (p .there), time-more r t (p .there), drop-append-le 58 r t (p .there), ← p .count, from-split k m (frameTime r) (q + 58) (drop 58 r ++ t), from-done k (frameTime r) (q + 58) (drop 58 r) t room, drop-append-le (188 * k) (drop 58 r) t room, drop-drop (188 * k) 58 r)
-      (only-append (λ (x : Packet). leb d (length (x .bytes))) (packetsFrom k (frameTime r) (q + 58) (drop 58 r)) (packetsFrom m (frameTime r) (q + 58 + 188 * k) (current r k ++ t))
+      rw (
+        of-from q (r ++ t),
+        count-more r t (p .there),
+        time-more r t (p .there),
+        drop-append-le 58 r t (p .there),
+        ← p .count,
+        from-split k m (frameTime r) (q + 58) (drop 58 r ++ t),
+        from-done k (frameTime r) (q + 58) (drop 58 r) t room,
+        drop-append-le (188 * k) (drop 58 r) t room,
+        drop-drop (188 * k) 58 r,
+      )
+      (only-append (λ (x : Packet). leb d (length (x .bytes))) (packetsFrom k (frameTime r) (q + 58) (drop 58 r))
+      (packetsFrom m (frameTime r) (q + 58 + 188 * k) (current r k ++ t))
       ∙ rw (from-whole d small k (frameTime r) (q + 58) (drop 58 r) room))
 
   module _ (s : List ℕ) (h : 24 ≤ length s) where
     -- before the first packet
-    pub early : (t : List ℕ) → length (unfinished s ++ t) < 58 + d → length (unfinished s ++ t) ≤ frameSize (unfinished s ++ t) → reached d (s ++ t) ≡ reached d s
+    pub early : (t : List ℕ) → length (unfinished s ++ t) < 58 + d →
+        length (unfinished s ++ t) ≤ frameSize (unfinished s ++ t) → reached d (s ++ t) ≡ reached d s
     early t k fits =
         layout-more d some small s t h fits
-        ∙ rw (of-none d some small (base s) (unfinished s ++ t) k, layout d some small s, of-none d some small (base s) (unfinished s) (omega (arith, length-append (unfinished s) t)))
+        ∙ rw (
+          of-none d some small (base s) (unfinished s ++ t) k,
+          layout d some small s,
+          of-none d some small (base s) (unfinished s) (omega (arith, length-append (unfinished s) t)),
+        )
 
     module _ (k m : ℕ) (p : Split (unfinished s) k m) where
-      now : reached d s ≡ passed s k ++ reaching d (packetsFrom m (frameTime (unfinished s)) (base s + 58 + 188 * k) (current (unfinished s) k))
+      now : reached d s ≡ passed s k
+          ++ reaching d (packetsFrom m (frameTime (unfinished s)) (base s + 58 + 188 * k) (current (unfinished s) k))
       unfolding passed
       now =
           let e = of-split (base s) (unfinished s) [] k m p in
@@ -67,17 +89,21 @@ module _ (d : ℕ) (some : 0 < d) (small : d ≤ 188) where
           layout d some small s ∙ rw (f, append-assoc)
 
       more : (t : List ℕ) → length (unfinished s ++ t) ≤ frameSize (unfinished s ++ t) →
-          reached d (s ++ t) ≡ passed s k ++ reaching d (packetsFrom m (frameTime (unfinished s)) (base s + 58 + 188 * k) (current (unfinished s) k ++ t))
+          reached d (s ++ t) ≡ passed s k ++ reaching d
+          (packetsFrom m (frameTime (unfinished s)) (base s + 58 + 188 * k) (current (unfinished s) k ++ t))
       unfolding passed
       more t fits = layout-more d some small s t h fits ∙ rw (of-split (base s) (unfinished s) t k m p, append-assoc)
 
       -- less than d bytes of the packet under way are there
       pub now-short : length (current (unfinished s) k) < d → reached d s ≡ passed s k
-      now-short g = now ∙ rw (from-short d small m (frameTime (unfinished s)) (base s + 58 + 188 * k) (current (unfinished s) k) g) (append-nil (passed s k))
+      now-short g = now ∙ rw (from-short d small m (frameTime (unfinished s)) (base s + 58 + 188 * k)
+          (current (unfinished s) k) g) (append-nil (passed s k))
 
-      pub more-short : (t : List ℕ) → length (unfinished s ++ t) ≤ frameSize (unfinished s ++ t) → length (current (unfinished s) k ++ t) < d → reached d (s ++ t) ≡ passed s k
+      pub more-short : (t : List ℕ) → length (unfinished s ++ t) ≤ frameSize (unfinished s ++ t) →
+          length (current (unfinished s) k ++ t) < d → reached d (s ++ t) ≡ passed s k
       more-short t fits g =
-          more t fits ∙ rw (from-short d small m (frameTime (unfinished s)) (base s + 58 + 188 * k) (current (unfinished s) k ++ t) g) (append-nil (passed s k))
+          more t fits ∙ rw (from-short d small m (frameTime (unfinished s)) (base s + 58 + 188 * k)
+          (current (unfinished s) k ++ t) g) (append-nil (passed s k))
 
     -- no packet is left
     module _ (k : ℕ) (p : Split (unfinished s) k 0) where
@@ -85,7 +111,8 @@ module _ (d : ℕ) (some : 0 < d) (small : d ≤ 188) where
       unfolding packetsFrom only
       now-done = now k 0 p ∙ append-nil (passed s k)
 
-      pub more-done : (t : List ℕ) → length (unfinished s ++ t) ≤ frameSize (unfinished s ++ t) → reached d (s ++ t) ≡ passed s k
+      pub more-done : (t : List ℕ) → length (unfinished s ++ t) ≤ frameSize (unfinished s ++ t) →
+          reached d (s ++ t) ≡ passed s k
       unfolding packetsFrom only
       more-done t fits = more k 0 p t fits ∙ append-nil (passed s k)
 
@@ -93,12 +120,16 @@ module _ (d : ℕ) (some : 0 < d) (small : d ≤ 188) where
     module _ (k m : ℕ) (p : Split (unfinished s) k (suc m)) where
       pub now-first : d ≤ length (current (unfinished s) k) → length (current (unfinished s) k) ≤ 188 →
           reached d s ≡ passed s k ++ packetAt s k (current (unfinished s) k) ∷ []
-      now-first g l = now k (suc m) p ∙ rw (from-first d small m (frameTime (unfinished s)) (base s + 58 + 188 * k) (current (unfinished s) k) some g l)
+      now-first g l = now k (suc m) p ∙ rw (from-first d small m (frameTime (unfinished s)) (base s + 58 + 188 * k)
+          (current (unfinished s) k) some g l)
 
-      pub more-first : (t : List ℕ) → length (unfinished s ++ t) ≤ frameSize (unfinished s ++ t) → d ≤ length (current (unfinished s) k ++ t) →
-          length (current (unfinished s) k ++ t) ≤ 188 → reached d (s ++ t) ≡ passed s k ++ packetAt s k (current (unfinished s) k ++ t) ∷ []
+      pub more-first : (t : List ℕ) → length (unfinished s ++ t) ≤ frameSize (unfinished s ++ t) →
+          d ≤ length (current (unfinished s) k ++ t) →
+          length (current (unfinished s) k ++ t) ≤ 188 →
+          reached d (s ++ t) ≡ passed s k ++ packetAt s k (current (unfinished s) k ++ t) ∷ []
       more-first t fits g l =
-          more k (suc m) p t fits ∙ rw (from-first d small m (frameTime (unfinished s)) (base s + 58 + 188 * k) (current (unfinished s) k ++ t) some g l)
+          more k (suc m) p t fits ∙ rw (from-first d small m (frameTime (unfinished s)) (base s + 58 + 188 * k)
+          (current (unfinished s) k ++ t) some g l)
 
 -- ---- refusal 9, of packets that show what they are
 
@@ -136,6 +167,7 @@ pub skipped-more : (fs : List (List ℕ)) (f : List ℕ) → skipped (fs ++ f �
 unfolding skipped count
 skipped-more fs f = count-append (λ (x : List ℕ). not (carries x)) fs (f ∷ []) ∙ go (carries f)
   where
-    go : (b : Bool) → count (λ x. not (carries x)) fs + (pick (not b) 1 0 + 0) ≡ count (λ x. not (carries x)) fs + pick b 0 1
+    go : (b : Bool) →
+        count (λ x. not (carries x)) fs + (pick (not b) 1 0 + 0) ≡ count (λ x. not (carries x)) fs + pick b 0 1
     go true = omega arith
     go false = omega arith

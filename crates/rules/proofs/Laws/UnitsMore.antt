@@ -18,7 +18,8 @@ use Rattle.rules.proofs.Laws.Lists.{total-append, count-append, only-ap
 
 -- ---- as many units as beginnings
 
-length-intoFirst : (a : Arrival) (gs : List (List Arrival)) (n : ℕ) → length gs ≡ suc n → length (intoFirst a gs) ≡ suc n
+length-intoFirst : (a : Arrival) (gs : List (List Arrival)) (n : ℕ) → length gs ≡ suc n →
+    length (intoFirst a gs) ≡ suc n
 length-intoFirst a [] n h = absurd (omega arith)
 length-intoFirst a (g ∷ gs) n h = h
 
@@ -32,7 +33,8 @@ length-groups a (b ∷ xs) = go (b .begins) (length-groups b xs)
     more = only (λ x. x .begins) xs
 
     go : (t : Bool) → length (groups (b ∷ xs)) ≡ suc (length more) →
-        length (pick t ((a ∷ []) ∷ groups (b ∷ xs)) (intoFirst a (groups (b ∷ xs)))) ≡ suc (length (pick t (b ∷ more) more))
+        length (pick t ((a ∷ []) ∷ groups (b ∷ xs)) (intoFirst a (groups (b ∷ xs))))
+        ≡ suc (length (pick t (b ∷ more) more))
     go true e = ap suc e
     go false e = length-intoFirst a (groups (b ∷ xs)) (length more) e
 
@@ -110,7 +112,8 @@ groups-endToEnd [] = refl
 groups-endToEnd (a ∷ []) = refl
 groups-endToEnd (a ∷ b ∷ xs) = go (b .begins) (groups-endToEnd (b ∷ xs))
   where
-    go : (t : Bool) → endToEnd (groups (b ∷ xs)) ≡ b ∷ xs → endToEnd (pick t ((a ∷ []) ∷ groups (b ∷ xs)) (intoFirst a (groups (b ∷ xs)))) ≡ a ∷ b ∷ xs
+    go : (t : Bool) → endToEnd (groups (b ∷ xs)) ≡ b ∷ xs →
+        endToEnd (pick t ((a ∷ []) ∷ groups (b ∷ xs)) (intoFirst a (groups (b ∷ xs)))) ≡ a ∷ b ∷ xs
     go true e = ap (λ (r : List Arrival). a ∷ r) e
     go false e = intoFirst-endToEnd a (groups (b ∷ xs)) ∙ ap (λ (r : List Arrival). a ∷ r) e
 
@@ -137,7 +140,8 @@ unfolding unitOf endToEnd total
 rows-lost [] = refl
 rows-lost (g ∷ gs) =
     ap (λ (n : ℕ). total (losses g) + n) (rows-lost gs)
-    ∙ sym (ap total (map-append (λ (a : Arrival). a .lost) g (endToEnd gs)) ∙ total-append (losses g) (losses (endToEnd gs)))
+    ∙ sym (ap total (map-append (λ (a : Arrival). a .lost) g (endToEnd gs))
+    ∙ total-append (losses g) (losses (endToEnd gs)))
 
 -- every arrival is a cell or damaged
 pub parted : (xs : List Arrival) → length (cellsOf xs) + count isApart xs ≡ length xs

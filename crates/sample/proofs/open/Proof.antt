@@ -22,11 +22,14 @@ open-requires-2 c κs = search needs
 
 returns : tie.Need-returns
 returns c =
-    let f = c .before .before .before .before .before .before .before .before .before .before .before .before .opening-fault .ensures in
+    let f = c .before .before .before .before .before .before .before .before .before .before .before
+    .before .opening-fault .ensures in
     record {
       answer = c .open2 .ensures .answer;
       means = record {
-        captured = c .before .before .before .before .before .«open» .ensures (c .before .before .before .before .before .before .before .before .before .before .before .before .before .args .o) (number-none (f .shown)) (number-some (f .shown)) refl refl;
+        captured = c .before .before .before .before .before .«open» .ensures (c .before .before .before .before
+            .before .before .before .before .before .before .before .before .before .args .o) (number-none (f .shown))
+            (number-some (f .shown)) refl refl;
         drawn = c .open2 .ensures .means;
       };
     }

@@ -1,5 +1,7 @@
--- `seal` meets its contract: each return is one of the refusals in document 01's order, and the last one the record or 15. Assumes nothing.
-use Rattle.sample.proofs.Sealing.{post-capture, post-luma, post-inside-capture, post-no-packet, post-inside-luma, post-no-picture, post-written}
+-- `seal` meets its contract: each return is one of the refusals in document 01's order, and the last one the record or
+-- 15. Assumes nothing.
+use Rattle.sample.proofs.Sealing.{post-capture, post-luma, post-inside-capture, post-no-packet}
+use Rattle.sample.proofs.Sealing.{post-inside-luma, post-no-picture, post-written}
 use borrow.Author.Needs.{needs}
 use Rattle.sample.proofs.seal.Statement.{statement}
 use Rattle.sample.proofs.seal.Tie as tie

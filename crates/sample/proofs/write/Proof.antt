@@ -1,4 +1,5 @@
--- `write` meets its contract: where nothing but a short buffer can refuse, the guards for other states never hold, and the record is the rules'. Assumes nothing.
+-- `write` meets its contract: where nothing but a short buffer can refuse, the guards for other states never hold, and
+-- the record is the rules'. Assumes nothing.
 use native.Mathlib.Omega.{arith}
 use mathlib.Core.Path.{refl, ap}
 use Rattle.rules.specs.declared.Header.{Header}

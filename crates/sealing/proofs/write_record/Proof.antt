@@ -15,7 +15,11 @@ write-header-requires c κs = omega (arith, c .before .before .before .pre)
 
 write-units-requires : tie.Need-write-units-requires
 unfolding recordLength sceneOffset
-write-units-requires c κs = omega (arith, c .before .before .before .before .before .before .before .pre, c .before .before .before .write-header .kept .0)
+write-units-requires c κs = omega (
+  arith,
+  c .before .before .before .before .before .before .before .pre,
+  c .before .before .before .write-header .kept .0,
+)
 
 cast-write-scenes : tie.Need-cast-write-scenes
 cast-write-scenes c = search needs
@@ -34,9 +38,13 @@ same-length c = search needs
 
 returns : tie.Need-returns
 returns c =
-    let s = c .before .before .before .before .before .before .before .before .before .before .before .before .before .before .before .before .before in
+    let s = c .before .before .before .before .before .before .before .before .before .before .before .before .before
+    .before .before .before .before in
     let a = s .args in
-    record-written (a .table .now) (a .luma .now) (a .h) (a .buffer .now) _ _ _ (s .pre .0) (c .before .before .before .before .before .before .before .before .before .before .before .before .before .write-header .ensures) (c .before .before .before .before .before .before .before .before .before .write-units .ensures) (c .before .before .write-scenes .ensures)
+    record-written (a .table .now) (a .luma .now) (a .h) (a .buffer .now) _ _ _ (s .pre .0) (c .before .before
+    .before .before .before .before .before .before .before .before .before .before .before .write-header .ensures)
+    (c .before .before .before .before .before .before .before .before .before .write-units .ensures)
+    (c .before .before .write-scenes .ensures)
 
 pub write-record-spec : {M : Type 1} → statement M
 write-record-spec =

@@ -1,4 +1,5 @@
--- `write_scenes` meets its contract. The loop's invariant: the rows of the scenes before j are written, and scene j, if there is one, starts at `start`.
+-- `write_scenes` meets its contract. The loop's invariant: the rows of the scenes before j are written, and scene j,
+-- if there is one, starts at `start`.
 -- The measure is the scenes that are left. Assumes nothing.
 use Prim.Native.Nat.{ℕ, _+_, _*_, _≤_, _<_, _-_}
 use native.Mathlib.Omega.{arith}
@@ -80,7 +81,8 @@ returns : tie.Need-returns Inv-loop μ-loop
 returns c =
     let l = c .before .loop in
     let a = c .before .before .before .args in
-    scenes-all (a .luma .now) (a .pictures) (a .time) (a .units) (a .buffer .now) (l .buffer) (l .start) (l .j) (l .inv .2) (a .n) (omega arith)
+    scenes-all (a .luma .now) (a .pictures) (a .time) (a .units) (a .buffer .now) (l .buffer) (l .start) (l .j)
+    (l .inv .2) (a .n) (omega arith)
 
 pub write-scenes-spec : {M : Type 1} → statement M
 write-scenes-spec =

@@ -1,4 +1,5 @@
--- `write_units` meets its contract. The loop's invariant: the rows of the units before j are written. The measure is the units that are left. Assumes nothing.
+-- `write_units` meets its contract. The loop's invariant: the rows of the units before j are written. The measure is
+-- the units that are left. Assumes nothing.
 use Prim.Native.Nat.{ℕ, _≤_, _<_, _-_}
 use native.Mathlib.Omega.{arith}
 use mathlib.Core.Path.{_≡_, refl, subst, _∙_}
@@ -54,7 +55,9 @@ loop-again c =
     let p = s .pre in (
       omega arith,
       w .kept .0 ∙ l .inv .1,
-      units-more (a .table .now) (l .j) (a .buffer .now) (l .buffer) (w .last .0) (omega (arith, p)) (c .before .before .before .before .row .result) (l .inv .2) (c .before .before .before .before .row .ensures) (w .ensures),
+      units-more (a .table .now) (l .j) (a .buffer .now) (l .buffer) (w .last .0)
+          (omega (arith, p)) (c .before .before .before .before .row .result) (l .inv .2)
+          (c .before .before .before .before .row .ensures) (w .ensures),
     )
 
 same-length : tie.Need-same-length Inv-loop μ-loop
@@ -65,7 +68,8 @@ unfolding sceneOffset unitPlace
 returns c =
     let l = c .before .loop in
     let e : l .j ≡ c .before .before .before .args .n = omega arith in
-    subst (λ (k : ℕ). UnitsWritten (c .before .before .before .args .table .now) k (c .before .before .before .args .buffer .now) (l .buffer)) e (l .inv .2)
+    subst (λ (k : ℕ). UnitsWritten (c .before .before .before .args .table .now) k
+    (c .before .before .before .args .buffer .now) (l .buffer)) e (l .inv .2)
 
 pub write-units-spec : {M : Type 1} → statement M
 write-units-spec =

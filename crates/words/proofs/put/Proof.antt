@@ -11,7 +11,8 @@ use Rattle.words.proofs.put.Statement.{statement}
 use Rattle.words.proofs.put.Tie as tie
 
 abbrev Inv-loop : tie.InvT-loop
-Inv-loop s₀ at n x left₀ i₀ s left i = (i ≤ n) × (length s ≡ length s₀) × (sets s (at + i) (bytesOf (n - i) left) ≡ sets s₀ at (bytesOf n x))
+Inv-loop s₀ at n x left₀ i₀ s left i =
+    (i ≤ n) × (length s ≡ length s₀) × (sets s (at + i) (bytesOf (n - i) left) ≡ sets s₀ at (bytesOf n x))
 
 abbrev μ-loop : tie.MeasureT-loop
 μ-loop s₀ at n x left₀ i₀ s left i = n - i
@@ -39,7 +40,8 @@ loop-again c =
     let at = c .before .loop in (
       omega arith,
       simp length-set (at .inv .1),
-      byte-stored (at .s) (c .before .before .args .at) (at .i) (c .before .before .args .n) (at .left) (c .loop-test .taken) ∙ at .inv .2,
+      byte-stored (at .s) (c .before .before .args .at) (at .i) (c .before .before .args .n) (at .left)
+          (c .loop-test .taken) ∙ at .inv .2,
     )
 
 same-length : tie.Need-same-length Inv-loop μ-loop
@@ -52,7 +54,8 @@ returns c =
     let from = c .before .before .args in
     let done : from .n - at .i ≡ 0 = omega arith in
     let all : at .s ≡ sets (from .s .now) (from .at) (bytesOf (from .n) (from .x)) = (rw done at (at .inv .2)) in
-    all ∙ written-sets (from .at) (bytesOf (from .n) (from .x)) (from .s .now) (rw length-bytesOf (c .before .before .pre))
+    all
+    ∙ written-sets (from .at) (bytesOf (from .n) (from .x)) (from .s .now) (rw length-bytesOf (c .before .before .pre))
 
 pub put-spec : {M : Type 1} → statement M
 put-spec =

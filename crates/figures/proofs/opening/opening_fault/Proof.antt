@@ -12,7 +12,8 @@ good-size-requires c κs = search needs
 
 returns : tie.Need-returns
 unfolding openingFault
-returns c = record { shown = simp (sym (c .before .good-size .ensures) ∙ not-true _ (c .if1 .taken)); few = omega arith }
+returns c =
+    record { shown = simp (sym (c .before .good-size .ensures) ∙ not-true _ (c .if1 .taken)); few = omega arith }
 
 good-time-requires : tie.Need-good-time-requires
 good-time-requires c κs = search needs
@@ -21,7 +22,10 @@ returns-2 : tie.Need-returns-2
 unfolding openingFault
 returns-2 c =
     record {
-      shown = simp (sym (c .before .before .before .good-size .ensures) ∙ not-false _ (c .before .before .if1 .left), sym (c .before .good-time .ensures) ∙ not-true _ (c .if2 .taken));
+      shown = simp (
+        sym (c .before .before .before .good-size .ensures) ∙ not-false _ (c .before .before .if1 .left),
+        sym (c .before .good-time .ensures) ∙ not-true _ (c .if2 .taken),
+      );
       few = omega arith;
     }
 
@@ -32,7 +36,12 @@ returns-3 : tie.Need-returns-3
 unfolding openingFault
 returns-3 c =
     record {
-      shown = simp (sym (c .before .before .before .before .before .good-size .ensures) ∙ not-false _ (c .before .before .before .before .if1 .left), sym (c .before .before .before .good-time .ensures) ∙ not-false _ (c .before .before .if2 .left), sym (c .before .good-pid .ensures) ∙ not-true _ (c .if3 .taken));
+      shown = simp (
+        sym (c .before .before .before .before .before .good-size .ensures)
+            ∙ not-false _ (c .before .before .before .before .if1 .left),
+        sym (c .before .before .before .good-time .ensures) ∙ not-false _ (c .before .before .if2 .left),
+        sym (c .before .good-pid .ensures) ∙ not-true _ (c .if3 .taken),
+      );
       few = omega arith;
     }
 
@@ -44,8 +53,10 @@ unfolding openingFault
 returns-4 c =
     record {
       shown = simp (
-        sym (c .before .before .before .before .before .before .before .good-size .ensures) ∙ not-false _ (c .before .before .before .before .before .before .if1 .left),
-        sym (c .before .before .before .before .before .good-time .ensures) ∙ not-false _ (c .before .before .before .before .if2 .left),
+        sym (c .before .before .before .before .before .before .before .good-size .ensures)
+            ∙ not-false _ (c .before .before .before .before .before .before .if1 .left),
+        sym (c .before .before .before .before .before .good-time .ensures)
+            ∙ not-false _ (c .before .before .before .before .if2 .left),
         sym (c .before .before .before .good-pid .ensures) ∙ not-false _ (c .before .before .if3 .left),
         sym (c .before .is-edition .ensures) ∙ not-true _ (c .if4 .taken),
       );
@@ -57,8 +68,10 @@ unfolding openingFault
 returns-5 c =
     record {
       shown = simp (
-        sym (c .before .before .before .before .before .before .before .good-size .ensures) ∙ not-false _ (c .before .before .before .before .before .before .if1 .left),
-        sym (c .before .before .before .before .before .good-time .ensures) ∙ not-false _ (c .before .before .before .before .if2 .left),
+        sym (c .before .before .before .before .before .before .before .good-size .ensures)
+            ∙ not-false _ (c .before .before .before .before .before .before .if1 .left),
+        sym (c .before .before .before .before .before .good-time .ensures)
+            ∙ not-false _ (c .before .before .before .before .if2 .left),
         sym (c .before .before .before .good-pid .ensures) ∙ not-false _ (c .before .before .if3 .left),
         sym (c .before .is-edition .ensures) ∙ not-false _ (c .if4 .left),
       );
@@ -68,4 +81,5 @@ returns-5 c =
 pub opening-fault-spec : {M : Type 1} → statement M
 opening-fault-spec =
     tie.close
-    (tie.spec good-size-requires returns good-time-requires returns-2 good-pid-requires returns-3 is-edition-requires returns-4 returns-5)
+    (tie.spec good-size-requires returns good-time-requires returns-2 good-pid-requires returns-3 is-edition-requires
+    returns-4 returns-5)

@@ -47,7 +47,8 @@ mul-t9 c = product (omega arith) (omega arith)
 
 returns : tie.Need-returns
 unfolding level side
-returns c = sizes-are (c .before .before .before .args .o) (c .level .result) (1 * 2 ^ c .level .result % 2 ^ 64) (c .level .ensures) (shift c ∙ ap (λ (k : ℕ). 2 ^ k) (c .level .ensures))
+returns c = sizes-are (c .before .before .before .args .o) (c .level .result) (1 * 2 ^ c .level .result % 2 ^ 64)
+    (c .level .ensures) (shift c ∙ ap (λ (k : ℕ). 2 ^ k) (c .level .ensures))
 
 pub sizes-of-spec : {M : Type 1} → statement M
 sizes-of-spec =

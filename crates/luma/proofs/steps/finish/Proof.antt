@@ -12,7 +12,8 @@ returns c =
 returns-2 : tie.Need-returns-2
 returns-2 c =
     not-finished (c .before .before .before .before .before .before .args .g)
-    (c .before .before .before .before .before .before .args .t) (c .before .before .before .before .before .before .pre)
+    (c .before .before .before .before .before .before .args .t)
+    (c .before .before .before .before .before .before .pre)
     (λ e. c .if2 .taken)
 
 end-picture-requires : tie.Need-end-picture-requires

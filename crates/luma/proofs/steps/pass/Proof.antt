@@ -11,7 +11,8 @@ returns : tie.Need-returns
 returns c =
     let p = c .before .before .before .before .pre in
     let a = c .before .before .before .before .args in
-    passed (a .g) (a .s) (p .0) (p .1) (λ i. omega (arith, c .before .before .before .shared-slice-known .given i)) (p .0 .some)
+    passed (a .g) (a .s) (p .0) (p .1)
+    (λ i. omega (arith, c .before .before .before .shared-slice-known .given i)) (p .0 .some)
     (omega arith) (omega arith) (c .skip .ensures)
 
 skip-requires-2 : tie.Need-skip-requires-2

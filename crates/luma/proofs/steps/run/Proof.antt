@@ -47,32 +47,46 @@ step-requires c κs =
 
 add-at : tie.Need-add-at Inv-loop μ-loop
 add-at c =
-    let p = c .before .before .before .before .before .before .before .before .before .before .before .before .before .args .piece .now in
-    let m = onward p (c .before .before .before .before .before .before .before .before .before .before .before .loop .at) (c .before .before .before .before .before .before .before .before .before .before .loop-test .taken) (c .before .before .step .ensures) in
+    let p = c .before .before .before .before .before .before .before .before .before .before .before .before
+    .before .args .piece .now in
+    let m =
+    onward p (c .before .before .before .before .before .before .before .before .before .before .before .loop .at)
+    (c .before .before .before .before .before .before .before .before .before .before .loop-test .taken)
+    (c .before .before .step .ensures) in
     record {
-      fits = lt-of-le-of-lt (m .most) (c .before .before .before .before .before .before .before .before .before .before .before .before .before .good .1 .1 .1 .1 .1 .1 .0 .0);
+      fits = lt-of-le-of-lt (m .most) (c .before .before .before .before .before .before .before .before .before
+          .before .before .before .before .good .1 .1 .1 .1 .1 .1 .0 .0);
     }
 
 loop-less : tie.Need-loop-less Inv-loop μ-loop
 loop-less c =
-    let m = onward (c .before .before .before .before .before .before .before .before .before .before .before .before .before .args .piece .now) (c .before .before .before .before .before .before .before .before .before .before .before .loop .at) (c .before .before .before .before .before .before .before .before .before .before .loop-test .taken) (c .before .before .step .ensures) in
+    let m = onward (c .before .before .before .before .before .before .before
+    .before .before .before .before .before .before .args .piece .now)
+    (c .before .before .before .before .before .before .before .before .before .before .before .loop .at)
+    (c .before .before .before .before .before .before .before .before .before .before .loop-test .taken)
+    (c .before .before .step .ensures) in
     omega arith
 
 loop-again : tie.Need-loop-again Inv-loop μ-loop
 loop-again c =
     let l = c .before .before .before .before .before .before .before .before .before .before .before .loop in
-    let p = c .before .before .before .before .before .before .before .before .before .before .before .before .before .args .piece .now in
-    let m = onward p (l .at) (c .before .before .before .before .before .before .before .before .before .before .loop-test .taken) (c .before .before .step .ensures) in
+    let p = c .before .before .before .before .before .before .before .before .before .before .before .before
+    .before .args .piece .now in
+    let m = onward p (l .at)
+    (c .before .before .before .before .before .before .before .before .before .before .loop-test .taken)
+    (c .before .before .step .ensures) in
     let e = on-rest p (l .at) (c .before .before .step .ensures) in (
       m .most,
       e .sane,
-      goes-more (c .before .before .before .before .before .before .before .before .before .before .before .before .before .args .g) _ (l .s) _ p (l .at) (l .inv .2) e,
+      goes-more (c .before .before .before .before .before .before .before .before .before .before .before .before
+          .before .args .g) _ (l .s) _ p (l .at) (l .inv .2) e,
     )
 
 returns-2 : tie.Need-returns-2 Inv-loop μ-loop
 returns-2 c =
     let l = c .before .loop in
-    ran-all (c .before .before .before .args .g) _ (l .s) (c .before .before .before .args .piece .now) (l .at) (l .inv .1) (l .inv .2) (omega arith)
+    ran-all (c .before .before .before .args .g) _ (l .s) (c .before .before .before .args .piece .now) (l .at)
+    (l .inv .1) (l .inv .2) (omega arith)
 
 pub run-spec : {M : Type 1} → statement M
 run-spec =

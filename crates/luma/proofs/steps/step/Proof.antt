@@ -10,12 +10,14 @@ pass-requires c κs = search needs
 finish-requires : tie.Need-finish-requires
 finish-requires c κs =
     let a = c .before .before .before .before .before .before .before .args in
-    to-finish (a .g) (a .s) (c .before .before .before .before .before .before .before .pre) (c .before .before .pass .ensures [] [] [])
+    to-finish (a .g) (a .s) (c .before .before .before .before .before .before .before .pre)
+    (c .before .before .pass .ensures [] [] [])
 
 returns : tie.Need-returns
 returns c =
     let a = c .before .before .before .before .before .before .before .before .args in
-    stepped (a .g) (a .s) (c .before .before .before .pass .ensures (a .sums .now) (a .bins .now) (a .picture .now)) (c .finish .ensures)
+    stepped (a .g) (a .s) (c .before .before .before .pass .ensures (a .sums .now) (a .bins .now) (a .picture .now))
+    (c .finish .ensures)
 
 draw-requires : tie.Need-draw-requires
 draw-requires c κs = search needs

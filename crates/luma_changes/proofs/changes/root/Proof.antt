@@ -64,4 +64,5 @@ returns c =
 pub root-spec : {M : Type 1} → statement M
 root-spec =
     tie.close
-    (tie.spec Inv-loop μ-loop mul-target loop-holds add-loop add-mid mul-if1 mul-if1-2 mul-if1-3 loop-less loop-again loop-less-2 loop-again-2 returns)
+    (tie.spec Inv-loop μ-loop mul-target loop-holds add-loop add-mid mul-if1 mul-if1-2 mul-if1-3 loop-less loop-again
+    loop-less-2 loop-again-2 returns)

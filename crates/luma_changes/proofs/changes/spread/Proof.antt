@@ -31,7 +31,11 @@ returns c = cc
 
 returns-2 : tie.Need-returns-2
 unfolding spreadOf
-returns-2 c = sym (sub-eq-zero-of-le (rw (c .before .before .wide .ensures .0, c .before .wide2 .ensures .0, c .before .before .before .apart .ensures .0) at (c .if1 .left)))
+returns-2 c = sym (sub-eq-zero-of-le (rw (
+  c .before .before .wide .ensures .0,
+  c .before .wide2 .ensures .0,
+  c .before .before .before .apart .ensures .0,
+) at (c .if1 .left)))
 
 pub spread-spec : {M : Type 1} → statement M
 spread-spec =

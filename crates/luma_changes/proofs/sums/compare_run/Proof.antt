@@ -1,4 +1,5 @@
--- `compare_run` meets its contract. The loop's invariant: the four sums, added to m, are the figures of the first c pixels more.
+-- `compare_run` meets its contract. The loop's invariant: the four sums, added to m, are the figures
+-- of the first c pixels more.
 use Prim.Native.Nat.{_+_, _-_, _*_, _≤_}
 use native.Mathlib.Omega.{arith}
 use native.Mathlib.Nat.{mul-le-mul}
@@ -11,7 +12,8 @@ use Rattle.luma_changes.proofs.sums.compare_run.Tie as tie
 
 abbrev Inv-loop : tie.InvT-loop
 Inv-loop m kept at made from k up₀ down₀ low₀ high₀ c₀ up down low high c =
-    (c ≤ k) × (up ≤ 255 * c) × (down ≤ 255 * c) × (low ≤ 255 * c) × (high ≤ 255 * c) × Compared kept at made from c m (summed m up down low high)
+    (c ≤ k) × (up ≤ 255 * c) × (down ≤ 255 * c) × (low ≤ 255 * c) × (high ≤ 255 * c)
+    × Compared kept at made from c m (summed m up down low high)
 
 abbrev μ-loop : tie.MeasureT-loop
 μ-loop m kept at made from k up₀ down₀ low₀ high₀ c₀ up down low high c = k - c
@@ -75,7 +77,8 @@ loop-again c =
       omega arith,
       omega arith,
       omega (arith, mul-le-mul small small),
-      summed-more (a .kept .now) (a .at) (a .made .now) (a .from) (l .c) (a .m) (l .up) (l .down) (l .low) (l .high) _ _ (l .inv .5) (omega arith) (c .before .over .ensures .0) (c .over2 .ensures .0),
+      summed-more (a .kept .now) (a .at) (a .made .now) (a .from) (l .c) (a .m) (l .up) (l .down) (l .low)
+          (l .high) _ _ (l .inv .5) (omega arith) (c .before .over .ensures .0) (c .over2 .ensures .0),
     )
 
 cast-squares : tie.Need-cast-squares Inv-loop μ-loop
@@ -109,7 +112,12 @@ returns : tie.Need-returns Inv-loop μ-loop
 returns c =
     let l = c .before .before .before .before .loop in
     let e : l .c ≡ c .before .before .before .before .before .before .before .args .k = omega arith in
-    rw (c .before .before .wrapping-add-u32 .ensures, c .before .wrapping-add-u322 .ensures, c .wrapping-add-u323 .ensures, ← e) (l .inv .5)
+    rw (
+      c .before .before .wrapping-add-u32 .ensures,
+      c .before .wrapping-add-u322 .ensures,
+      c .wrapping-add-u323 .ensures,
+      ← e,
+    ) (l .inv .5)
 
 pub compare-run-spec : {M : Type 1} → statement M
 compare-run-spec =

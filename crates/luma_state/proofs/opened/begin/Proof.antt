@@ -40,7 +40,13 @@ element-write-luma-6 c = search needs
 returns : tie.Need-returns
 returns c =
     let a = c .before .before .before .before .before .before .before .before .before .args in
-    opened (a .o) (a .f) (record { width = omega arith; height = omega arith; time = omega arith; pid = omega arith; edition = omega arith })
+    opened (a .o) (a .f) (record {
+      width = omega arith;
+      height = omega arith;
+      time = omega arith;
+      pid = omega arith;
+      edition = omega arith;
+    })
     (c .before .before .before .before .before .before .before .before .before .pre)
 
 pub begin-spec : {M : Type 1} → statement M

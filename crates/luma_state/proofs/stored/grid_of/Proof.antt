@@ -12,12 +12,20 @@ sizes-of-requires : tie.Need-sizes-of-requires
 sizes-of-requires c κs = search needs
 
 boundary-requires : tie.Need-boundary-requires
-boundary-requires c κs =
-    (omega arith, omega (arith, columns-most (c .before .args .o), ap (λ (z : Sizes). z .columns) (c .sizes-of .ensures)))
+boundary-requires c κs = (
+  omega arith,
+  omega (arith, columns-most (c .before .args .o), ap (λ (z : Sizes). z .columns) (c .sizes-of .ensures)),
+)
 
 boundary-requires-2 : tie.Need-boundary-requires-2
-boundary-requires-2 c κs =
-    (omega arith, omega (arith, columns-most (c .before .before .args .o), ap (λ (z : Sizes). z .columns) (c .before .sizes-of .ensures)))
+boundary-requires-2 c κs = (
+  omega arith,
+  omega (
+    arith,
+    columns-most (c .before .before .args .o),
+    ap (λ (z : Sizes). z .columns) (c .before .sizes-of .ensures),
+  ),
+)
 
 cast-t5 : tie.Need-cast-t5
 cast-t5 c = search needs
@@ -25,8 +33,11 @@ cast-t5 c = search needs
 returns : tie.Need-returns
 returns c =
     let z = c .before .before .before .sizes-of .result in
-    rw
-    (boundary-one (c .before .before .boundary .ensures .0) (boundary-is 1 (z .columns)), boundary-one (c .before .boundary2 .ensures .0) (boundary-is 2 (z .columns)), c .before .before .before .sizes-of .ensures)
+    rw (
+      boundary-one (c .before .before .boundary .ensures .0) (boundary-is 1 (z .columns)),
+      boundary-one (c .before .boundary2 .ensures .0) (boundary-is 2 (z .columns)),
+      c .before .before .before .sizes-of .ensures,
+    )
 
 pub grid-of-spec : {M : Type 1} → statement M
 grid-of-spec =

@@ -6,7 +6,8 @@ use Rattle.measure.proofs.side.feed_capture.Statement.{statement}
 use Rattle.measure.proofs.side.feed_capture.Tie as tie
 
 abbrev Inv-loop : tie.InvT-loop
-Inv-loop name piece₀ walk₀ kept₀ numbers₀ table₀ fd turn₀ turns₀ piece walk kept numbers table turn turns = length piece ≡ length piece₀
+Inv-loop name piece₀ walk₀ kept₀ numbers₀ table₀ fd turn₀ turns₀ piece walk kept numbers table turn turns =
+    length piece ≡ length piece₀
 
 abbrev μ-loop : tie.MeasureT-loop
 μ-loop name piece₀ walk₀ kept₀ numbers₀ table₀ fd turn₀ turns₀ piece walk kept numbers table turn turns = turns

@@ -6,7 +6,8 @@ use Rattle.measure.proofs.side.feed_luma.Statement.{statement}
 use Rattle.measure.proofs.side.feed_luma.Tie as tie
 
 abbrev Inv-loop : tie.InvT-loop
-Inv-loop name piece₀ luma₀ sums₀ bins₀ picture₀ fd turn₀ turns₀ piece luma sums bins picture turn turns = length piece ≡ length piece₀
+Inv-loop name piece₀ luma₀ sums₀ bins₀ picture₀ fd turn₀ turns₀ piece luma sums bins picture turn turns =
+    length piece ≡ length piece₀
 
 abbrev μ-loop : tie.MeasureT-loop
 μ-loop name piece₀ luma₀ sums₀ bins₀ picture₀ fd turn₀ turns₀ piece luma sums bins picture turn turns = turns

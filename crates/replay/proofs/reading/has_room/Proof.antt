@@ -1,4 +1,5 @@
--- `has_room` meets its contract. The loop's invariant: the opening's answer and the calls before `at` take `to` bytes, and there is room for them.
+-- `has_room` meets its contract. The loop's invariant: the opening's answer and the calls before `at` take `to` bytes,
+-- and there is room for them.
 use Prim.Native.Nat.{ℕ, _+_, _-_, _≤_}
 use native.Mathlib.Omega.{arith}
 use mathlib.Core.Path.{_≡_, sym, ap, _∙_}
@@ -31,7 +32,8 @@ size-requires c κs = search needs
 returns-2 : tie.Need-returns-2 Inv-loop μ-loop
 returns-2 c =
     let l = c .before .before .before .before .loop in
-    taken-stop _ (l .at) (l .to) _ (l .inv .1) (l .inv .0) (omega arith) (sym (c .before .size .ensures ∙ ap sizeOf (c .before .before .head-at .ensures)) ∙ c .if2 .taken)
+    taken-stop _ (l .at) (l .to) _ (l .inv .1) (l .inv .0) (omega arith)
+    (sym (c .before .size .ensures ∙ ap sizeOf (c .before .before .head-at .ensures)) ∙ c .if2 .taken)
 
 sub-if3 : tie.Need-sub-if3 Inv-loop μ-loop
 sub-if3 c = omega arith

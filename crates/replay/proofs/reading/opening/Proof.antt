@@ -22,4 +22,5 @@ returns : tie.Need-returns
 returns c = cc
 
 pub opening-spec : {M : Type 1} → statement M
-opening-spec = tie.close (tie.spec word-at-requires word-at-requires-2 word-at-requires-3 word-at-requires-4 word-at-requires-5 returns)
+opening-spec = tie.close
+    (tie.spec word-at-requires word-at-requires-2 word-at-requires-3 word-at-requires-4 word-at-requires-5 returns)

@@ -28,8 +28,11 @@ loop-less c = simp length-set (omega arith)
 
 loop-again : tie.Need-loop-again Inv-loop μ-loop
 loop-again c =
-    let l = c .before .loop in
-    (simp length-set (omega arith), simp length-set (l .inv .1), fill-law (l .out) (l .i) (c .loop-test .taken) (l .inv .2))
+    let l = c .before .loop in (
+      simp length-set (omega arith),
+      simp length-set (l .inv .1),
+      fill-law (l .out) (l .i) (c .loop-test .taken) (l .inv .2),
+    )
 
 same-length : tie.Need-same-length Inv-loop μ-loop
 same-length c = c .before .loop .inv .1
