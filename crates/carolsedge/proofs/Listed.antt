@@ -1,4 +1,4 @@
--- No refusal of the rules has a number outside document 01's table, so the interface renumbers none of them.
+-- No refusal of the rules has a number outside the table, so the interface renumbers none of them.
 use Prim.Native.Nat.{ℕ}
 use mathlib.Core.Path.{_≡_, refl}
 use mathlib.Core.List.{List}

@@ -1,6 +1,6 @@
 // The calls as C functions. A slice goes as a pointer and a length, an array as a pointer. Each function is thin: it
 // hands its memory to the call of the crate below and splits the answer into numbers. A number is 0 where the call is
-// done, and otherwise that of document 01's table. Calls of document 02 that are crates of their own have a file each.
+// done, and otherwise that of the rules' table. Calls of document 02 that are crates of their own have a file each.
 ghost use mathlib.Core.Path.{_≡_};
 ghost use Rattle.replay.specs.Script.{Replayed};
 ghost use Rattle.rules.specs.Refusals.{listed};
@@ -191,8 +191,8 @@ pub extern "C" fn carolsedge_repeats(luma: &[u64; 1600], a: u32, b: u32, value: 
     number_of(answer)
 }
 
-// Opens, feeds and seals as a script says (include/carolsedge.h has its form), and writes what every call comes to. False, and out stands as it was, where there is no
-// room for it all.
+// Opens as a script says (include/carolsedge.h has its form), makes its calls, and writes what every one comes to.
+// False, and out stands as it was, where there is no room for it all.
 #[no_mangle]
 pub extern "C" fn carolsedge_replay(script: &[u8], out: &mut [u8]) -> bool
     ensures { λ r. ⌜ Replayed (now (script .entry)) (now (out .entry)) r (now (out .exit)) ⌝ }

@@ -1,4 +1,4 @@
-// The figures of document 01, each from plain numbers: what the engines, the seal and the reader are made of.
+// The figures of the rules, each from plain numbers: what the engines, the seal and the reader are made of.
 mod editions;
 mod gaps;
 mod numbers;

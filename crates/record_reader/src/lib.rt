@@ -1,4 +1,4 @@
-// Reading a record: whether document 01 allows it, its header's figures and its rows.
+// Reading a record: whether the rules allow it, its header's figures and its rows.
 ghost use mathlib.Core.Path.{_≡_};
 ghost use Prim.Native.Nat.{_+_, _*_, _≤_, _<_};
 ghost use lib.ListN.{length, drop};
@@ -115,7 +115,7 @@ fn allowed_scenes(bytes: &[u8], place: usize, n: usize, pictures: u64) -> bool
     from == pictures
 }
 
-// Whether document 01 allows a record of 64 bytes or more.
+// Whether the rules allow a record of 64 bytes or more.
 fn allowed(bytes: &[u8]) -> bool
     requires { ⌜ 64 ≤ length (now bytes) ⌝ }
     ensures { λ r. ⌜ r ≡ ruleAllowed (now (bytes .entry)) ⌝ }
@@ -132,7 +132,7 @@ fn allowed(bytes: &[u8]) -> bool
     allowed_scenes(bytes, 64 + 32 * units, scenes, word(bytes, 40))
 }
 
-// Opens a record: accepted exactly if document 01 allows it, otherwise 16, 17 or 18, tried in this order.
+// Opens a record: accepted exactly if the rules allow it, otherwise 16, 17 or 18, tried in this order.
 pub fn open(bytes: &[u8]) -> Opened
     ensures { λ r. ⌜ r ≡ openedAs (now (bytes .entry)) ⌝ }
 {

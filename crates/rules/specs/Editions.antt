@@ -17,7 +17,7 @@ isEdition e = within 1 4 e
 unfoldable pub heedsSplices : ℕ → Bool
 heedsSplices e = leb 2 e
 
--- q is the whole number nearest to its root, where it is cut off otherwise (R-5)
+-- q is the whole number nearest to its root, where it is cut off otherwise: 3 and later (R-5)
 unfoldable pub roundsToNearest : ℕ → Bool
 roundsToNearest e = leb 3 e
 

@@ -80,7 +80,7 @@ sealedLength o capture luma = recordLength (length (units o capture)) (length (s
 unfoldable pub captureUnfinished : List ℕ → Fault
 captureUnfinished capture = pick (captureInside capture) (fault 11 (length capture)) none
 
--- 12: no packet of PID
+-- 12: no unit, so no packet of PID, or by edition 4 only damaged ones
 unfoldable pub noPacket : List UnitRow → Fault
 noPacket [] = fault 12 0
 noPacket (u ∷ us) = none

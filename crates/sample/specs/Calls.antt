@@ -58,9 +58,8 @@ pub record Kept (o : Opening) (luma : List ℕ) (i : ℕ) : Type 0 where
   pub clear : lumaFault o luma ≡ none
 
 -- of a state that stands for these joined luma bytes: in every whole picture (a byte is below 256) each pixel adds one
--- to one bin of one tile's histogram and to
--- no other, so that the bins of the nine histograms total w × h; and those histograms are the ones that the state
--- keeps (its bins are 32-bit words)
+-- to one bin of one tile's histogram and to no other, so that the bins of the nine histograms total w × h; and those
+-- histograms are the ones that the state keeps (its bins are 32-bit words)
 pub record InHistograms (o : Opening) (luma : List ℕ) (st : State) : Type 0 where
   pub pictures : Bytes luma → (i : ℕ) → Whole o luma i → Counted o (getD (reduced o luma) i [])
   pub ring : ((n : ℕ) → getD (st .bins) n 0 < 2 ^ 32) → (i : ℕ) → Kept o luma i → tilesAt (st .bins) (slot i) ≡

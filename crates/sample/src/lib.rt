@@ -28,7 +28,7 @@ use rules::Index;
 use rules::Opening;
 pub use while_feeding::index;
 
-// Opens a sample, and answers Done with 0, or refusal 1, 2 or 3, which its feeds and seals then repeat.
+// Opens a sample, and answers Done with 0, or refusal 1, 2, 3 or 20, which all calls after it repeat.
 pub fn open(
     walk: &mut WalkWords,
     kept: &mut Collected,

@@ -1,4 +1,4 @@
--- No refusal of the rules has a number outside document 01's table, and whatever number is listed is one of the
+-- No refusal of the rules has a number outside the table, and whatever number is listed is one of the
 -- table's.
 use Prim.Native.Nat.{ℕ, _+_, _*_, _%_, _≤_, _<_}
 use native.Mathlib.Omega.{arith}
