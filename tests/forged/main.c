@@ -448,9 +448,19 @@ static uint32_t repeats_of(const uint64_t *l, uint32_t a, uint32_t b, uint64_t *
     return CAROLSEDGE_DONE;
 }
 
+/* A film of 750 pictures, each repeated or not by chance: wild words seldom have a map of which a count says much. */
+static void forge_map(uint64_t *l)
+{
+    l[3] = 750, l[12] = 64, l[13] = 48, l[14] = 40000, l[15] = 256, l[16] = 1 + below(CAROLSEDGE_NEWEST_EDITION);
+    for (size_t i = 64; i < 76; i++)
+        l[i] = chance();
+}
+
 static void call_repeats(void)
 {
-    const uint64_t *l = (const uint64_t *)(void *)at(&luma);
+    uint64_t *l = (uint64_t *)(void *)at(&luma);
+    if (calls[REPEATS] % 8 == 0)
+        forge_map(l);
     uint64_t right, *value = (uint64_t *)(void *)lend(&lent, 8);
     uint32_t a = below(4) ? (uint32_t)below(752) : (uint32_t)figure();
     uint32_t b = below(4) ? a + (uint32_t)below(200) : (uint32_t)figure();

@@ -1,5 +1,5 @@
--- Refusals: a number of the table of documents 01 and 02 with its place, and the answers that are made of them. Each number stands
--- at the definition that gives it:
+-- Refusals: a number of the table of documents 01 and 02 with its place, and the answers that are made of them. Each
+-- number stands at the definition that gives it:
 --   opening  1, 2, 3, 20  Opening.openingFault
 --   capture  4 Capture.tooLong, 5 Capture.wrongMagic, 6 Capture.wrongLink, 7 and 8 Capture.wrongFrameHeader,
 --            9 Capture.tooManyUnits (beginsAt)
