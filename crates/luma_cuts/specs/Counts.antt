@@ -1,6 +1,7 @@
 -- Cuts: what the counts of five pictures' histograms hold.
+use Prim.{Unit}
 use Prim.Native.Nat.{ℕ, _+_, _*_, _≤_}
-use mathlib.Core.List.{List}
+use mathlib.Core.List.{List, [], _∷_}
 use lib.ListN.{getD}
 use Rattle.rules.specs.Bytes.{table}
 use Rattle.rules.specs.Cuts.{leastOfSix}
@@ -21,3 +22,8 @@ leastAt counts a b x y z =
 -- a picture's 144 counts from here on lie within the 720
 pub record Slot (base : ℕ) : Type 0 where
   pub fits : base + 144 ≤ 720
+
+-- numbers in order, none below b
+unfoldable pub Rising : ℕ → List ℕ → Type 0
+Rising b [] = Unit {0}
+Rising b (x ∷ xs) = (b ≤ x) × Rising x xs
