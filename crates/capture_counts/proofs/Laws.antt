@@ -29,7 +29,7 @@ use Rattle.capture_units.proofs.Steps.{none-yet}
 use Rattle.capture_units.proofs.Laws.{all-few, all-append, from-append, from-none, before-some, before-none, nine-kept}
 use Rattle.capture_counts.specs.declared.Tally.{Tally}
 use Rattle.capture_counts.specs.Counts.{Counts, Stops, Counted, going, stopped, Checked, fits, full, Accounts}
-use Rattle.capture_counts.specs.Counts.{Runs, withBad}
+use Rattle.capture_counts.specs.Counts.{Runs, Checks, Takes, withBad, Included, as-bad, as-unit, passedBy}
 
 -- ---- a cell more
 
@@ -275,6 +275,39 @@ module _ (t : Tally) (c : Cell) (b : Bool) (be : b ≡ isOf (t .pid) c) where
         one : g ≡ false → _≡_ {A = ℕ} (pick g 1 0) 0
         one z = ap (λ (x : Bool). pick x 1 0) z
 
+-- ---- shown and whole
+
+-- of the identifier
+pub account-in : (t : Tally) (c : Cell) (b : Bool) → b ≡ isOf (t .pid) c → {d : Cell} → d ≡ seen (t .edition) c →
+    b ≡ true → {w w′ : List ℕ} {r : Tally} → Included w t d w′ r → Accounts w t c w′ r
+account-in t c b be de f (as-bad y z s) = rw (z, s) (account-early t c b be de f (sym y) refl)
+account-in t c b be de f {r = r} (as-unit u y ad s) =
+    rw s (account-wanted t c b be de f (sym y) _ refl ad refl refl refl refl)
+
+-- not of it
+pub account-out : (t : Tally) (c : Cell) (b : Bool) → b ≡ isOf (t .pid) c → b ≡ false → {w : List ℕ} →
+    Accounts w t c w (passedBy t c)
+account-out t c b be f {w} = go (isBad (c .condition)) refl
+  where
+    go : (g : Bool) → g ≡ isBad (c .condition) → Accounts w t c w (pick g (withBad t) t)
+    go true z = account-bad t c b be f z refl
+    go false z = account-same t c b be f z refl
+
+-- a cell that is refused when it is shown, and one that is not
+pub takes-none : {w w′ : List ℕ} {t r : Tally} {c : Cell} → Checks t c r → (r .status ≡ 0 → ⊥) → Takes w t c w′ r
+takes-none {w} {w′} {t} {r} {c} ch z e pid cs p l k = go (ch w e pid cs p k)
+  where
+    go : Checked t c r e pid cs → Counted w′ r e pid (cs ++ c ∷ [])
+    go (fits y f) = absurd (z (ap (λ (x : Tally). x .status) y ∙ k .status))
+    go (full s) = stopped s
+
+pub takes-one : {w w′ : List ℕ} {t r : Tally} {c : Cell} → Checks t c t → Accounts w t c w′ r → Takes w t c w′ r
+takes-one {w} {w′} {t} {r} {c} ch ac e pid cs p l k = go (ch w e pid cs p k)
+  where
+    go : Checked t c t e pid cs → Counted w′ r e pid (cs ++ c ∷ [])
+    go (fits y f) = going (ac e pid cs l f k)
+    go (full s) = let y = s .some in let z = k .status in absurd (omega arith)
+
 -- no cell yet
 pub counts-none : (w : List ℕ) (pid edition : ℕ) → length w ≡ 3750 →
     Counts w
@@ -315,10 +348,10 @@ going-none w t time place s = record { goes = λ e pid cs l k. unfold cellsFrom 
 pub going-all : {w w′ : List ℕ} {t r : Tally} (k n time place : ℕ) (s : List ℕ) → k ≡ n → Going w t (cellsFrom k time place s) w′ r → Runs w t (cellsFrom n time place s) w′ r
 going-all k n time place s y g e pid cs l c = going (rw y at (g .goes e pid cs (rw y l) c))
 
-module _ {w w′ : List ℕ} {t d r : Tally} (k time place₀ at₀ : ℕ) (piece : List ℕ) (at place : ℕ) (c : Cell) (g : Going w t (cellsFrom k time place₀ (drop at₀ piece)) w′ d)
-    (ae : at ≡ at₀ + 188 * k) (pe : place ≡ place₀ + 188 * k) (small : place ≤ 268435456) (ce : c ≡ cellIn time place (drop at piece))
-    (ch : (w : List ℕ) (e pid : ℕ) (cs : List Cell) → c .place + 3 < 18446744073709551616 → Counts w d e pid cs →
-    Checked d c r e pid cs) where
+module _ {w w′ w″ : List ℕ} {t d r : Tally} (k time place₀ at₀ : ℕ) (piece : List ℕ) (at place : ℕ) (c : Cell)
+    (g : Going w t (cellsFrom k time place₀ (drop at₀ piece)) w′ d) (ae : at ≡ at₀ + 188 * k)
+    (pe : place ≡ place₀ + 188 * k) (small : place ≤ 268435456) (ce : c ≡ cellIn time place (drop at piece))
+    (ta : Takes w′ d c w″ r) where
   abbrev ds : List Cell
   ds = cellsFrom k time place₀ (drop at₀ piece)
 
@@ -330,16 +363,20 @@ module _ {w w′ : List ℕ} {t d r : Tally} (k time place₀ at₀ : ℕ) (piec
       let e : c ≡ cellIn time (place₀ + 188 * k) (drop (188 * k) (drop at₀ piece)) = ce ∙ rw (pe, ae, drop-drop (188 * k) at₀ piece) in
       cells-more k time place₀ (drop at₀ piece) ∙ rw (← e)
 
-  lengths : (cs : List Cell) (n : ℕ) → k < n → length cs + length (cellsFrom n time place₀ (drop at₀ piece)) < 4294967296 → length cs + length ds < 4294967296
-  lengths cs n h l = let a = length-cells n time place₀ (drop at₀ piece) in let b = length-cells k time place₀ (drop at₀ piece) in omega arith
+  -- one cell more is in, or shows 9
+  more : (n : ℕ) → k < n → (e pid : ℕ) (cs : List Cell) →
+      length cs + length (cellsFrom n time place₀ (drop at₀ piece)) < 4294967296 → Counts w t e pid cs →
+      Counted w″ r e pid (cs ++ ds ++ c ∷ [])
+  more n h e pid cs l q =
+      let a = length-cells n time place₀ (drop at₀ piece) in
+      let b = length-cells k time place₀ (drop at₀ piece) in
+      let f = length-append cs ds in
+      ta e pid (cs ++ ds) here (omega arith) (g .goes e pid cs (omega arith) q)
 
   -- a cell that shows 9 ends it
-  pub going-stops : (n : ℕ) → k < n → (r .status ≡ 0 → ⊥) → Runs w t (cellsFrom n time place₀ (drop at₀ piece)) w′ r
-  going-stops n h z e pid cs l q = go (ch w′ e pid (cs ++ ds) here v)
+  pub going-stops : (n : ℕ) → k < n → (r .status ≡ 0 → ⊥) → Runs w t (cellsFrom n time place₀ (drop at₀ piece)) w″ r
+  going-stops n h z e pid cs l q = go (more n h e pid cs l q)
     where
-      v : Counts w′ d e pid (cs ++ ds)
-      v = g .goes e pid cs (lengths cs n h l) q
-
       rest : List Cell
       rest = cellsFrom (n - (k + 1)) time (place₀ + 188 * (k + 1)) (drop (188 * (k + 1)) (drop at₀ piece))
 
@@ -350,9 +387,9 @@ module _ {w w′ : List ℕ} {t d r : Tally} (k time place₀ at₀ : ℕ) (piec
           ∙ cells-split (k + 1) (n - (k + 1)) time place₀ (drop at₀ piece)
           ∙ ap (λ (x : List Cell). x ++ rest) one-more
 
-      go : Checked d c r e pid (cs ++ ds) → Counted w′ r e pid (cs ++ cellsFrom n time place₀ (drop at₀ piece))
-      go (fits y f) = absurd (z (ap (λ (x : Tally). x .status) y ∙ v .status))
-      go (full s) =
+      go : Counted w″ r e pid (cs ++ ds ++ c ∷ []) → Counted w″ r e pid (cs ++ cellsFrom n time place₀ (drop at₀ piece))
+      go (going x) = absurd (z (x .status))
+      go (stopped s) =
           let y : cs ++ cellsFrom n time place₀ (drop at₀ piece) ≡ cs ++ ds ++ c ∷ [] ++ rest =
           ap (λ (x : List Cell). cs ++ x) all ∙ simp append-assoc in
           stopped (record {
@@ -361,24 +398,10 @@ module _ {w w′ : List ℕ} {t d r : Tally} (k time place₀ at₀ : ℕ) (piec
           })
 
   -- one that does not is counted
-  pub going-more : {w″ : List ℕ} (n : ℕ) (u : Tally) → k < n → r .status ≡ 0 →
-      ((e pid : ℕ) (cs : List Cell) → length cs < 4294967296 → nineIn e pid (cs ++ c ∷ []) ≡ none →
-      Counts w′ r e pid cs → Counts w″ u e pid (cs ++ c ∷ [])) →
-      Going w t (cellsFrom (k + 1) time place₀ (drop at₀ piece)) w″ u
-  going-more {w″} n u h z ac = record { goes = λ e pid cs l q. go e pid cs l q }
+  pub going-more : r .status ≡ 0 → Going w t (cellsFrom (k + 1) time place₀ (drop at₀ piece)) w″ r
+  going-more z = record { goes = λ e pid cs l q. go e pid cs (more (k + 1) (omega arith) e pid cs l q) }
     where
-      go : (e pid : ℕ) (cs : List Cell) →
-          length cs + length (cellsFrom (k + 1) time place₀ (drop at₀ piece)) < 4294967296 → Counts w t e pid cs →
-          Counts w″ u e pid (cs ++ cellsFrom (k + 1) time place₀ (drop at₀ piece))
-      go e pid cs l q = step (ch w′ e pid (cs ++ ds) here v)
-        where
-          v : Counts w′ d e pid (cs ++ ds)
-          v = g .goes e pid cs (lengths cs (k + 1) (omega arith) l) q
-
-          few : length (cs ++ ds) < 4294967296
-          few = let a = length-append cs ds in let b = lengths cs (k + 1) (omega arith) l in omega arith
-
-          step : Checked d c r e pid (cs ++ ds) →
-              Counts w″ u e pid (cs ++ cellsFrom (k + 1) time place₀ (drop at₀ piece))
-          step (fits y f) = rw (one-more, ← append-assoc cs ds (c ∷ [])) (ac e pid (cs ++ ds) few f (rw y v))
-          step (full s) = let y = s .some in absurd (omega arith)
+      go : (e pid : ℕ) (cs : List Cell) → Counted w″ r e pid (cs ++ ds ++ c ∷ []) →
+          Counts w″ r e pid (cs ++ cellsFrom (k + 1) time place₀ (drop at₀ piece))
+      go e pid cs (going x) = rw (one-more, ← append-assoc cs ds (c ∷ [])) x
+      go e pid cs (stopped s) = let y = s .some in absurd (omega arith)

@@ -9,7 +9,8 @@ ghost use lib.Dec.{eqb};
 ghost use Rattle.rules.specs.Packets.{isDamaged};
 ghost use Rattle.capture_units.specs.Units.{asKnown, isOf, seen as seenBy};
 ghost use Rattle.capture_walk.specs.Contract.{cellsOf};
-ghost use Rattle.capture_counts.specs.Counts.{Checks, Accounts, Runs, withBad};
+ghost use Rattle.capture_counts.specs.Counts.{Checks, Accounts, Takes, Runs};
+ghost use Rattle.capture_counts.specs.Counts.{withBad, withNine, Included, passedBy};
 use capture_cells::Cell;
 use capture_cells::is_bad;
 use capture_cells::is_damaged;
@@ -91,6 +92,41 @@ fn with_bad(t: Tally) -> Tally
     r
 }
 
+// Refusal 9, at byte 3 of the cell that starts at `place`.
+fn nine(t: Tally, place: u64) -> Tally
+    ensures { λ r. ⌜ r ≡ withNine t place ⌝ }
+{
+    let mut r = t;
+    r.status = 9;
+    r.place = std::num::wrapping_add_u64(place, 3);
+    r
+}
+
+// A cell of the identifier, as the edition sees it, is whole.
+fn include(table: &mut Table, t: Tally, d: Cell) -> Tally
+    ensures { λ r. ⌜ Included (now (table .entry)) t d (now (table .exit)) r ⌝ }
+{
+    let u = t.units;
+    if is_early(u, d) {
+        return with_bad(t);
+    }
+    let v = capture_units::add_cell(table, u, d);
+    let mut r = t;
+    r.units = v;
+    r
+}
+
+// One that is not of the identifier is whole.
+fn pass(t: Tally, c: Cell) -> Tally
+    ensures { λ r. ⌜ r ≡ passedBy t c ⌝ }
+{
+    let k = c.condition;
+    if is_bad(k) {
+        return with_bad(t);
+    }
+    t
+}
+
 // A cell is shown: refusal 9, if it would begin a 751st unit.
 pub fn check(t: Tally, c: Cell) -> Tally
     ensures { λ r. ⌜ Checks t c r ⌝ }
@@ -99,10 +135,7 @@ pub fn check(t: Tally, c: Cell) -> Tally
         let u = t.units;
         let d = seen(c, t.edition);
         if capture_units::is_full(u, d) {
-            let mut r = t;
-            r.status = 9;
-            r.place = std::num::wrapping_add_u64(c.place, 3);
-            return r;
+            return nine(t, c.place);
         }
         return t;
     }
@@ -114,21 +147,24 @@ pub fn account(table: &mut Table, t: Tally, c: Cell) -> Tally
     ensures { λ r. ⌜ Accounts (now (table .entry)) t c (now (table .exit)) r ⌝ }
 {
     if wanted(c, t.pid) {
+        return include(table, t, seen(c, t.edition));
+    }
+    pass(t, c)
+}
+
+// A cell is shown and whole at once. Whether it is wanted, and how it is seen, is asked once for both.
+fn take_cell(table: &mut Table, t: Tally, c: Cell) -> Tally
+    ensures { λ r. ⌜ Takes (now (table .entry)) t c (now (table .exit)) r ⌝ }
+{
+    if wanted(c, t.pid) {
         let u = t.units;
         let d = seen(c, t.edition);
-        if is_early(u, d) {
-            return with_bad(t);
+        if capture_units::is_full(u, d) {
+            return nine(t, c.place);
         }
-        let v = capture_units::add_cell(table, u, d);
-        let mut r = t;
-        r.units = v;
-        return r;
+        return include(table, t, d);
     }
-    let k = c.condition;
-    if is_bad(k) {
-        return with_bad(t);
-    }
-    t
+    pass(t, c)
 }
 
 // A run of cells, up to the first that shows refusal 9.
@@ -144,11 +180,10 @@ pub fn add_run(table: &mut Table, start: Tally, piece: &[u8], r: Run) -> Tally
     let mut k: u64 = 0;
     while k < many {
         let c = capture_cells::cell_at(piece, at, time, place);
-        let d = check(t, c);
-        if d.status != 0 {
-            return d;
+        t = take_cell(table, t, c);
+        if t.status != 0 {
+            return t;
         }
-        t = account(table, d, c);
         at += 188;
         place += 188;
         k += 1;
