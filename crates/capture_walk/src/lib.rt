@@ -87,7 +87,7 @@ pub fn next(kept: &mut Collected, s: Walk, piece: &[u8], i: usize) -> Step
     if s.left == 0 {
         return on_tail(kept, s, piece, i, n);
     }
-    let m = run_size(s, left as u64);
+    let m = run_size(s, &piece[i..]);
     if 0 < m {
         return on_run(kept, s, piece, i, m);
     }
