@@ -1,7 +1,5 @@
--- The laws, one file a chapter: none has more scenes (Least, Most); one has that many (Flat to Reached); its bytes,
--- part by part (Pieces); the calls (Answers); the arguments (Digits).
-pub mod Least
-pub mod Most
+-- The laws, one file a chapter: a sample has that many scenes (Flat to Reached); its bytes, part by part (Pieces); the
+-- calls (Answers); the arguments (Digits). That none has more is a law of `luma_laws` (Least, Most).
 pub mod Flat
 pub mod Plain
 pub mod Tones

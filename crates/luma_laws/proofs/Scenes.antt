@@ -1,5 +1,5 @@
--- Scenes: the starts rise from 0 and lie apart, the scenes join without gap and total the pictures, and a sample has
--- at most 250 of them.
+-- Scenes: the starts rise from 0 and lie apart, the last has two pictures behind it, and the scenes join without gap
+-- and total the pictures.
 use Prim.Native.Nat.{ℕ, zero, suc, _+_, _-_, _*_, _/_, _≤_, _<_}
 use native.Mathlib.Omega.{arith}
 use native.Mathlib.Nat.{mul-le-mul, mul-suc, zero-add}
@@ -121,7 +121,7 @@ scenes-join d (s ∷ ss) rs qs h =
     some zero g = absurd (omega arith)
     some (suc n) g = omega arith
 
--- ---- the last start has two pictures behind it, so that a sample has at most 250 scenes
+-- ---- the last start has two pictures behind it
 
 pub score-at : (hs : List (List (List ℕ))) (i : ℕ) → i < length hs → getD (cutScores hs) i 0 ≡ cutScore hs i
 unfolding cutScores
@@ -153,22 +153,6 @@ cut-inside hs i h =
     let e = score-at hs i (omega arith) in
     let p = score-inside hs i (omega arith) in
     omega arith
-
--- the starts behind 0 of pictures with these histograms
-pub starts-inside : (d : ℕ) (hs : List (List (List ℕ))) → d ≤ 200000 → (n : ℕ) →
-    Apart 3 (length hs - 2) 0 (startsFrom d (cutScores hs) n 0 1)
-starts-inside d hs h n =
-    starts-apart d (cutScores hs) 3 (length hs - 2) (three d h) (cut-inside hs) n 0 1 (omega arith)
-
-pub scenes-few : (d : ℕ) (hs : List (List (List ℕ))) (rs : List Bool) (qs : List ℕ) → d ≤ 200000 → length hs ≤ 750 →
-    length (scenesOf d (cutScores hs) rs qs) ≤ 250
-unfolding scenesOf starts
-scenes-few d hs rs qs h k =
-    rw (scenes-length (cutScores hs) rs qs (starts d (cutScores hs))) (go (cutScores hs) (starts-inside d hs h))
-  where
-    go : (ss : List ℕ) → ((n : ℕ) → Apart 3 (length hs - 2) 0 (startsFrom d ss n 0 1)) → length (starts d ss) ≤ 250
-    go [] f = omega arith
-    go (s ∷ ss) f = let a = apart-count (f (length ss)) in omega arith
 
 -- ---- of a sample
 
@@ -203,12 +187,3 @@ sample-joins o luma h =
     let qs = changes (roundsToNearest (o .edition)) pxs in
     let e = sample-scores o luma in
     rw e at (scenes-join (o .time) (cutScores (map (histograms o) pxs)) (repeats pxs) qs (omega arith))
-
-pub sample-few : (o : Opening) (luma : List ℕ) → openingFault o ≡ none → length (scenes o luma) ≤ 250
-unfolding scenes scenesIn
-sample-few o luma h =
-    let pxs = reduced o luma in
-    let qs = changes (roundsToNearest (o .edition)) pxs in
-    let e = length-map pxs (histograms o) ∙ reduced-length o luma in
-    let k = pictures-most o luma in
-    scenes-few (o .time) (map (histograms o) pxs) (repeats pxs) qs (good o h .time-high) (omega arith)

@@ -52,7 +52,8 @@ use Rattle.rules.proofs.Laws.Damage.{cells-groups, zero-units}
 use Rattle.record_laws.proofs.Record.{Each, UnitFits, SceneFits, Figures}
 use Rattle.luma_laws.proofs.Spans.{longest-most, peak-most}
 use Rattle.luma_laws.proofs.Scenes.{Apart, last, next, starts-apart, below-length, starts-first, sample-scores}
-use Rattle.luma_laws.proofs.Scenes.{sample-few, pictures-most}
+use Rattle.luma_laws.proofs.Scenes.{pictures-most}
+use Rattle.luma_laws.proofs.Most.{sample-few}
 
 -- ---- what a seal that is not refused tells
 

@@ -28,7 +28,8 @@ use Rattle.record_laws.proofs.Record.{Each, Figures, length-record, hea
 use Rattle.record_laws.proofs.Allowed.{goodHeader, goodUnit, goodUnits, goodScenes, goodFigures}
 use Rattle.record_laws.proofs.Allowed.{allowed-figures, record-allowed}
 use Rattle.rules.proofs.Laws.Bounds.{skipped-few}
-use Rattle.luma_laws.proofs.Scenes.{Joins, pictures-most, sample-joins, sample-few}
+use Rattle.luma_laws.proofs.Scenes.{Joins, pictures-most, sample-joins}
+use Rattle.luma_laws.proofs.Most.{sample-few}
 use Rattle.record_laws.proofs.Ranges.{Sealable, sealable, UnitRange, units-most, unit-ranges, unit-zeros}
 use Rattle.record_laws.proofs.Ranges.{figures-fit}
 

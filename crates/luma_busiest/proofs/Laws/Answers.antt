@@ -17,7 +17,7 @@ use Rattle.rules.specs.Seal.{noPicture, over}
 use Rattle.rules.proofs.Laws.Lists.{both, inside}
 use Rattle.rules.specs.Busiest.{leastBetween, mostScenes, mostFault, mostAnswer}
 use Rattle.rules.specs.Busiest.{busiestLuma, busiestFault, busiestPart, busiestAnswer, busiestPiece}
-use Rattle.luma_busiest.proofs.Laws.Most.{most-one, most-more}
+use Rattle.luma_laws.proofs.Most.{most-one, most-more}
 
 module _ (d n : ℕ) where
   pub wrong-time : goodTime d ≡ false → Refused 2 0 ≡ mostAnswer d n

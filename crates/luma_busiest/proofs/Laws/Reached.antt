@@ -25,7 +25,7 @@ use Rattle.rules.proofs.Laws.Lists.{length-table}
 use Rattle.luma_laws.proofs.Tables.{getD-table, getD-mapped, same-table}
 use Rattle.luma_laws.proofs.Scenes.{starts-first, cut-inside, score-at, scores-length}
 use Rattle.luma_laws.proofs.Sizes.{good}
-use Rattle.luma_busiest.proofs.Laws.Least.{between-is, between-three}
+use Rattle.luma_laws.proofs.Least.{between-is, between-three}
 use Rattle.luma_busiest.proofs.Laws.Flat.{parts-joined}
 use Rattle.luma_busiest.proofs.Laws.Plain.{plain, plain-pixels}
 use Rattle.luma_busiest.proofs.Laws.Luma.{luma-length, luma-bytes}

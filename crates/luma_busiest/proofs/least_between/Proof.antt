@@ -1,7 +1,7 @@
 -- `least_between` meets its contract: the quotient is the least number.
 use native.Mathlib.Omega.{arith}
 use borrow.Author.Needs.{needs}
-use Rattle.luma_busiest.proofs.Laws.Least.{good-time, between-found}
+use Rattle.luma_laws.proofs.Least.{good-time, between-found}
 use Rattle.luma_busiest.proofs.least_between.Statement.{statement}
 use Rattle.luma_busiest.proofs.least_between.Tie as tie
 

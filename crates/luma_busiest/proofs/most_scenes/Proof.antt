@@ -6,7 +6,7 @@ use mathlib.Core.Path.{sym, ap, _∙_}
 use borrow.Author.Needs.{needs}
 use borrow.Author.Tests.{not-true, not-false}
 use Rattle.rules.specs.declared.Answer.the-variants.{Done}
-use Rattle.luma_busiest.proofs.Laws.Least.{good-between}
+use Rattle.luma_laws.proofs.Least.{good-between}
 use Rattle.luma_busiest.proofs.Laws.Answers.{wrong-time, no-picture, many-pictures, few-pictures, more-pictures}
 use Rattle.luma_busiest.proofs.most_scenes.Statement.{statement}
 use Rattle.luma_busiest.proofs.most_scenes.Tie as tie

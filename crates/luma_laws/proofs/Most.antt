@@ -16,11 +16,11 @@ use Rattle.rules.specs.Histograms.{histograms}
 use Rattle.rules.specs.Cuts.{cutScores}
 use Rattle.rules.specs.Scenes.{startsFrom, starts, scenesOf}
 use Rattle.rules.specs.Seal.{reduced, scenesIn, scenes}
 use Rattle.luma_laws.proofs.Scenes.{Apart, starts-apart, cut-inside, apart-count}
-use Rattle.luma_laws.proofs.Scenes.{scenes-length, reduced-length}
+use Rattle.luma_laws.proofs.Scenes.{scenes-length, reduced-length, pictures-most}
 use Rattle.luma_laws.proofs.Sizes.{good}
 use Rattle.rules.specs.Busiest.{leastBetween, mostScenes, NoneHasMore}
-use Rattle.luma_busiest.proofs.Laws.Least.{between-is, between-three}
+use Rattle.luma_laws.proofs.Least.{between-is, between-three}
 
 -- of n pictures, the starts behind 0
 few-starts : (m n : ℕ) (is : List ℕ) → 3 ≤ m → Apart m (n - 2) 0 is → length is ≤ (n - 3) / m
@@ -79,6 +79,13 @@ most-few d n low high few = go (decLt n 3)
         let some : 0 < leastBetween d = omega arith in
         let all : q * leastBetween d ≤ n - 3 = le-div-iff-mul-le some .0 (le-refl q) in
         rw (le-ltb n 3 (omega arith)) (omega (arith, mul-le-mul-left q three))
+
+-- so a sample has at most 250 scenes
+pub sample-few : (o : Opening) (luma : List ℕ) → openingFault o ≡ none → length (scenes o luma) ≤ 250
+sample-few o luma h =
+    let g = good o h in
+    let most = most-few (o .time) (pictureCount o luma) (g .time-low) (g .time-high) (pictures-most o luma) in
+    omega (arith, none-has-more o luma h, most)
 
 -- the number as it is worked out
 pub most-one : (d n : ℕ) → n < 3 → mostScenes d n ≡ 1
