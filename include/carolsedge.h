@@ -1,11 +1,14 @@
-/* Carolsedge: measures a sample, one packet capture and up to 750 luma pictures of a stream, into a record of 64 bytes and rows of 32.
+/* Carolsedge: measures a sample, one packet capture and up to 750 luma pictures of a stream, into a record of 64 bytes
+ * and rows of 32.
  *
- * Link target/staticlib/libcarolsedge.a (rt staticlib carolsedge writes it, for x86-64 Linux). It needs memcpy and memset, allocates nothing, keeps no
- * memory of its own and does no input or output. Each function is proved to give the number and the value that documents 01 and 02 give.
+ * Link target/staticlib/libcarolsedge.a (rt staticlib carolsedge writes it, for x86-64 Linux). It needs memcpy and
+ * memset, allocates nothing, keeps no memory of its own and does no input or output. Each function is proved to give
+ * the number and the value that documents 01 and 02 give.
  *
  * What a caller owes, of every call:
- *  - A pointer to an array or a structure is valid for the whole of it and aligned. A pointer with a length is valid for so many bytes; it is not null,
- *    even where the length is 0 (the carolsedge_sample_ and carolsedge_survey_ functions take null with length 0).
+ *  - A pointer to an array or a structure is valid for the whole of it and aligned. A pointer with a length is valid
+ *    for so many bytes; it is not null, even where the length is 0 (the carolsedge_sample_ and carolsedge_survey_
+ *    functions take null with length 0).
  *  - Memory that a call writes to overlaps no other memory of the same call, and nobody else uses it meanwhile.
  *  - A sample or a survey is opened before its other calls. Memory that somebody else wrote on gets free answers; the
  *    calls are safe on any contents of it.
@@ -28,10 +31,12 @@ extern "C" {
 #define CAROLSEDGE_ASSERT(fact, words) _Static_assert(fact, words)
 #endif
 
-/* ---- what a call returns: 0, or the number of a refusal. Places count bytes from 0; a place that is not named is 0. */
+/* ---- what a call returns: 0, or the number of a refusal. Places count bytes from 0; a place that is not named is
+ * 0. */
 enum {
     CAROLSEDGE_DONE = 0,
-    CAROLSEDGE_REFUSED_SIZE = 1,            /* H outside 30 to 1088, W outside 15 to 1920, H above 2 W, or W above 4 H */
+    CAROLSEDGE_REFUSED_SIZE = 1,            /* H outside 30 to 1088, W outside 15 to 1920, H above 2 W, or W above
+                                               4 H */
     CAROLSEDGE_REFUSED_TIME = 2,            /* d outside 10,000 to 200,000 */
     CAROLSEDGE_REFUSED_PID = 3,             /* PID above 8191 */
     CAROLSEDGE_REFUSED_CAPTURE_LENGTH = 4,  /* a byte of the capture past 268,435,456; place: that byte */
@@ -41,7 +46,8 @@ enum {
     CAROLSEDGE_REFUSED_FRAME_LENGTH = 8,    /* a frame's stored length above 65,535; place: its last byte */
     CAROLSEDGE_REFUSED_UNITS = 9,           /* a 751st unit begins; place: byte 3 of the packet that begins it */
     CAROLSEDGE_REFUSED_LUMA_LENGTH = 10,    /* a byte of the luma past 750 pictures; place: that byte */
-    CAROLSEDGE_REFUSED_CAPTURE_INSIDE = 11, /* seal, survey: it ends inside its header or a frame; place: its bytes fed */
+    CAROLSEDGE_REFUSED_CAPTURE_INSIDE = 11, /* seal, survey: it ends inside its header or a frame; place: its bytes
+                                               fed */
     CAROLSEDGE_REFUSED_NO_PACKET = 12,      /* seal, index: no packet of PID, or damaged ones alone */
     CAROLSEDGE_REFUSED_LUMA_INSIDE = 13,    /* seal: the luma ends inside a picture; place: its bytes fed */
     CAROLSEDGE_REFUSED_NO_PICTURE = 14,     /* seal, index: no picture */
@@ -80,7 +86,8 @@ enum {
 
 /* The whole state of a sample. Its contents are the library's own. */
 struct carolsedge_sample {
-    uint64_t walk[CAROLSEDGE_WALK_WORDS]; /* capture: the walk through its frames, collected bytes, counts, the table of units */
+    uint64_t walk[CAROLSEDGE_WALK_WORDS]; /* capture: the walk through its frames, collected bytes, counts, the table
+                                             of units */
     uint8_t kept[CAROLSEDGE_COLLECTED_BYTES];
     uint64_t numbers[CAROLSEDGE_NUMBERS];
     uint64_t table[CAROLSEDGE_TABLE_WORDS];
@@ -98,7 +105,8 @@ struct carolsedge_index {
 };
 CAROLSEDGE_ASSERT(sizeof(struct carolsedge_index) == 24, "the three are without gaps");
 
-/* The functions of the library take the state's arrays apart. The carolsedge_sample_ functions below take the structure. */
+/* The functions of the library take the state's arrays apart. The carolsedge_sample_ functions below take the
+ * structure. */
 uint32_t carolsedge_open(uint64_t *walk, uint8_t *kept, uint64_t *numbers, uint64_t *table,
                          uint64_t *luma, uint32_t *sums, uint32_t *bins, uint8_t *picture,
                          uint32_t width, uint32_t height, uint32_t time, uint32_t pid, uint32_t edition);
@@ -115,22 +123,25 @@ uint32_t carolsedge_index(const uint64_t *numbers, const uint64_t *luma, struct 
 /* Opens a sample: width W and height H of a picture, its display time d in microseconds, packet identifier PID, and
  * the edition of the rules, 1 to 4, that it is measured by. Refused: 1, 2, 3 or 20, which all its other calls then
  * repeat. */
-static inline uint32_t carolsedge_sample_open(struct carolsedge_sample *s, uint32_t width, uint32_t height, uint32_t time,
-                                              uint32_t pid, uint32_t edition)
+static inline uint32_t carolsedge_sample_open(struct carolsedge_sample *s, uint32_t width, uint32_t height,
+                                              uint32_t time, uint32_t pid, uint32_t edition)
 {
-    return carolsedge_open(s->walk, s->kept, s->numbers, s->table, s->luma, s->sums, s->bins, s->picture, width, height, time,
-                           pid, edition);
+    return carolsedge_open(s->walk, s->kept, s->numbers, s->table, s->luma, s->sums, s->bins, s->picture,
+                           width, height, time, pid, edition);
 }
 
-/* Feeds a piece of the capture, of any length. *value is the length, or the refusal's place (4 to 9, which later feeds of this side repeat). */
-static inline uint32_t carolsedge_sample_feed_capture(struct carolsedge_sample *s, const uint8_t *piece, size_t length, uint64_t *value)
+/* Feeds a piece of the capture, of any length. *value is the length, or the refusal's place (4 to 9, which later feeds
+ * of this side repeat). */
+static inline uint32_t carolsedge_sample_feed_capture(struct carolsedge_sample *s, const uint8_t *piece, size_t length,
+                                                      uint64_t *value)
 {
     const uint8_t none = 0;
     return carolsedge_feed_capture(s->walk, s->kept, s->numbers, s->table, length ? piece : &none, length, value);
 }
 
 /* Feeds a piece of the luma, of any length. *value is the length, or the refusal's place (10). */
-static inline uint32_t carolsedge_sample_feed_luma(struct carolsedge_sample *s, const uint8_t *piece, size_t length, uint64_t *value)
+static inline uint32_t carolsedge_sample_feed_luma(struct carolsedge_sample *s, const uint8_t *piece, size_t length,
+                                                   uint64_t *value)
 {
     const uint8_t none = 0;
     return carolsedge_feed_luma(s->luma, s->sums, s->bins, s->picture, length ? piece : &none, length, value);
@@ -140,7 +151,8 @@ static inline uint32_t carolsedge_sample_feed_luma(struct carolsedge_sample *s, 
  * Refused: the opening's number, a feed's, or 11 to 15; the buffer stands, and *value is the place. The state does not
  * change, so feeding may go on, and a length of 0 asks how long the record is. Proved of any contents of the state: a
  * refused seal leaves every byte of the buffer. */
-static inline uint32_t carolsedge_sample_seal(const struct carolsedge_sample *s, uint8_t *buffer, size_t length, uint64_t *value)
+static inline uint32_t carolsedge_sample_seal(const struct carolsedge_sample *s, uint8_t *buffer, size_t length,
+                                              uint64_t *value)
 {
     uint8_t none = 0;
     return carolsedge_seal(s->walk, s->kept, s->numbers, s->table, s->luma, length ? buffer : &none, length, value);
@@ -245,7 +257,8 @@ CAROLSEDGE_ASSERT(sizeof(struct carolsedge_header) == 96 && sizeof(struct carols
                       sizeof(struct carolsedge_scene) == 56,
                   "the figures are 64-bit numbers without gaps");
 
-/* Tests a whole record, which has the length given, and gives the figures of its header. Refused: 16, 17 or 18, and *header stands. */
+/* Tests a whole record, which has the length given, and gives the figures of its header. Refused: 16, 17 or 18, and
+ * *header stands. */
 uint32_t carolsedge_read_header(const uint8_t *record, size_t length, struct carolsedge_header *header);
 
 /* Tests a whole record likewise, and gives unit row j or scene row j, from 0. Refused: 16, 17 or 18, then 19 where j
@@ -312,12 +325,12 @@ uint32_t carolsedge_shelf_open(const uint8_t *shelf, size_t length, struct carol
 uint32_t carolsedge_shelf_part(const uint8_t *shelf, size_t length, size_t j, struct carolsedge_part *part,
                                uint64_t *place);
 
-/* Writes the shelf of some records to the front of the buffer (docs/RULE.md, The shelf, 6). The records lie end to end,
- * without gaps; `lengths` has the length of each. *value is the shelf's length, 8 + 4 * count + size; bytes behind it
- * stand. Refused: 27 where there are more than 4,096 records or their lengths do not add up to size, then 28, with the
- * number of the first record that the reader refuses in *value, then 15 for a buffer that is too short, with the length
- * needed in *value; the buffer stands. Proved: what is written is accepted by carolsedge_shelf_open, and its parts are
- * the records, byte by byte. */
+/* Writes the shelf of some records to the front of the buffer (docs/RULE.md, The shelf, 6). The records lie end to
+ * end, without gaps; `lengths` has the length of each. *value is the shelf's length, 8 + 4 * count + size; bytes
+ * behind it stand. Refused: 27 where there are more than 4,096 records or their lengths do not add up to size, then
+ * 28, with the number of the first record that the reader refuses in *value, then 15 for a buffer that is too short,
+ * with the length needed in *value; the buffer stands. Proved: what is written is accepted by carolsedge_shelf_open,
+ * and its parts are the records, byte by byte. */
 uint32_t carolsedge_shelf_write(const uint8_t *records, size_t size, const uint32_t *lengths, size_t count,
                                 uint8_t *buffer, size_t length, uint64_t *value);
 

@@ -1,7 +1,8 @@
 /* measure W H D PID CAPTURE LUMA [EDITION]: measures a sample and prints its record, as the programs measure and show
  * do together.
  *
- * Exit status: 0 printed, 1 refused (`refused NUMBER PLACE` on standard output), 2 usage, or a file or standard output that fails.
+ * Exit status: 0 printed, 1 refused (`refused NUMBER PLACE` on standard output), 2 usage, or a file or
+ * standard output that fails.
  *
  *   cc -std=c11 -Iinclude examples/c/measure.c target/staticlib/libcarolsedge.a -o target/measure-c
  */
@@ -71,7 +72,8 @@ static int feed_file(struct carolsedge_sample *s, feed *side, const char *name)
 
 static void print_unit(size_t j, const struct carolsedge_unit *u)
 {
-    printf("unit %zu %" PRIu64 " %" PRIu64 " %" PRIu64 " %" PRIu64 " %" PRIu64 "\n", j, u->least, u->greatest, u->size, u->packets, u->lost);
+    printf("unit %zu %" PRIu64 " %" PRIu64 " %" PRIu64 " %" PRIu64 " %" PRIu64 "\n",
+           j, u->least, u->greatest, u->size, u->packets, u->lost);
 }
 
 static void print_scene(size_t j, const struct carolsedge_scene *s)
@@ -88,7 +90,8 @@ static int print_record(const uint8_t *record, size_t length)
     uint32_t k = carolsedge_read_header(record, length, &h);
     if (k != CAROLSEDGE_DONE)
         return refused(k, 0);
-    printf("sample %" PRIu64 " %" PRIu64 " %" PRIu64 " %" PRIu64 " %" PRIu64 " %" PRIu64 " %" PRIu64 " %" PRIu64 " %016" PRIX64 "\n",
+    printf("sample %" PRIu64 " %" PRIu64 " %" PRIu64 " %" PRIu64 " %" PRIu64 " %" PRIu64 " %" PRIu64 " %" PRIu64
+           " %016" PRIX64 "\n",
            h.width, h.height, h.time, h.pid, h.pictures, h.frames, h.skipped, h.bad, h.index);
     for (size_t j = 0; carolsedge_read_unit(record, length, j, &u) == CAROLSEDGE_DONE; j++)
         print_unit(j, &u);

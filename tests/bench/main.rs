@@ -1,5 +1,5 @@
-//! Speed of the library's feeds, beside the independent program's feeds, a wide sum of the same bytes, and memcpy; the time
-//! that the largest sheet takes; and other calls, each beside one that does the same work (`calls.rs`).
+//! Speed of the library's feeds, beside the independent program's feeds, a wide sum of the same bytes, and memcpy; the
+//! time that the largest sheet takes; and other calls, each beside one that does the same work (`calls.rs`).
 //!
 //! All four take the same bytes in the same pieces, in turn in every round. A figure is the best of its rounds, by CPU
 //! time of this process.
@@ -135,7 +135,8 @@ fn main() {
         println!("{row}");
         goals.extend(row.goals);
     }
-    let named = |holds: bool| goals.iter().filter(|goal| goal.1 == holds).map(|goal| goal.0.as_str()).collect::<Vec<_>>().join("; ");
+    let named = |holds: bool| goals.iter().filter(|goal| goal.1 == holds).map(|goal| goal.0.as_str())
+        .collect::<Vec<_>>().join("; ");
     println!("goals that hold: {}", named(true));
     println!("goals that do not: {}", if goals.iter().all(|goal| goal.1) { "none".to_string() } else { named(false) });
 }

@@ -7,9 +7,12 @@ struct carolsedge_header;
 struct carolsedge_unit;
 struct carolsedge_shelf;
 struct carolsedge_index { double ic, ip, value; };
-uint32_t __real_carolsedge_feed_capture(uint64_t *, uint8_t *, uint64_t *, uint64_t *, const uint8_t *, size_t, uint64_t *);
-uint32_t __real_carolsedge_feed_luma(uint64_t *, uint32_t *, uint32_t *, uint8_t *, const uint8_t *, size_t, uint64_t *);
-uint32_t __real_carolsedge_seal(const uint64_t *, const uint8_t *, const uint64_t *, const uint64_t *, const uint64_t *, uint8_t *, size_t, uint64_t *);
+uint32_t __real_carolsedge_feed_capture(uint64_t *, uint8_t *, uint64_t *, uint64_t *, const uint8_t *, size_t,
+                                        uint64_t *);
+uint32_t __real_carolsedge_feed_luma(uint64_t *, uint32_t *, uint32_t *, uint8_t *, const uint8_t *, size_t,
+                                     uint64_t *);
+uint32_t __real_carolsedge_seal(const uint64_t *, const uint8_t *, const uint64_t *, const uint64_t *,
+                                const uint64_t *, uint8_t *, size_t, uint64_t *);
 uint32_t __real_carolsedge_index(const uint64_t *, const uint64_t *, struct carolsedge_index *, uint64_t *);
 uint32_t __real_carolsedge_repeats(const uint64_t *, uint32_t, uint32_t, uint64_t *);
 uint32_t __real_carolsedge_sheet(const uint8_t *, size_t, uint8_t *, size_t, uint64_t *);
@@ -29,8 +32,8 @@ uint32_t __real_carolsedge_shelf_write(const uint8_t *, size_t, const uint32_t *
 uint32_t __real_carolsedge_rtp_units(const uint16_t *, size_t, const uint8_t *, size_t, const uint64_t *, size_t,
                                      const uint16_t *, size_t, uint8_t *, size_t, uint64_t *);
 
-uint32_t __wrap_carolsedge_feed_capture(uint64_t *walk, uint8_t *kept, uint64_t *numbers, uint64_t *table, const uint8_t *piece, size_t length,
-                                        uint64_t *value)
+uint32_t __wrap_carolsedge_feed_capture(uint64_t *walk, uint8_t *kept, uint64_t *numbers, uint64_t *table,
+                                        const uint8_t *piece, size_t length, uint64_t *value)
 {
     if (FAULT == 1) /* reads the byte behind a piece */
         (void)*(const volatile uint8_t *)(piece + length);
@@ -44,14 +47,16 @@ uint32_t __wrap_carolsedge_feed_capture(uint64_t *walk, uint8_t *kept, uint64_t 
     return __real_carolsedge_feed_capture(walk, kept, numbers, table, piece, length, value);
 }
 
-uint32_t __wrap_carolsedge_feed_luma(uint64_t *luma, uint32_t *sums, uint32_t *bins, uint8_t *picture, const uint8_t *piece, size_t length, uint64_t *value)
+uint32_t __wrap_carolsedge_feed_luma(uint64_t *luma, uint32_t *sums, uint32_t *bins, uint8_t *picture,
+                                     const uint8_t *piece, size_t length, uint64_t *value)
 {
     if (FAULT == 5) /* writes in front of an array */
         sums[-1] = 7;
     return __real_carolsedge_feed_luma(luma, sums, bins, picture, piece, length, value);
 }
 
-uint32_t __wrap_carolsedge_seal(const uint64_t *walk, const uint8_t *kept, const uint64_t *numbers, const uint64_t *table, const uint64_t *luma,
+uint32_t __wrap_carolsedge_seal(const uint64_t *walk, const uint8_t *kept, const uint64_t *numbers,
+                                const uint64_t *table, const uint64_t *luma,
                                 uint8_t *buffer, size_t length, uint64_t *value)
 {
     uint32_t k = __real_carolsedge_seal(walk, kept, numbers, table, luma, buffer, length, value);

@@ -1,7 +1,8 @@
-/* Calls every function of the C interface on forged states, records and figures. Every lent array, piece, buffer and record stands against a page that
- * cannot be read or written, in front of it or behind it, so a single byte outside ends the run. What is lent to be read only cannot be written, always or
- * in some of the calls, and what is left of a page is compared afterwards. A call that takes longer than LIMIT seconds, an answer past the
- * table's last number, a refusal that wrote to its buffer, and an opening that answers something else than the rule says end the run too.
+/* Calls every function of the C interface on forged states, records and figures. Every lent array, piece, buffer and
+ * record stands against a page that cannot be read or written, in front of it or behind it, so a single byte outside
+ * ends the run. What is lent to be read only cannot be written, always or in some of the calls, and what is left of a
+ * page is compared afterwards. A call that takes longer than LIMIT seconds, an answer past the table's last number, a
+ * refusal that wrote to its buffer, and an opening that answers something else than the rule says end the run too.
  *
  * Usage: forged CALLS SEED. Makes so many calls of each function (of sheet, effective_loss, gap_runs and of a survey's
  * and the shelf's a tenth; of replay, which makes several, and of the busiest sample's a twentieth), and prints what
@@ -39,7 +40,8 @@ static volatile sig_atomic_t ticks;
 
 static void fail(const char *what)
 {
-    printf("forged: FAILED: %s, at call %" PRIu64 " of %s, seed %" PRIu64 "\n", what, calls[under_way], name[under_way], seed);
+    printf("forged: FAILED: %s, at call %" PRIu64 " of %s, seed %" PRIu64 "\n",
+           what, calls[under_way], name[under_way], seed);
     fflush(stdout);
     _exit(1);
 }
@@ -62,8 +64,9 @@ static uint64_t below(uint64_t n) { return chance() % n; }
 /* A number of any size, a small one, or one at an edge. */
 static uint64_t figure(void)
 {
-    static const uint64_t edges[] = {0, 1, 2, 4, 16, 18, 19, 20, 23, 24, 30, 42, 58, 64, 188, 249, 250, 251, 749, 750, 751, 1088, 1600, 1920, 3750, 8191,
-                                     65535, 65536, 268435455, 268435456, 268435457, UINT32_MAX, (uint64_t)1 << 32, INT64_MAX, UINT64_MAX - 1, UINT64_MAX};
+    static const uint64_t edges[] = {0, 1, 2, 4, 16, 18, 19, 20, 23, 24, 30, 42, 58, 64, 188, 249, 250, 251, 749, 750,
+                                     751, 1088, 1600, 1920, 3750, 8191, 65535, 65536, 268435455, 268435456, 268435457,
+                                     UINT32_MAX, (uint64_t)1 << 32, INT64_MAX, UINT64_MAX - 1, UINT64_MAX};
     switch (below(4)) {
     case 0: return chance();
     case 1: return chance() >> below(64);
@@ -131,7 +134,8 @@ static uint32_t end(uint32_t number)
 {
     struct timespec now;
     clock_gettime(CLOCK_MONOTONIC, &now);
-    uint64_t took = (uint64_t)(now.tv_sec - began.tv_sec) * 1000000000 + (uint64_t)now.tv_nsec - (uint64_t)began.tv_nsec;
+    uint64_t took = (uint64_t)(now.tv_sec - began.tv_sec) * 1000000000 + (uint64_t)now.tv_nsec -
+                    (uint64_t)began.tv_nsec;
     if (took > longest)
         longest = took;
     if (number > LAST_NUMBER)
@@ -183,7 +187,8 @@ static size_t file_header(uint8_t *p)
     return 24;
 }
 
-/* Feeds state i some true bytes: frames to the capture, pictures of 40 by 30 to the luma, dark and bright in turn; in half of the states the last piece is cut. */
+/* Feeds state i some true bytes: frames to the capture, pictures of 40 by 30 to the luma, dark and bright in turn; in
+ * half of the states the last piece is cut. */
 static void make_true(int i)
 {
     static uint8_t piece[65536];
@@ -254,10 +259,12 @@ static void forge_state(void)
     forge(lend(&picture, sizeof t->picture), sizeof t->picture, t->picture, 1, way);
 }
 
-/* A status refuses at once, and wild numbers soon: between two calls the words that steer are often set so that the next one goes on. */
+/* A status refuses at once, and wild numbers soon: between two calls the words that steer are often set so that the
+ * next one goes on. */
 static void alter_state(void)
 {
-    uint64_t *w = (uint64_t *)(void *)at(&walk), *c = (uint64_t *)(void *)at(&numbers), *l = (uint64_t *)(void *)at(&luma);
+    uint64_t *w = (uint64_t *)(void *)at(&walk), *c = (uint64_t *)(void *)at(&numbers),
+             *l = (uint64_t *)(void *)at(&luma);
     uint64_t *u = (uint64_t *)(void *)at(&table);
     switch (below(4)) {
     case 0: /* any way through the engines */
@@ -317,7 +324,8 @@ static const uint8_t *piece_of(size_t *length)
 
 static void check_state(void)
 {
-    check_slack(&walk), check_slack(&kept), check_slack(&numbers), check_slack(&table), check_slack(&luma), check_slack(&sums), check_slack(&bins), check_slack(&picture), check_slack(&lent);
+    check_slack(&walk), check_slack(&kept), check_slack(&numbers), check_slack(&table), check_slack(&luma),
+        check_slack(&sums), check_slack(&bins), check_slack(&picture), check_slack(&lent);
 }
 
 static uint32_t fault_of(uint32_t w, uint32_t h, uint32_t d, uint32_t pid, uint32_t edition)
@@ -333,12 +341,15 @@ static uint32_t fault_of(uint32_t w, uint32_t h, uint32_t d, uint32_t pid, uint3
 
 static void call_open(void)
 {
-    uint32_t w = below(3) ? 15 + (uint32_t)below(1906) : (uint32_t)figure(), h = below(3) ? w / 4 + (uint32_t)below(1100) : (uint32_t)figure();
-    uint32_t d = below(3) ? 10000 + (uint32_t)below(190001) : (uint32_t)figure(), pid = below(3) ? (uint32_t)below(8192) : (uint32_t)figure();
+    uint32_t w = below(3) ? 15 + (uint32_t)below(1906) : (uint32_t)figure(),
+             h = below(3) ? w / 4 + (uint32_t)below(1100) : (uint32_t)figure();
+    uint32_t d = below(3) ? 10000 + (uint32_t)below(190001) : (uint32_t)figure(),
+             pid = below(3) ? (uint32_t)below(8192) : (uint32_t)figure();
     uint32_t edition = below(4) ? (uint32_t)below(CAROLSEDGE_NEWEST_EDITION + 2) : (uint32_t)figure();
     begin(OPEN);
-    uint32_t k = end(carolsedge_open((uint64_t *)(void *)at(&walk), at(&kept), (uint64_t *)(void *)at(&numbers), (uint64_t *)(void *)at(&table),
-                                     (uint64_t *)(void *)at(&luma), (uint32_t *)(void *)at(&sums), (uint32_t *)(void *)at(&bins), at(&picture),
+    uint32_t k = end(carolsedge_open((uint64_t *)(void *)at(&walk), at(&kept), (uint64_t *)(void *)at(&numbers),
+                                     (uint64_t *)(void *)at(&table), (uint64_t *)(void *)at(&luma),
+                                     (uint32_t *)(void *)at(&sums), (uint32_t *)(void *)at(&bins), at(&picture),
                                      w, h, d, pid, edition));
     check_state();
     if (k != fault_of(w, h, d, pid, edition))
@@ -351,7 +362,8 @@ static void call_feed_capture(void)
     const uint8_t *piece = piece_of(&n);
     uint64_t *value = (uint64_t *)(void *)lend(&lent, 8);
     begin(FEED_CAPTURE);
-    end(carolsedge_feed_capture((uint64_t *)(void *)at(&walk), at(&kept), (uint64_t *)(void *)at(&numbers), (uint64_t *)(void *)at(&table), piece, n, value));
+    end(carolsedge_feed_capture((uint64_t *)(void *)at(&walk), at(&kept), (uint64_t *)(void *)at(&numbers),
+                                (uint64_t *)(void *)at(&table), piece, n, value));
     check_state();
 }
 
@@ -361,7 +373,8 @@ static void call_feed_luma(void)
     const uint8_t *piece = piece_of(&n);
     uint64_t *value = (uint64_t *)(void *)lend(&lent, 8);
     begin(FEED_LUMA);
-    end(carolsedge_feed_luma((uint64_t *)(void *)at(&luma), (uint32_t *)(void *)at(&sums), (uint32_t *)(void *)at(&bins), at(&picture), piece, n, value));
+    end(carolsedge_feed_luma((uint64_t *)(void *)at(&luma), (uint32_t *)(void *)at(&sums),
+                             (uint32_t *)(void *)at(&bins), at(&picture), piece, n, value));
     check_state();
 }
 
@@ -380,7 +393,8 @@ static void call_seal(void)
     if (guarded)
         guard(PROT_READ);
     begin(SEAL);
-    uint32_t k = end(carolsedge_seal((const uint64_t *)(void *)at(&walk), at(&kept), (const uint64_t *)(void *)at(&numbers), (const uint64_t *)(void *)at(&table),
+    uint32_t k = end(carolsedge_seal((const uint64_t *)(void *)at(&walk), at(&kept),
+                                     (const uint64_t *)(void *)at(&numbers), (const uint64_t *)(void *)at(&table),
                                      (const uint64_t *)(void *)at(&luma), buffer, n, value));
     if (guarded)
         guard(PROT_READ | PROT_WRITE);
@@ -540,8 +554,8 @@ static void call_readings(void)
         protect(&out, PROT_READ | PROT_WRITE);
 }
 
-/* The sheet of a record, allowed or not, into a buffer of some pages, a byte less or a byte more, or of any length. The
- * bytes behind the pages, and all of a refused sheet's buffer, have to stand; a line feed ends every line. */
+/* The sheet of a record, allowed or not, into a buffer of some pages, a byte less or a byte more, or of any length.
+ * The bytes behind the pages, and all of a refused sheet's buffer, have to stand; a line feed ends every line. */
 static void call_sheet(void)
 {
     size_t length, some = 1 + below(below(4) ? 4 : 17), done = 0;
@@ -598,7 +612,8 @@ static const uint8_t *forge_shelf(size_t *length)
     return memcpy(lend(&shelves, n), made, n);
 }
 
-/* A shelf, and a record of it: a part lies within; both calls refuse alike, or the second with 19 at or past the count. */
+/* A shelf, and a record of it: a part lies within; both calls refuse alike, or the second with 19 at or past the
+ * count. */
 static void call_shelf(void)
 {
     size_t length, j = below(3) ? below(SHELVED + 1) : (size_t)figure();
@@ -641,8 +656,8 @@ static void call_replay(void)
     for (size_t i = 0; i < 20; i++)
         made[i] = (uint8_t)chance();
     if (below(4))
-        put32(made, 15 + (uint32_t)below(60)), put32(made + 4, 30 + (uint32_t)below(30)), put32(made + 8, 40000), put32(made + 12, 256),
-            put32(made + 16, (uint32_t)below(CAROLSEDGE_NEWEST_EDITION + 2));
+        put32(made, 15 + (uint32_t)below(60)), put32(made + 4, 30 + (uint32_t)below(30)), put32(made + 8, 40000),
+            put32(made + 12, 256), put32(made + 16, (uint32_t)below(CAROLSEDGE_NEWEST_EDITION + 2));
     for (uint64_t i = below(12); i > 0; i--) {
         size_t length = below(200);
         made[n] = below(20) ? (uint8_t)"CLSIR"[below(5)] : (uint8_t)chance();
@@ -799,9 +814,11 @@ int main(int words, char **word)
     for (int i = 0; i < TRUE_STATES; i++)
         make_true(i);
     make_pools();
-    walk = room_of(sizeof truth->walk), kept = room_of(sizeof truth->kept), numbers = room_of(sizeof truth->numbers), table = room_of(sizeof truth->table);
+    walk = room_of(sizeof truth->walk), kept = room_of(sizeof truth->kept), numbers = room_of(sizeof truth->numbers),
+        table = room_of(sizeof truth->table);
     luma = room_of(sizeof truth->luma), sums = room_of(sizeof truth->sums), bins = room_of(sizeof truth->bins);
-    picture = room_of(sizeof truth->picture), out = room_of(CAROLSEDGE_RECORD_MOST + 100), header = room_of(128), lent = room_of(128), script = room_of(4096);
+    picture = room_of(sizeof truth->picture), out = room_of(CAROLSEDGE_RECORD_MOST + 100), header = room_of(128),
+        lent = room_of(128), script = room_of(4096);
     pages = room_of(CAROLSEDGE_SHEET_MOST + 100);
     survey_walk = room_of(sizeof surveyed->walk), survey_kept = room_of(sizeof surveyed->kept);
     counts = room_of(sizeof surveyed->counts);
@@ -822,6 +839,7 @@ int main(int words, char **word)
         printf("\n");
         total += calls[f];
     }
-    printf("forged: %" PRIu64 " calls, seed %" PRIu64 ": no byte outside was touched; the longest call took %.3f ms\n", total, seed, (double)longest / 1e6);
+    printf("forged: %" PRIu64 " calls, seed %" PRIu64 ": no byte outside was touched; the longest call took %.3f ms\n",
+           total, seed, (double)longest / 1e6);
     return 0;
 }

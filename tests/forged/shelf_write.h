@@ -1,5 +1,5 @@
-/* Shelves of some of the smaller true records, some altered or with lengths that do not add up, written into buffers of
- * any length. What the answer has to be is worked out from the lengths and the reader. Part of main.c. */
+/* Shelves of some of the smaller true records, some altered or with lengths that do not add up, written into buffers
+ * of any length. What the answer has to be is worked out from the lengths and the reader. Part of main.c. */
 static struct room lengths_lent, written;
 
 static void make_writing_rooms(void)

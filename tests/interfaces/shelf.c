@@ -1,8 +1,8 @@
 /* A shelf from standard input through carolsedge_shelf_open and carolsedge_shelf_part, as `carolsedge shelf` has them:
  * without an argument `records N lost TOTAL`, with a number J the bytes of record J, or `refused N P`. All parts, if
  * they are few, have to join without gaps and to be records that the reader takes, whose lost packets make the total;
- * what is refused has to stand. carolsedge_shelf_write has to make the same shelf of its records, or to refuse the same
- * record. Otherwise the program fails with a message. */
+ * what is refused has to stand. carolsedge_shelf_write has to make the same shelf of its records, or to refuse the
+ * same record. Otherwise the program fails with a message. */
 #include <inttypes.h>
 #include <stdio.h>
 #include <stdlib.h>

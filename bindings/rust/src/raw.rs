@@ -1,4 +1,5 @@
-//! The functions of the proved library, as safe functions over references and slices. All unsafe code of this crate is here.
+//! The functions of the proved library, as safe functions over references and slices. All unsafe code of this crate
+//! is here.
 
 /// The memory that a sample lends to its calls. Every call is safe on any contents of it.
 #[derive(Clone)]
@@ -201,7 +202,8 @@ impl State {
     /// The refusal's number, or 0, and the value.
     pub fn feed_capture(&mut self, piece: &[u8]) -> (u32, u64) {
         let mut value = 0;
-        // SAFETY: the arrays have the sizes that the function uses; pointer and length are a slice's; all are borrowed apart.
+        // SAFETY: the arrays have the sizes that the function uses; pointer and length are a slice's; all are
+        // borrowed apart.
         let number = unsafe {
             carolsedge_feed_capture(
                 &mut self.walk,
@@ -219,7 +221,8 @@ impl State {
     /// The refusal's number, or 0, and the value.
     pub fn feed_luma(&mut self, piece: &[u8]) -> (u32, u64) {
         let mut value = 0;
-        // SAFETY: the arrays have the sizes that the function uses; pointer and length are a slice's; all are borrowed apart.
+        // SAFETY: the arrays have the sizes that the function uses; pointer and length are a slice's; all are
+        // borrowed apart.
         let number = unsafe {
             carolsedge_feed_luma(
                 &mut self.luma,
@@ -237,7 +240,8 @@ impl State {
     /// The refusal's number, or 0, and the value.
     pub fn seal(&self, buffer: &mut [u8]) -> (u32, u64) {
         let mut value = 0;
-        // SAFETY: the arrays have the sizes that the function reads; pointer and length are those of a slice that is borrowed alone.
+        // SAFETY: the arrays have the sizes that the function reads; pointer and length are those of a slice that
+        // is borrowed alone.
         let number = unsafe {
             carolsedge_seal(
                 &self.walk,

@@ -40,8 +40,8 @@ pub struct Sample {
 impl Sample {
     /// Opens a sample, or gives refusal 1, 2, 3 or 20.
     ///
-    /// In the C interface a refused opening leaves a state of which every other call repeats the number. Here it leaves
-    /// no sample, so there is nothing to feed.
+    /// In the C interface a refused opening leaves a state of which every other call repeats the number. Here it
+    /// leaves no sample, so there is nothing to feed.
     pub fn open(opening: Opening) -> Result<Sample, Refusal> {
         let mut state = State::new();
         let Opening {

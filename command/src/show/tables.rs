@@ -77,8 +77,8 @@ pub fn json(record: &Record) -> String {
     let units = objects(&UNIT, record.units().map(|row| unit(row).to_vec()));
     let scenes = objects(&SCENE, record.scenes().map(|row| scene(row).to_vec()));
     format!(
-        "{{\n  \"edition\": {}, {sample},\n  \"index\": {index}, \"index_bits\": \"{}\",\n  \"units\": [\n{units}\n  ],\n  \
-         \"scenes\": [\n{scenes}\n  ]\n}}\n",
+        "{{\n  \"edition\": {}, {sample},\n  \"index\": {index}, \"index_bits\": \"{}\",\n  \
+         \"units\": [\n{units}\n  ],\n  \"scenes\": [\n{scenes}\n  ]\n}}\n",
         h.edition,
         bits(&h)
     )

@@ -30,39 +30,50 @@ use Rattle.capture.specs.Contract.{Opened, FeedPost, Takes, Goes, Replie
 
 -- ---- a refusal stays
 
-kept-on : (o : Opening) (joined t : List ℕ) (k p : ℕ) → openingFault o orElse captureFault o joined ≡ fault k p → openingFault o orElse captureFault o (joined ++ t) ≡ fault k p
+kept-on : (o : Opening) (joined t : List ℕ) (k p : ℕ) → openingFault o orElse captureFault o joined ≡ fault k p →
+    openingFault o orElse captureFault o (joined ++ t) ≡ fault k p
 kept-on o joined t k p = go (openingFault o)
   where
     go : (f : Fault) → f orElse captureFault o joined ≡ fault k p → f orElse captureFault o (joined ++ t) ≡ fault k p
     go none e = capture-kept o joined t k p e
     go (fault l q) e = e
 
-stays : {table : List ℕ} {t : Tally} {o : Opening} {joined : List ℕ} (more : List ℕ) → (t .status ≡ 0 → ⊥) → Counting table t o joined → Counting table t o (joined ++ more)
+stays : {table : List ℕ} {t : Tally} {o : Opening} {joined : List ℕ} (more : List ℕ) → (t .status ≡ 0 → ⊥) →
+    Counting table t o joined → Counting table t o (joined ++ more)
 stays {table} {t} {o} {joined} more h (stopped e k) = stopped (kept-on o joined more (t .status) (t .place) e) k
 stays more h (live v) = absurd (h (v .counts .status))
 
-is-live : {table : List ℕ} {t : Tally} {o : Opening} {joined : List ℕ} → t .status ≡ 0 → Counting table t o joined → Live table t o joined
+is-live : {table : List ℕ} {t : Tally} {o : Opening} {joined : List ℕ} → t .status ≡ 0 → Counting table t o joined →
+    Live table t o joined
 is-live h (stopped e k) = absurd (omega arith)
 is-live h (live v) = v
 
 -- ---- a piece
 
-pub goes-none : (kept table : List ℕ) (w : Walk) (t : Tally) → Goes kept table (record { walk = w; tally = t }) [] kept table (record { walk = w; tally = t })
+pub goes-none : (kept table : List ℕ) (w : Walk) (t : Tally) →
+    Goes kept table (record { walk = w; tally = t }) [] kept table (record { walk = w; tally = t })
 goes-none kept table w t o joined h = rw append-nil h
 
-module _ {k k′ b b′ : List ℕ} {s : Meter} {w : Walk} {t : Tally} (piece : List ℕ) (i : ℕ) (g : Goes k b s (take i piece) k′ b′ (record { walk = w; tally = t })) where
+module _ {k k′ b b′ : List ℕ} {s : Meter} {w : Walk} {t : Tally} (piece : List ℕ) (i : ℕ)
+    (g : Goes k b s (take i piece) k′ b′ (record { walk = w; tally = t })) where
   -- a refusal stands: the rest is not looked at
   pub goes-stopped : (t .status ≡ 0 → ⊥) → Goes k b s piece k′ b′ (record { walk = w; tally = t })
   goes-stopped h o joined x =
-      let e : joined ++ piece ≡ joined ++ take i piece ++ drop i piece = ap (λ (p : List ℕ). joined ++ p) (sym (take-append-drop i piece)) ∙ sym (append-assoc joined (take i piece) (drop i piece)) in
+      let e : joined ++ piece ≡ joined ++ take i piece ++ drop i piece =
+      ap (λ (p : List ℕ). joined ++ p) (sym (take-append-drop i piece))
+      ∙ sym (append-assoc joined (take i piece) (drop i piece)) in
       rw e (record { counting = stays (drop i piece) h (g o joined x .counting); walking = λ z. absurd (h z) })
 
   -- a step
-  pub goes-step : {k″ b″ : List ℕ} {r : Step} {u : Tally} → t .status ≡ 0 → Stepped k′ w piece i k″ r → Takes b′ t piece (r .walk) (r .event) b″ u →
+  pub goes-step : {k″ b″ : List ℕ} {r : Step} {u : Tally} → t .status ≡ 0 → Stepped k′ w piece i k″ r →
+      Takes b′ t piece (r .walk) (r .event) b″ u →
       Goes k b s (take (i + r .taken) piece) k″ b″ (record { walk = r .walk; tally = u })
   goes-step {k″} {b″} {r} {u} z st ta o joined x =
       rw (take-add i (r .taken) piece, ← append-assoc joined (take i piece) (take (r .taken) (drop i piece)))
-      (record { counting = ta o k″ before chunk (n .stands) (n .tells) (is-live z (h .counting)); walking = λ _. n .stands })
+      (record {
+        counting = ta o k″ before chunk (n .stands) (n .tells) (is-live z (h .counting));
+        walking = λ _. n .stands;
+      })
     where
       before : List ℕ
       before = joined ++ take i piece
@@ -90,9 +101,12 @@ pub reply-done : {t : Tally} (n : ℕ) → t .status ≡ 0 → Replies t n (Done
 unfolding captureAnswer
 reply-done n h table o joined c = let v = is-live h c in rw (v .good, v .clear)
 
-pub feed-post : (before : Arrays) (piece : List ℕ) (a : Answer) (after : Arrays) (w : Walk) (t : Tally) (r : Meter) → w ≡ walk.loaded (before .walk) → t ≡ loaded (before .numbers) →
-    Goes (before .kept) (before .table) (record { walk = w; tally = t }) piece (after .kept) (after .table) r → walking.Stored (before .walk) (r .walk) (after .walk) →
-    Stored (before .numbers) (r .tally) (after .numbers) → Replies (r .tally) (length piece) a → FeedPost before piece a after
+pub feed-post : (before : Arrays) (piece : List ℕ) (a : Answer) (after : Arrays) (w : Walk) (t : Tally) (r : Meter) →
+    w ≡ walk.loaded (before .walk) → t ≡ loaded (before .numbers) →
+    Goes (before .kept) (before .table) (record { walk = w; tally = t }) piece (after .kept) (after .table) r →
+    walking.Stored (before .walk) (r .walk) (after .walk) →
+    Stored (before .numbers) (r .tally) (after .numbers) → Replies (r .tally) (length piece) a →
+    FeedPost before piece a after
 feed-post before piece a after w t r we te g sw sn an =
     record {
       means = λ o joined m.
@@ -107,7 +121,8 @@ feed-post before piece a after w t r we te g sw sn an =
 -- ---- the numbers in the words
 
 abbrev pub listed : Tally → List ℕ
-listed t = t .status ∷ t .place ∷ t .pid ∷ t .bad ∷ t .units .count ∷ t .units .previous ∷ t .units .packets ∷ t .units .lost ∷ t .edition ∷ []
+listed t = t .status ∷ t .place ∷ t .pid ∷ t .bad ∷ t .units .count ∷ t .units .previous ∷ t .units .packets
+    ∷ t .units .lost ∷ t .edition ∷ []
 
 pub stored : (w : List ℕ) (t : Tally) → 9 ≤ length w → loaded (sets w 0 (listed t)) ≡ t
 stored w t h = ap loaded (sets-eq (listed t) w 0 h)
@@ -117,13 +132,26 @@ stored w t h = ap loaded (sets-eq (listed t) w 0 h)
 clear-none : (o : Opening) → captureFault o [] ≡ none
 clear-none o =
     capture-format o []
-    ∙ rw (header-shows [] (omega arith), magic-early [] (omega arith), link-early [] (omega arith), header-units [] (omega arith) o)
+    ∙ rw (
+      header-shows [] (omega arith),
+      magic-early [] (omega arith),
+      link-early [] (omega arith),
+      header-units [] (omega arith) o,
+    )
 
 abbrev pub fresh : ℕ → ℕ → ℕ → Tally
 fresh number pid edition =
-    record { status = number; place = 0; pid = pid; bad = 0; units = record { count = 0; previous = 0; packets = 0; lost = 0 }; edition = edition }
+    record {
+      status = number;
+      place = 0;
+      pid = pid;
+      bad = 0;
+      units = record { count = 0; previous = 0; packets = 0; lost = 0 };
+      edition = edition;
+    }
 
-pub opens : (a : Arrays) (number pid edition : ℕ) → walk.Means (a .walk) (a .kept) [] → length (a .numbers) ≡ 16 → length (a .table) ≡ 3750 → loaded (a .numbers) ≡ fresh number pid edition →
+pub opens : (a : Arrays) (number pid edition : ℕ) → walk.Means (a .walk) (a .kept) [] → length (a .numbers) ≡ 16 →
+    length (a .table) ≡ 3750 → loaded (a .numbers) ≡ fresh number pid edition →
     Opened number pid edition a
 opens a number pid edition m l b e o good bad p f =
     record {
@@ -133,5 +161,10 @@ opens a number pid edition m l b e o good bad p f =
     }
   where
     go : (n : ℕ) → n ≡ number → Counting (a .table) (fresh n pid edition) o []
-    go zero z = live (record { good = good (sym z); clear = clear-none o; counts = rw (p, f, none-whole) (counts-none (a .table) (o .pid) (o .edition) b) })
+    go zero z = live
+        (record {
+          good = good (sym z);
+          clear = clear-none o;
+          counts = rw (p, f, none-whole) (counts-none (a .table) (o .pid) (o .edition) b);
+        })
     go (suc n) z = stopped (rw (bad (omega arith), ← z)) (omega arith)

@@ -25,7 +25,8 @@ use Rattle.capture.specs.declared.Summary.{Summary}
 use Rattle.capture.specs.State.{loaded, Live, Counting, stopped, live, Stands}
 use Rattle.capture.specs.Contract.{summaryOf, Figures, SumOf, SumsUp}
 
-module _ {kept table : List ℕ} {w : Walk} {t : Tally} {o : Opening} {joined : List ℕ} (st : walk.Stands kept w joined) (v : Live table t o joined) (h : w .status ≡ 0) where
+module _ {kept table : List ℕ} {w : Walk} {t : Tally} {o : Opening} {joined : List ℕ} (st : walk.Stands kept w joined)
+    (v : Live table t o joined) (h : w .status ≡ 0) where
   figures : (inside : Bool) → inside ≡ captureInside joined → Figures table o joined (summaryOf w t inside)
   unfolding unitsIn
   figures inside e =
@@ -61,11 +62,14 @@ sum-with : {kept table : List ℕ} {w : Walk} {t : Tally} {o : Opening} {joined 
 sum-with {kept} {table} {w} {t} {o} {joined} inside a s = go (s .counting)
   where
     go : Counting table t o joined → SumOf table o joined (summaryOf w t inside)
-    go (stopped e k) = record { refusal = rw (e, ne-eqb (t .status) 0 (λ x. omega arith)); figures = λ h. absurd (omega arith) }
+    go (stopped e k) =
+        record { refusal = rw (e, ne-eqb (t .status) 0 (λ x. omega arith)); figures = λ h. absurd (omega arith) }
     go (live v) =
         let n : t .status ≡ 0 = v .counts .status in
         let f = s .walking n in
-        let h : w .status ≡ 0 = says-none (none-both (formatFault joined) (tooManyUnits o joined) (sym (capture-format o joined) ∙ v .clear) .0) f in
+        let h : w .status ≡ 0 =
+        says-none
+        (none-both (formatFault joined) (tooManyUnits o joined) (sym (capture-format o joined) ∙ v .clear) .0) f in
         record {
           refusal = rw (v .good, v .clear, eq-eqb (t .status) 0 n);
           figures = λ _. figures f v h inside (a h f);

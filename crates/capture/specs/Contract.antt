@@ -31,13 +31,15 @@ use Rattle.capture.specs.State.{Arrays, loaded, Live, Counting, Stands, 
 -- `open`: the opening's number, or 0, its PID and its edition; the arrays after
 abbrev pub Opened : ℕ → ℕ → ℕ → Arrays → Type 0
 Opened number pid edition a =
-    (o : Opening) → (number ≡ 0 → openingFault o ≡ none) → (0 < number → openingFault o ≡ fault number 0) → pid ≡ o .pid → edition ≡ o .edition →
+    (o : Opening) → (number ≡ 0 → openingFault o ≡ none) → (0 < number → openingFault o ≡ fault number 0) →
+    pid ≡ o .pid → edition ≡ o .edition →
     Means a o []
 
 -- `feed`: the arrays before, the piece, the answer, the arrays after
 pub record FeedPost (before : Arrays) (piece : List ℕ) (a : Answer) (after : Arrays) : Type 0 where
   pub means : (o : Opening) (joined : List ℕ) → Means before o joined → Means after o (joined ++ piece)
-  pub answer : (o : Opening) (joined : List ℕ) → Means before o joined → a ≡ captureAnswer o (joined ++ piece) (length piece)
+  pub answer : (o : Opening) (joined : List ℕ) → Means before o joined →
+      a ≡ captureAnswer o (joined ++ piece) (length piece)
 
 -- ---- `sum_up`
 
@@ -70,7 +72,8 @@ pub record SumOf (rows : List ℕ) (o : Opening) (joined : List ℕ) (r : Summar
 -- the walk's words and the side's numbers, the summary
 abbrev pub SumsUp : List ℕ → List ℕ → Summary → Type 0
 SumsUp walk numbers r =
-    (kept table : List ℕ) (o : Opening) (joined : List ℕ) → Means (record { walk = walk; kept = kept; numbers = numbers; table = table }) o joined →
+    (kept table : List ℕ) (o : Opening) (joined : List ℕ) →
+    Means (record { walk = walk; kept = kept; numbers = numbers; table = table }) o joined →
     SumOf table o joined r
 
 -- ---- `totals_in`
@@ -84,17 +87,20 @@ totalsIn numbers =
 -- what an event brings is counted
 abbrev pub Takes : List ℕ → Tally → List ℕ → Walk → Event → List ℕ → Tally → Type 0
 Takes table t piece w e table′ r =
-    (o : Opening) (kept before chunk : List ℕ) → walk.Stands kept w (before ++ chunk) → Tells e w piece before (before ++ chunk) → Live table t o before →
+    (o : Opening) (kept before chunk : List ℕ) → walk.Stands kept w (before ++ chunk) →
+    Tells e w piece before (before ++ chunk) → Live table t o before →
     Counting table′ r o (before ++ chunk)
 
 -- by the bytes of chunk
 abbrev pub Goes : List ℕ → List ℕ → Meter → List ℕ → List ℕ → List ℕ → Meter → Type 0
 Goes kept table s chunk kept′ table′ r =
-    (o : Opening) (joined : List ℕ) → Stands kept table (s .walk) (s .tally) o joined → Stands kept′ table′ (r .walk) (r .tally) o (joined ++ chunk)
+    (o : Opening) (joined : List ℕ) → Stands kept table (s .walk) (s .tally) o joined →
+    Stands kept′ table′ (r .walk) (r .tally) o (joined ++ chunk)
 
 -- what a feed of n bytes answers, from the numbers after it
 abbrev pub Replies : Tally → ℕ → Answer → Type 0
-Replies t n a = (table : List ℕ) (o : Opening) (joined : List ℕ) → Counting table t o joined → a ≡ captureAnswer o joined n
+Replies t n a =
+    (table : List ℕ) (o : Opening) (joined : List ℕ) → Counting table t o joined → a ≡ captureAnswer o joined n
 
 -- before, the numbers, after: the numbers are in the words
 pub record Stored (before : List ℕ) (t : Tally) (after : List ℕ) : Type 0 where

@@ -37,9 +37,11 @@ pub record Live (table : List ℕ) (t : Tally) (o : Opening) (joined : List ℕ)
   pub clear : captureFault o joined ≡ none
   pub counts : Counts table t (o .edition) (o .pid) (wholeCells joined)
 
--- the table and the numbers stand for the opening o and the joined bytes: a refusal stands, the opening's or the first that the bytes show; or none does
+-- the table and the numbers stand for the opening o and the joined bytes: a refusal stands, the opening's or the
+-- first that the bytes show; or none does
 pub data Counting (table : List ℕ) (t : Tally) (o : Opening) (joined : List ℕ) : Type 0 where
-  stopped : openingFault o orElse captureFault o joined ≡ fault (t .status) (t .place) → 0 < t .status → Counting table t o joined
+  stopped : openingFault o orElse captureFault o joined ≡ fault (t .status) (t .place) → 0 < t .status →
+      Counting table t o joined
   live : Live table t o joined → Counting table t o joined
 
 -- and so does the walk, as long as none stands

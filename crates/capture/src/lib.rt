@@ -1,5 +1,6 @@
-// The capture side of a sample: the walk finds frames and cells in pieces that are cut anywhere, and the cells of PID make units. Its state is four
-// lent arrays: the walk's words and collected bytes, the side's own numbers, and the table of units. Every call is safe on any contents of them.
+// The capture side of a sample: the walk finds frames and cells in pieces that are cut anywhere, and the cells of
+// PID make units. Its state is four lent arrays: the walk's words and collected bytes, the side's own numbers, and
+// the table of units. Every call is safe on any contents of them.
 ghost use Rattle.capture_walk.specs.Contract.{Fits};
 ghost use Rattle.capture.specs.Contract.{Opened, FeedPost, SumsUp, Takes, Goes, Replies, summaryOf, totalsIn};
 ghost use mathlib.Core.Path.{_≡_};
@@ -24,8 +25,9 @@ pub struct Meter {
     pub tally: Tally,
 }
 
-// What a seal needs. The refusal that stands (number 0: none) and its place; if none stands: the bytes fed, whether they end inside the file header or
-// a frame, the frames, skipped frames, bad cells, units, and over all units the cells and those lost.
+// What a seal needs. The refusal that stands (number 0: none) and its place; if none stands: the bytes fed,
+// whether they end inside the file header or a frame, the frames, skipped frames, bad cells, units, and over all
+// units the cells and those lost.
 pub struct Summary {
     pub number: u64,
     pub place: u64,
@@ -58,7 +60,12 @@ pub fn open(
     pid: u64,
     edition: u64,
 )
-    ensures { λ _. ⌜ Opened number pid edition (record { walk = now (walk .exit); kept = now (kept .exit); numbers = now (numbers .exit); table = now (table .exit) }) ⌝ }
+    ensures { λ _. ⌜ Opened number pid edition (record {
+      walk = now (walk .exit);
+      kept = now (kept .exit);
+      numbers = now (numbers .exit);
+      table = now (table .exit);
+    }) ⌝ }
 {
     capture_walk::open(walk, kept);
     *numbers = [0u64; NUMBERS];
@@ -97,7 +104,8 @@ fn take(table: &mut Table, t: Tally, piece: &[u8], w: Walk, e: Event) -> Tally
 
 // A whole piece, or as much of it as comes before a refusal.
 fn run(kept: &mut Collected, table: &mut Table, start: Meter, piece: &[u8]) -> Meter
-    ensures { λ r. ⌜ Goes (now (kept .entry)) (now (table .entry)) start (now (piece .entry)) (now (kept .exit)) (now (table .exit)) r ⌝ }
+    ensures { λ r. ⌜ Goes (now (kept .entry)) (now (table .entry)) start (now (piece .entry)) (now (kept .exit))
+        (now (table .exit)) r ⌝ }
 {
     let mut w = start.walk;
     let mut t = start.tally;
@@ -137,7 +145,17 @@ pub fn feed(
     table: &mut Table,
     piece: &[u8],
 ) -> Answer
-    ensures { λ r. ⌜ FeedPost (record { walk = now (walk .entry); kept = now (kept .entry); numbers = now (numbers .entry); table = now (table .entry) }) (now (piece .entry)) r (record { walk = now (walk .exit); kept = now (kept .exit); numbers = now (numbers .exit); table = now (table .exit) }) ⌝ }
+    ensures { λ r. ⌜ FeedPost (record {
+      walk = now (walk .entry);
+      kept = now (kept .entry);
+      numbers = now (numbers .entry);
+      table = now (table .entry);
+    }) (now (piece .entry)) r (record {
+      walk = now (walk .exit);
+      kept = now (kept .exit);
+      numbers = now (numbers .exit);
+      table = now (table .exit);
+    }) ⌝ }
 {
     let w = capture_walk::load(walk);
     let t = load(numbers);

@@ -311,7 +311,14 @@ takes-one {w} {w′} {t} {r} {c} ch ac e pid cs p l k = go (ch w e pid cs p k)
 -- no cell yet
 pub counts-none : (w : List ℕ) (pid edition : ℕ) → length w ≡ 3750 →
     Counts w
-    (record { status = 0; place = 0; pid = pid; bad = 0; units = record { count = 0; previous = 0; packets = 0; lost = 0 }; edition = edition })
+    (record {
+      status = 0;
+      place = 0;
+      pid = pid;
+      bad = 0;
+      units = record { count = 0; previous = 0; packets = 0; lost = 0 };
+      edition = edition;
+    })
     edition pid []
 counts-none w pid edition h =
     record {
@@ -330,7 +337,8 @@ unfolding cellsFrom
 length-cells zero time place s = refl
 length-cells (suc n) time place s = ap suc (length-cells n time (place + 188) (drop 188 s))
 
-cells-split : (a b time place : ℕ) (s : List ℕ) → cellsFrom (a + b) time place s ≡ cellsFrom a time place s ++ cellsFrom b time (place + 188 * a) (drop (188 * a) s)
+cells-split : (a b time place : ℕ) (s : List ℕ) → cellsFrom (a + b) time place s ≡ cellsFrom a time place s
+    ++ cellsFrom b time (place + 188 * a) (drop (188 * a) s)
 cells-split a b time place s =
     sym (from-cells (a + b) time place s)
     ∙ ap (map cellOf) (from-split a b time place s)
@@ -345,7 +353,8 @@ pub record Going (w : List ℕ) (t : Tally) (ds : List Cell) (w′ : List ℕ) (
 pub going-none : (w : List ℕ) (t : Tally) (time place : ℕ) (s : List ℕ) → Going w t (cellsFrom 0 time place s) w t
 going-none w t time place s = record { goes = λ e pid cs l k. unfold cellsFrom in rw (append-nil cs) k }
 
-pub going-all : {w w′ : List ℕ} {t r : Tally} (k n time place : ℕ) (s : List ℕ) → k ≡ n → Going w t (cellsFrom k time place s) w′ r → Runs w t (cellsFrom n time place s) w′ r
+pub going-all : {w w′ : List ℕ} {t r : Tally} (k n time place : ℕ) (s : List ℕ) → k ≡ n →
+    Going w t (cellsFrom k time place s) w′ r → Runs w t (cellsFrom n time place s) w′ r
 going-all k n time place s y g e pid cs l c = going (rw y at (g .goes e pid cs (rw y l) c))
 
 module _ {w w′ w″ : List ℕ} {t d r : Tally} (k time place₀ at₀ : ℕ) (piece : List ℕ) (at place : ℕ) (c : Cell)
@@ -360,7 +369,8 @@ module _ {w w′ w″ : List ℕ} {t d r : Tally} (k time place₀ at₀ : ℕ) 
 
   one-more : cellsFrom (k + 1) time place₀ (drop at₀ piece) ≡ ds ++ c ∷ []
   one-more =
-      let e : c ≡ cellIn time (place₀ + 188 * k) (drop (188 * k) (drop at₀ piece)) = ce ∙ rw (pe, ae, drop-drop (188 * k) at₀ piece) in
+      let e : c ≡ cellIn time (place₀ + 188 * k) (drop (188 * k) (drop at₀ piece)) =
+      ce ∙ rw (pe, ae, drop-drop (188 * k) at₀ piece) in
       cells-more k time place₀ (drop at₀ piece) ∙ rw (← e)
 
   -- one cell more is in, or shows 9
@@ -387,7 +397,8 @@ module _ {w w′ w″ : List ℕ} {t d r : Tally} (k time place₀ at₀ : ℕ) 
           ∙ cells-split (k + 1) (n - (k + 1)) time place₀ (drop at₀ piece)
           ∙ ap (λ (x : List Cell). x ++ rest) one-more
 
-      go : Counted w″ r e pid (cs ++ ds ++ c ∷ []) → Counted w″ r e pid (cs ++ cellsFrom n time place₀ (drop at₀ piece))
+      go : Counted w″ r e pid (cs ++ ds ++ c ∷ []) →
+          Counted w″ r e pid (cs ++ cellsFrom n time place₀ (drop at₀ piece))
       go (going x) = absurd (z (x .status))
       go (stopped s) =
           let y : cs ++ cellsFrom n time place₀ (drop at₀ piece) ≡ cs ++ ds ++ c ∷ [] ++ rest =

@@ -19,7 +19,8 @@ use capture_units::Units;
 use capture_walk::Run;
 use rules::Condition;
 
-// status, place: refusal 9, or 0. pid: the identifier. bad: bad cells. units: the state of the table. edition: of the rules that the cells are counted by.
+// status, place: refusal 9, or 0. pid: the identifier. bad: bad cells. units: the state of the table. edition: of
+// the rules that the cells are counted by.
 pub struct Tally {
     pub status: u64,
     pub place: u64,

@@ -1,4 +1,5 @@
--- The rules' figures are those of the cells, and what each event of the walk does to refusal 9: what a table of units needs to be driven by the walk.
+-- The rules' figures are those of the cells, and what each event of the walk does to refusal 9: what a table of
+-- units needs to be driven by the walk.
 use Prim.Native.Nat.{ℕ, zero, suc, _+_, _%_, _≤_}
 use native.Mathlib.Omega.{arith}
 use native.Mathlib.Decide.{decLe}
@@ -233,7 +234,8 @@ before-none (c ∷ cs) p h = go (isDamaged (c .condition)) h (before-none cs p)
 abbrev places : List rule.Arrival → List ℕ
 places xs = map (λ (a : rule.Arrival). a .place) xs
 
-places-only : (t : Bool) (a b : rule.Arrival) (xs ys : List rule.Arrival) → a .place ≡ b .place → places xs ≡ places ys →
+places-only : (t : Bool) (a b : rule.Arrival) (xs ys : List rule.Arrival) → a .place ≡ b .place →
+    places xs ≡ places ys →
     places (pick t (a ∷ xs) xs) ≡ places (pick t (b ∷ ys) ys)
 places-only true a b xs ys e f = rw (e, f)
 places-only false a b xs ys e f = f
@@ -383,7 +385,8 @@ module _ (o : Opening) {before after : List ℕ} where
   pub on-nothing : Gains before after [] [] → captureFault o before ≡ none → captureFault o after ≡ none
   on-nothing g c = quiet g c
 
-  pub on-whole : {c : Cell} → Gains before after [] (c ∷ []) → captureFault o before ≡ none → captureFault o after ≡ none
+  pub on-whole : {c : Cell} → Gains before after [] (c ∷ []) → captureFault o before ≡ none →
+      captureFault o after ≡ none
   on-whole g c = quiet g c
 
   pub on-cells : {cs : List Cell} → Gains before after (map head cs) cs → Level before →
@@ -403,7 +406,9 @@ module _ (o : Opening) {before after : List ℕ} where
       heads-again (x ∷ xs) = ap (λ (r : List Cell). head x ∷ r) (heads-again xs)
 
       twice : Level before → map head (shownCells before) ++ head c ∷ [] ≡ map head (wholeCells before ++ c ∷ [])
-      twice l = ap (λ (x : List Cell). map head x ++ head c ∷ []) l ∙ ap (λ (x : List Cell). x ++ head c ∷ []) (heads-again (wholeCells before)) ∙ sym (map-append head (wholeCells before) (c ∷ []))
+      twice l = ap (λ (x : List Cell). map head x ++ head c ∷ []) l
+          ∙ ap (λ (x : List Cell). x ++ head c ∷ []) (heads-again (wholeCells before))
+          ∙ sym (map-append head (wholeCells before) (c ∷ []))
 
 never : {k p : ℕ} → fault k p ≡ none → ⊥
 never e = let z : _≡_ {A = ℕ} 0 1 = cc in omega arith
@@ -439,8 +444,11 @@ behind-all : (xs bs : List Cell) → (zs : List rule.Arrival) × (beginnings (xs
 behind-all xs [] = ([], ap beginnings (append-nil xs) ∙ sym (append-nil (beginnings xs)))
 behind-all xs (b ∷ bs) =
     let r = behind-all (xs ++ b ∷ []) bs in
-    let one = pick (arrivalAfter xs b .begins) (arrivalAfter xs b ∷ []) [] in
-    (one ++ r .0, ap beginnings (sym (append-assoc xs (b ∷ []) bs)) ∙ r .1 ∙ ap (λ (x : List rule.Arrival). x ++ r .0) (beginnings-more xs b) ∙ append-assoc (beginnings xs) one (r .0))
+    let one = pick (arrivalAfter xs b .begins) (arrivalAfter xs b ∷ []) [] in (
+      one ++ r .0,
+      ap beginnings (sym (append-assoc xs (b ∷ []) bs)) ∙ r .1
+          ∙ ap (λ (x : List rule.Arrival). x ++ r .0) (beginnings-more xs b) ∙ append-assoc (beginnings xs) one (r .0),
+    )
 
 first-kept : (us zs : List rule.Arrival) (k p : ℕ) → beginsAt us ≡ fault k p → beginsAt (us ++ zs) ≡ fault k p
 first-kept [] zs k p e = let z : _≡_ {A = ℕ} 0 1 = cc in absurd (omega arith)

@@ -11,10 +11,12 @@ use Rattle.capture_units.specs.State.{unitAt, unitSet}
 -- five words at a
 abbrev five : List ℕ → ℕ → Unit → List ℕ
 five w a u =
-    set (set (set (set (set w a (u .least)) (a + 1) (u .greatest)) (a + 2) (u .packets)) (a + 3) (u .lost)) (a + 4) (u .damaged)
+    set (set (set (set (set w a (u .least)) (a + 1) (u .greatest)) (a + 2) (u .packets)) (a + 3) (u .lost)) (a + 4)
+    (u .damaged)
 
 five-other : (w : List ℕ) (a : ℕ) (u : Unit) (i : ℕ) →
-    (i ≡ a → ⊥) → (i ≡ a + 1 → ⊥) → (i ≡ a + 2 → ⊥) → (i ≡ a + 3 → ⊥) → (i ≡ a + 4 → ⊥) → getD (five w a u) i 0 ≡ getD w i 0
+    (i ≡ a → ⊥) → (i ≡ a + 1 → ⊥) → (i ≡ a + 2 → ⊥) → (i ≡ a + 3 → ⊥) → (i ≡ a + 4 → ⊥) →
+    getD (five w a u) i 0 ≡ getD w i 0
 five-other w a u i h h₁ h₂ h₃ h₄ = rw (getD-set-other, getD-set-other, getD-set-other, getD-set-other, getD-set-other)
 
 -- THE FRAME
@@ -24,12 +26,14 @@ unit-other w u j k ne = rw (first, at 1 (omega arith), at 2 (omega arith), at 3 
     first : getD (unitSet w j u) (5 * k) 0 ≡ getD w (5 * k) 0
     first =
         five-other w (5 * j) u (5 * k)
-        (λ e. ne (omega arith)) (λ e. ne (omega arith)) (λ e. ne (omega arith)) (λ e. ne (omega arith)) (λ e. ne (omega arith))
+        (λ e. ne (omega arith)) (λ e. ne (omega arith)) (λ e. ne (omega arith)) (λ e. ne (omega arith))
+        (λ e. ne (omega arith))
 
     at : (i : ℕ) → i < 5 → getD (unitSet w j u) (5 * k + i) 0 ≡ getD w (5 * k + i) 0
     at i h =
         five-other w (5 * j) u (5 * k + i)
-        (λ e. ne (omega arith)) (λ e. ne (omega arith)) (λ e. ne (omega arith)) (λ e. ne (omega arith)) (λ e. ne (omega arith))
+        (λ e. ne (omega arith)) (λ e. ne (omega arith)) (λ e. ne (omega arith)) (λ e. ne (omega arith))
+        (λ e. ne (omega arith))
 
 pub set-size : (w : List ℕ) (u : Unit) (j : ℕ) → length (unitSet w j u) ≡ length w
 set-size w u j = simp length-set

@@ -103,13 +103,15 @@ module _ {w : List ℕ} {s : Units} {ps : List Cell} (q : Cell) (st : Stands w s
           ≡ held (getD (unitsOf (ps ++ q ∷ [])) j noUnit)
       at j (yes d) i =
           unit-other w _ (s .count) j (λ e. omega (arith, st .count)) ∙ st .rows j d
-          ∙ ap held (sym (List·getD-append (unitsOf ps) (u ∷ []) noUnit j d) ∙ ap (λ (l : List UnitRow). getD l j noUnit) (sym law))
+          ∙ ap held (sym (List·getD-append (unitsOf ps) (u ∷ []) noUnit j d)
+          ∙ ap (λ (l : List UnitRow). getD l j noUnit) (sym law))
       at j (no d) i =
           let e : j ≡ s .count = omega (arith, st .count) in
           rw e
           (unit-set w _ (s .count) (omega (arith, st .size))
           ∙ held-begun (q .time) _ (loss-small ps q)
-          ∙ ap held (sym (getD-at (unitsOf ps) u [] noUnit (s .count) (sym (st .count))) ∙ ap (λ (l : List UnitRow). getD l (s .count) noUnit) (sym law)))
+          ∙ ap held (sym (getD-at (unitsOf ps) u [] noUnit (s .count) (sym (st .count)))
+          ∙ ap (λ (l : List UnitRow). getD l (s .count) noUnit) (sym law)))
 
   -- the last row changed: row k, in the words as f has it and in the rows as F has it
   module _ (k : ℕ) (f : Unit → Unit) (F : UnitRow → UnitRow) (both : (u : UnitRow) → f (held u) ≡ held (F u))
@@ -192,7 +194,8 @@ module _ (w : List ℕ) (s : Units) (q : Cell) {r : Units} {w′ : List ℕ} {u 
       let b = begins-is q st h in
       rw (re, we, ue, le, loss-is q st (more-fine ps q b)) (begins q st b k)
 
-  pub joins-by : {v : Unit} (k : ℕ) → s .count ≡ k + 1 → lost ≡ lossOf s q → v ≡ unitAt w k → u ≡ joinedBy v (q .time) lost →
+  pub joins-by : {v : Unit} (k : ℕ) → s .count ≡ k + 1 → lost ≡ lossOf s q → v ≡ unitAt w k →
+      u ≡ joinedBy v (q .time) lost →
       w′ ≡ unitSet w k u → r ≡ takenInto s (s .count) (q .counter) lost →
       (ps : List Cell) → (s .count ≡ 0 → ⊥) → isDamaged (q .condition) ≡ false → q .start ≡ false →
       TakesIn w s r w′ ps q
@@ -213,7 +216,8 @@ no-room {ps = ps} q st h k =
 
 -- ---- whether there is room
 
-pub room : {w : List ℕ} {s : Units} {ps : List Cell} (q : Cell) → Stands w s ps → s .count < 750 → false ≡ ltb 750 (length (beginnings (ps ++ q ∷ [])))
+pub room : {w : List ℕ} {s : Units} {ps : List Cell} (q : Cell) → Stands w s ps → s .count < 750 →
+    false ≡ ltb 750 (length (beginnings (ps ++ q ∷ [])))
 room {w} {s} {ps} q st k =
     sym (le-ltb 750 (length (beginnings (ps ++ q ∷ [])))
     (rw (beginnings-more ps q, length-append) (go (arrivalAfter ps q .begins))))
@@ -227,9 +231,11 @@ pub full : {w : List ℕ} {s : Units} {ps : List Cell} (q : Cell) (start : Bool)
     start ≡ ltb 750 (length (beginnings (ps ++ q ∷ [])))
 full {ps = []} q start st k e = absurd (omega (arith, none-counted st))
 full {ps = x ∷ ps} q true st k e =
-    sym (lt-ltb 750 (length (beginnings (x ∷ ps ++ q ∷ []))) (rw (beginnings-more (x ∷ ps) q, sym e, length-append) (omega (arith, st .count, units-beginnings (x ∷ ps)))))
+    sym (lt-ltb 750 (length (beginnings (x ∷ ps ++ q ∷ [])))
+    (rw (beginnings-more (x ∷ ps) q, sym e, length-append) (omega (arith, st .count, units-beginnings (x ∷ ps)))))
 full {ps = x ∷ ps} q false st k e =
-    sym (le-ltb 750 (length (beginnings (x ∷ ps ++ q ∷ []))) (rw (beginnings-more (x ∷ ps) q, sym e, append-nil) (omega (arith, st .few, units-beginnings (x ∷ ps)))))
+    sym (le-ltb 750 (length (beginnings (x ∷ ps ++ q ∷ [])))
+    (rw (beginnings-more (x ∷ ps) q, sym e, append-nil) (omega (arith, st .few, units-beginnings (x ∷ ps)))))
 
 -- ---- a row, as a record has it
 
@@ -260,7 +266,8 @@ getD-any (u ∷ us) zero c d h = refl
 getD-any (u ∷ us) (suc j) c d h = getD-any us j c d (omega arith)
 
 pub row-is : {w : List ℕ} {j : ℕ} {u : Unit} → u ≡ unitAt w j →
-    (s : Units) (ps : List Cell) (d : UnitRow) → Stands w s ps → length ps < 2 ^ 24 → j < length (unitsOf ps) → rowOf u ≡ getD (unitsOf ps) j d
+    (s : Units) (ps : List Cell) (d : UnitRow) → Stands w s ps → length ps < 2 ^ 24 → j < length (unitsOf ps) →
+    rowOf u ≡ getD (unitsOf ps) j d
 row-is {j = j} e s ps d st few h =
     ap rowOf (e ∙ st .rows j h)
     ∙ row-held (getD (unitsOf ps) j noUnit) (row-size ps j noUnit h)

@@ -29,7 +29,8 @@ Full s c r = (w : List ℕ) (cs : List Cell) → Stands w s cs → r ≡ ltb 750
 -- `row`: the table, the unit's number, the row. 2 ^ 24 cells would have more than 2 ^ 28 bytes
 abbrev pub Row : List ℕ → ℕ → UnitRow → Type 0
 Row w j r =
-    (s : Units) (cs : List Cell) (d : UnitRow) → Stands w s cs → length cs < 2 ^ 24 → j < length (unitsOf cs) → r ≡ getD (unitsOf cs) j d
+    (s : Units) (cs : List Cell) (d : UnitRow) → Stands w s cs → length cs < 2 ^ 24 → j < length (unitsOf cs) →
+    r ≡ getD (unitsOf cs) j d
 
 -- ---- of the functions within
 
@@ -60,7 +61,8 @@ markedBy u =
     }
 
 abbrev pub takenInto : Units → ℕ → ℕ → ℕ → Units
-takenInto s count c lost = record { count = count; previous = c; packets = (s .packets + 1) % 2 ^ 64; lost = (s .lost + lost) % 2 ^ 64 }
+takenInto s count c lost =
+    record { count = count; previous = c; packets = (s .packets + 1) % 2 ^ 64; lost = (s .lost + lost) % 2 ^ 64 }
 
 -- of a cell that begins a unit, of one that does not, and of a damaged one
 abbrev pub Begun : List ℕ → Units → Cell → Units → List ℕ → Type 0

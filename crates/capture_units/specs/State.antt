@@ -23,7 +23,8 @@ unitAt w j =
 
 abbrev pub unitSet : List ℕ → ℕ → Unit → List ℕ
 unitSet w j u =
-    set (set (set (set (set w (5 * j) (u .least)) (5 * j + 1) (u .greatest)) (5 * j + 2) (u .packets)) (5 * j + 3) (u .lost)) (5 * j + 4) (u .damaged)
+    set (set (set (set (set w (5 * j) (u .least)) (5 * j + 1) (u .greatest)) (5 * j + 2) (u .packets)) (5 * j + 3)
+    (u .lost)) (5 * j + 4) (u .damaged)
 
 -- a row as words hold it: numbers modulo 2 ^ 64. The size is 184 for each cell and has no word
 abbrev pub held : UnitRow → Unit

@@ -31,7 +31,8 @@ none-skipped : skipped [] ≡ 0
 unfolding skipped count
 none-skipped = refl
 
-module _ {k : List ℕ} {s : Walk} {joined : List ℕ} (u : Head k s joined) (k′ : List ℕ) (r : Walk) (t : List ℕ) (n : ℕ) (piece : List ℕ) (some : 0 < length t)
+module _ {k : List ℕ} {s : Walk} {joined : List ℕ} (u : Head k s joined) (k′ : List ℕ) (r : Walk) (t : List ℕ) (n : ℕ)
+    (piece : List ℕ) (some : 0 < length t)
     (pl : Placed k (s .fed) t k′) (upto : s .fed < 4 → s .fed + length t ≤ 4) (most : s .fed + length t ≤ 24) where
   a : List ℕ
   a = joined ++ t
@@ -61,10 +62,13 @@ module _ {k : List ℕ} {s : Walk} {joined : List ℕ} (u : Head k s joined) (k�
   no-link h = link-early a (omega (arith, size))
 
   nothing : (d : ℕ) → 0 < d → d ≤ 188 → reached d a ≡ reached d joined
-  nothing d p q = reached-none a (omega (arith, size)) d p q ∙ sym (reached-none joined (omega (arith, u .short)) d p q)
+  nothing d p q =
+      reached-none a (omega (arith, size)) d p q ∙ sym (reached-none joined (omega (arith, u .short)) d p q)
 
-  module _ (rs : r .status ≡ s .status) (rf : r .fed ≡ s .fed + length t) (ra : r .at ≡ s .at) (rn : r .frames ≡ s .frames) (rk : r .skipped ≡ s .skipped) where
-    head-on : formatFault a ≡ none → s .fed + length t < 24 → Stood k′ (record { taken = n; walk = r; event = Nothing }) piece joined a
+  module _ (rs : r .status ≡ s .status) (rf : r .fed ≡ s .fed + length t) (ra : r .at ≡ s .at)
+      (rn : r .frames ≡ s .frames) (rk : r .skipped ≡ s .skipped) where
+    head-on : formatFault a ≡ none → s .fed + length t < 24 →
+        Stood k′ (record { taken = n; walk = r; event = Nothing }) piece joined a
     head-on c l =
         record {
           stands =
@@ -84,7 +88,8 @@ module _ {k : List ℕ} {s : Walk} {joined : List ℕ} (u : Head k s joined) (k�
         }
 
     -- the header is whole
-    head-done : formatFault a ≡ none → s .fed + length t ≡ 24 → Stood k′ (record { taken = n; walk = r; event = Nothing }) piece joined a
+    head-done : formatFault a ≡ none → s .fed + length t ≡ 24 →
+        Stood k′ (record { taken = n; walk = r; event = Nothing }) piece joined a
     head-done c l =
         record {
           stands =
@@ -105,7 +110,8 @@ module _ {k : List ℕ} {s : Walk} {joined : List ℕ} (u : Head k s joined) (k�
           tells = gains-none c (nothing 4 (omega arith) (omega arith)) (nothing 188 (omega arith) (omega arith));
         }
 
-    pub file-plain : (s .fed + length t ≡ 4 → ⊥) → (s .fed + length t ≡ 24 → ⊥) → Stood k′ (record { taken = n; walk = r; event = Nothing }) piece joined (joined ++ t)
+    pub file-plain : (s .fed + length t ≡ 4 → ⊥) → (s .fed + length t ≡ 24 → ⊥) →
+        Stood k′ (record { taken = n; walk = r; event = Nothing }) piece joined (joined ++ t)
     unfolding a
     file-plain x y = go (decLt (s .fed) 4)
       where
@@ -116,13 +122,16 @@ module _ {k : List ℕ} {s : Walk} {joined : List ℕ} (u : Head k s joined) (k�
         go (yes d) = let f = upto d in head-on (shows ∙ rw (magic-early a (omega (arith, size, x)), no-link l)) l
         go (no d) = head-on (shows ∙ rw (magic-kept (omega arith), no-link l)) l
 
-    pub file-magic : {b : Bool} → s .fed + length t ≡ 4 → b ≡ isMagic k′ → b ≡ true → Stood k′ (record { taken = n; walk = r; event = Nothing }) piece joined (joined ++ t)
+    pub file-magic : {b : Bool} → s .fed + length t ≡ 4 → b ≡ isMagic k′ → b ≡ true →
+        Stood k′ (record { taken = n; walk = r; event = Nothing }) piece joined (joined ++ t)
     unfolding a
     file-magic l e f =
-        let m : isMagic a ≡ true = sym (magic-agree (held-agree 4 held (omega (arith, size)) (omega arith)) (omega arith)) ∙ sym e ∙ f in
+        let m : isMagic a ≡ true =
+        sym (magic-agree (held-agree 4 held (omega (arith, size)) (omega arith)) (omega arith)) ∙ sym e ∙ f in
         head-on (shows ∙ rw (magic-shown a (omega (arith, size)), m, no-link (omega arith))) (omega arith)
 
-    pub file-link : s .fed + length t ≡ 24 → word32 k′ 20 ≡ 1 → Stood k′ (record { taken = n; walk = r; event = Nothing }) piece joined (joined ++ t)
+    pub file-link : s .fed + length t ≡ 24 → word32 k′ 20 ≡ 1 →
+        Stood k′ (record { taken = n; walk = r; event = Nothing }) piece joined (joined ++ t)
     unfolding a
     file-link l e =
         let g = link-agree (held-agree 24 held (omega (arith, size)) (omega arith)) (omega arith) in
@@ -140,8 +149,10 @@ module _ {k : List ℕ} {s : Walk} {joined : List ℕ} (u : Head k s joined) (k�
       Stood k′ (record { taken = n; walk = r; event = Refused }) piece joined (joined ++ t)
   unfolding a
   file-bad-magic l e f rs rp =
-      let m : isMagic a ≡ false = sym (magic-agree (held-agree 4 held (omega (arith, size)) (omega arith)) (omega arith)) ∙ sym e ∙ f in
-      refuse n 5 3 stood (shows ∙ rw (magic-shown a (omega (arith, size)), m, no-link (omega arith))) (omega arith) rs rp (silent (shown-same joined a (nothing 4 (omega arith) (omega arith))))
+      let m : isMagic a ≡ false =
+      sym (magic-agree (held-agree 4 held (omega (arith, size)) (omega arith)) (omega arith)) ∙ sym e ∙ f in
+      refuse n 5 3 stood (shows ∙ rw (magic-shown a (omega (arith, size)), m, no-link (omega arith)))
+      (omega arith) rs rp (silent (shown-same joined a (nothing 4 (omega arith) (omega arith))))
 
   pub file-bad-link : s .fed + length t ≡ 24 → (word32 k′ 20 ≡ 1 → ⊥) → r .status ≡ 6 → r .place ≡ 23 →
       Stood k′ (record { taken = n; walk = r; event = Refused }) piece joined (joined ++ t)
@@ -149,7 +160,8 @@ module _ {k : List ℕ} {s : Walk} {joined : List ℕ} (u : Head k s joined) (k�
   file-bad-link l e rs rp =
       let g = link-agree (held-agree 24 held (omega (arith, size)) (omega arith)) (omega arith) in
       let m = ne-eqb (word32 a 20) 1 (λ x. e (g ∙ x)) in
-      refuse n 6 23 stood (shows ∙ rw (magic-kept later, link-shown a (omega (arith, size)), m)) (omega arith) rs rp (silent (shown-same joined a (nothing 4 (omega arith) (omega arith))))
+      refuse n 6 23 stood (shows ∙ rw (magic-kept later, link-shown a (omega (arith, size)), m)) (omega arith) rs rp
+      (silent (shown-same joined a (nothing 4 (omega arith) (omega arith))))
     where
       later : 4 ≤ s .fed
       later = go (decLt (s .fed) 4)

@@ -31,12 +31,15 @@ pub record Placed (k : List ℕ) (at : ℕ) (t k′ : List ℕ) : Type 0 where
   pub new : (i : ℕ) → i < length t → getD k′ (at + i) 0 ≡ byte t i
   pub below : (j : ℕ) → j < at → getD k′ j 0 ≡ getD k j 0
 
-pub placed : {k k′ piece : List ℕ} {at from n : ℕ} → length k ≡ 64 → from + n ≤ length piece → Carried k at piece from n k′ → Placed k at (take n (drop from piece)) k′
+pub placed : {k k′ piece : List ℕ} {at from n : ℕ} → length k ≡ 64 → from + n ≤ length piece →
+    Carried k at piece from n k′ → Placed k at (take n (drop from piece)) k′
 placed {k} {k′} {piece} {at} {from} {n} l h c =
-    let e : length (take n (drop from piece)) ≡ n = length-take-le n (drop from piece) (simp length-drop (omega arith)) in
+    let e : length (take n (drop from piece)) ≡ n =
+    length-take-le n (drop from piece) (simp length-drop (omega arith)) in
     record {
       size = c .size;
-      new = λ i g. rw (getD-take n (drop from piece) i 0 (omega arith), getD-drop from piece i 0) (c .new l i (omega arith));
+      new = λ i g. rw (getD-take n (drop from piece) i 0 (omega arith), getD-drop from piece i 0)
+          (c .new l i (omega arith));
       below = c .below;
     }
 
@@ -59,8 +62,10 @@ held-more {k} {k′} {r} {t} h p = record { held = λ i x y. go i x y (decLt i (
         let g : byte (r ++ t) (length r + j) ≡ byte t j = getD-append-add r t j 0 in
         rw (← e) (p .new j (omega arith) ∙ sym g)
 
-module _ {k : List ℕ} {s : Walk} {joined : List ℕ} (start : 24 ≤ length joined) (u : Core k s (wholeFrames joined) (unfinished joined) joined)
-    (k′ : List ℕ) (r : Walk) (t : List ℕ) (some : 0 < length t) (pl : Placed k (s .at) t k′) (v : Within (s .at) (s .size) (length t))
+module _ {k : List ℕ} {s : Walk} {joined : List ℕ} (start : 24 ≤ length joined)
+    (u : Core k s (wholeFrames joined) (unfinished joined) joined)
+    (k′ : List ℕ) (r : Walk) (t : List ℕ) (some : 0 < length t) (pl : Placed k (s .at) t k′)
+    (v : Within (s .at) (s .size) (length t))
     (room : s .fed + length t ≤ 268435456) where
   many : length (unfinished joined ++ t) ≡ s .at + length t
   many = let l = length-append (unfinished joined) t in let m = u .many in omega arith
@@ -93,7 +98,9 @@ module _ {k : List ℕ} {s : Walk} {joined : List ℕ} (start : 24 ≤ length jo
   place-now = base-sum joined start ∙ sym (u .fed)
 
   -- what is the same, whatever the bytes show. w is the walk when r is settled
-  module _ (n : ℕ) (piece : List ℕ) (w : Walk) (st : Settles k′ r w) (rs : r .status ≡ s .status) (rf : r .fed ≡ s .fed + length t) (ra : r .at ≡ s .at + length t) (rn : r .frames ≡ s .frames) (rk : r .skipped ≡ s .skipped) where
+  module _ (n : ℕ) (piece : List ℕ) (w : Walk) (st : Settles k′ r w) (rs : r .status ≡ s .status)
+      (rf : r .fed ≡ s .fed + length t) (ra : r .at ≡ s .at + length t) (rn : r .frames ≡ s .frames)
+      (rk : r .skipped ≡ s .skipped) where
     taken : Fine (unfinished joined ++ t) → (12 ≤ s .at + length t → r .size ≡ storedLength (unfinished joined ++ t)) →
         (58 ≤ s .at + length t → Under k′ r (unfinished joined ++ t)) → Taken k′ r joined t
     taken f z un =
@@ -121,10 +128,15 @@ module _ {k : List ℕ} {s : Walk} {joined : List ℕ} (start : 24 ≤ length jo
 
     done : Taken k′ r joined t → Here
     done x =
-        record { stands = st joined t x; tells = gains-none (x .core .clear) (quiet 4 (omega arith) (omega arith)) (quiet 188 (omega arith) (omega arith)) }
+        record {
+          stands = st joined t x;
+          tells = gains-none (x .core .clear) (quiet 4 (omega arith) (omega arith))
+              (quiet 188 (omega arith) (omega arith));
+        }
 
     -- L is not there yet, or is there already
-    size-kept : (s .at + length t ≡ 12 → ⊥) → r .size ≡ s .size → 12 ≤ s .at + length t → r .size ≡ storedLength (unfinished joined ++ t)
+    size-kept : (s .at + length t ≡ 12 → ⊥) → r .size ≡ s .size → 12 ≤ s .at + length t →
+        r .size ≡ storedLength (unfinished joined ++ t)
     size-kept x e h =
         let m = u .many in
         let g : 12 ≤ length (unfinished joined) = go (decLe 12 (length (unfinished joined))) in
@@ -135,28 +147,34 @@ module _ {k : List ℕ} {s : Walk} {joined : List ℕ} (start : 24 ≤ length jo
         go (no d) = let f = field .stored (omega arith) in let m = u .many in absurd (x (omega arith))
 
     fine-plain : (s .at + length t ≡ 8 → ⊥) → (s .at + length t ≡ 12 → ⊥) → Fine (unfinished joined ++ t)
-    fine-plain x m = fine-run (unfinished joined) t (s .size) fine field (λ e. absurd (x (sym many ∙ e))) (λ e. absurd (m (sym many ∙ e)))
+    fine-plain x m = fine-run (unfinished joined) t (s .size) fine field (λ e. absurd (x (sym many ∙ e)))
+        (λ e. absurd (m (sym many ∙ e)))
 
-    pub front-plain : (s .at + length t ≡ 8 → ⊥) → (s .at + length t ≡ 12 → ⊥) → (s .at + length t ≡ 58 → ⊥) → r .size ≡ s .size → Here
-    front-plain x m g e = done (taken (fine-plain x m) (size-kept m e) (λ h. let f = v .front in absurd (g (omega arith))))
+    pub front-plain : (s .at + length t ≡ 8 → ⊥) → (s .at + length t ≡ 12 → ⊥) → (s .at + length t ≡ 58 → ⊥) →
+        r .size ≡ s .size → Here
+    front-plain x m g e =
+        done (taken (fine-plain x m) (size-kept m e) (λ h. let f = v .front in absurd (g (omega arith))))
 
     -- the end of the microseconds
     pub front-time : s .at + length t ≡ 8 → microseconds k′ ≤ 999999 → Here
     front-time e h =
         let g = micro-agree (held-agree 8 held (omega (arith, many)) (omega arith)) (omega arith) in
-        done (taken (fine-run (unfinished joined) t (s .size) fine field (λ x. omega arith) (λ x. absurd (omega (arith, many)))) (λ x. absurd (omega arith)) (λ x. absurd (omega arith)))
+        done (taken (fine-run (unfinished joined) t (s .size) fine field (λ x. omega arith)
+        (λ x. absurd (omega (arith, many)))) (λ x. absurd (omega arith)) (λ x. absurd (omega arith)))
 
     -- the end of L
     pub front-size : s .at + length t ≡ 12 → storedLength k′ ≤ 65535 → r .size ≡ storedLength k′ → Here
     front-size e h z =
         let g = stored-agree (held-agree 12 held (omega (arith, many)) (omega arith)) (omega arith) in
-        done (taken (fine-run (unfinished joined) t (s .size) fine field (λ x. absurd (omega (arith, many))) (λ x. omega arith)) (λ x. z ∙ g) (λ x. absurd (omega arith)))
+        done (taken (fine-run (unfinished joined) t (s .size) fine field (λ x. absurd (omega (arith, many)))
+        (λ x. omega arith)) (λ x. z ∙ g) (λ x. absurd (omega arith)))
 
     -- the last of the first 42 bytes: the cells come next
     pub front-last : s .at + length t ≡ 58 → r .size ≡ s .size → r .left ≡ countOf k′ → r .got ≡ 0 → Here
     front-last e z l g =
         let there : 58 ≤ length (unfinished joined ++ t) = omega (arith, many) in
-        let c : r .left ≡ countOf (unfinished joined ++ t) = l ∙ count-agree (held-agree 58 held there (omega arith)) (omega arith) in
+        let c : r .left ≡ countOf (unfinished joined ++ t) =
+        l ∙ count-agree (held-agree 58 held there (omega arith)) (omega arith) in
         done
         (taken (fine-plain (λ x. omega arith) (λ x. omega arith)) (size-kept (λ x. omega arith) z)
         (λ h.
@@ -172,18 +190,22 @@ module _ {k : List ℕ} {s : Walk} {joined : List ℕ} (start : 24 ≤ length jo
   hushed : Halts r joined (joined ++ t)
   hushed = silent (shown-same joined (joined ++ t) (quiet 4 (omega arith) (omega arith)))
 
-  pub front-bad-time : (n : ℕ) (piece : List ℕ) → s .at + length t ≡ 8 → 999999 < microseconds k′ → r .status ≡ 7 → r .place ≡ s .fed + (length t - 1) →
+  pub front-bad-time : (n : ℕ) (piece : List ℕ) → s .at + length t ≡ 8 → 999999 < microseconds k′ → r .status ≡ 7 →
+      r .place ≡ s .fed + (length t - 1) →
       Stood k′ (record { taken = n; walk = r; event = Refused }) piece joined (joined ++ t)
   front-bad-time n piece e h rs rp =
       let g = micro-agree (held-agree 8 held (omega (arith, many)) (omega arith)) (omega arith) in
-      refuse n 7 (base joined + 7) stood (next-seven joined t start fits few sound (omega (arith, many)) (omega arith)) (omega arith) rs (rp ∙ omega (arith, place-now, u .many)) hushed
+      refuse n 7 (base joined + 7) stood (next-seven joined t start fits few sound (omega (arith, many)) (omega arith))
+      (omega arith) rs (rp ∙ omega (arith, place-now, u .many)) hushed
 
-  pub front-bad-size : (n : ℕ) (piece : List ℕ) → s .at + length t ≡ 12 → 65535 < storedLength k′ → r .status ≡ 8 → r .place ≡ s .fed + (length t - 1) →
+  pub front-bad-size : (n : ℕ) (piece : List ℕ) → s .at + length t ≡ 12 → 65535 < storedLength k′ → r .status ≡ 8 →
+      r .place ≡ s .fed + (length t - 1) →
       Stood k′ (record { taken = n; walk = r; event = Refused }) piece joined (joined ++ t)
   front-bad-size n piece e h rs rp =
       let g = stored-agree (held-agree 12 held (omega (arith, many)) (omega arith)) (omega arith) in
       refuse n 8 (base joined + 11) stood
-      (next-eight joined t start fits few sound (omega (arith, many)) (time-behind (unfinished joined) t (s .size) fine field (many ∙ e) some) (omega arith))
+      (next-eight joined t start fits few sound (omega (arith, many))
+      (time-behind (unfinished joined) t (s .size) fine field (many ∙ e) some) (omega arith))
       (omega arith)
       rs
       (rp ∙ omega (arith, place-now, u .many))

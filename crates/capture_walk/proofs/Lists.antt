@@ -43,7 +43,8 @@ pub from-cells : (n time place : ℕ) (s : List ℕ) → map cellOf (packetsFrom
 unfolding packetsFrom cellsFrom
 from-cells zero time place s = refl
 from-cells (suc n) time place s =
-    rw (cell-agree (agree-take 6 188 s (omega arith)) (omega arith) time place) (ap (λ (r : List Cell). cellIn time place s ∷ r) (from-cells n time (place + 188) (drop 188 s)))
+    rw (cell-agree (agree-take 6 188 s (omega arith)) (omega arith) time place)
+    (ap (λ (r : List Cell). cellIn time place s ∷ r) (from-cells n time (place + 188) (drop 188 s)))
 
 -- one more, at the end: for whoever takes a run's cells one by one
 pub cells-more : (n time place : ℕ) (s : List ℕ) →
@@ -57,10 +58,12 @@ cells-more (suc n) time place s =
     let e : place + 188 + 188 * n ≡ place + 188 * suc n = omega arith in
     let f : 188 + 188 * n ≡ 188 * suc n = omega arith in
     rw a
-    (ap (λ (r : List Cell). cellIn time place s ∷ r) (cells-more n time (place + 188) (drop 188 s) ∙ rw (drop-drop (188 * n) 188 s, e, f)))
+    (ap (λ (r : List Cell). cellIn time place s ∷ r) (cells-more n time (place + 188) (drop 188 s)
+    ∙ rw (drop-drop (188 * n) 188 s, e, f)))
 
 -- no more bytes are needed than the cells have
-pub cells-cut : (n time place : ℕ) (s : List ℕ) → 188 * n ≤ length s → cellsFrom n time place (take (188 * n) s) ≡ cellsFrom n time place s
+pub cells-cut : (n time place : ℕ) (s : List ℕ) → 188 * n ≤ length s → cellsFrom n time place (take (188 * n) s)
+    ≡ cellsFrom n time place s
 cells-cut n time place s h =
     let l : 188 * n ≤ length (take (188 * n) s) = rw (length-take-le (188 * n) s h) (omega arith) in
     sym (from-cells n time place (take (188 * n) s))
@@ -81,17 +84,20 @@ module _ {s a : List ℕ} (clear : formatFault a ≡ none) where
       }
 
   -- a cell that is shown, of those behind the ones that are whole
-  pub gains-shown : (ps : List Packet) (q : Packet) → reached 4 s ≡ ps → reached 188 s ≡ ps → reached 4 a ≡ ps ++ q ∷ [] → reached 188 a ≡ reached 188 s →
+  pub gains-shown : (ps : List Packet) (q : Packet) → reached 4 s ≡ ps → reached 188 s ≡ ps →
+      reached 4 a ≡ ps ++ q ∷ [] → reached 188 a ≡ reached 188 s →
       Gains s a (headOf q ∷ []) []
   gains-shown ps q b c d e =
       record {
         clear = clear;
-        shown = shown-of a ∙ ap (map headOf) d ∙ map-append headOf ps (q ∷ []) ∙ ap (λ (x : List Cell). x ++ headOf q ∷ []) (ap (map headOf) (sym b) ∙ sym (shown-of s));
+        shown = shown-of a ∙ ap (map headOf) d ∙ map-append headOf ps (q ∷ [])
+            ∙ ap (λ (x : List Cell). x ++ headOf q ∷ []) (ap (map headOf) (sym b) ∙ sym (shown-of s));
         whole = whole-of a ∙ ap (map cellOf) e ∙ sym (whole-of s) ∙ sym (append-nil (wholeCells s));
       }
 
   -- a cell that was shown goes on
-  pub gains-same : (ps : List Packet) (p q : Packet) → headOf q ≡ headOf p → reached 4 s ≡ ps ++ p ∷ [] → reached 4 a ≡ ps ++ q ∷ [] → reached 188 a ≡ reached 188 s →
+  pub gains-same : (ps : List Packet) (p q : Packet) → headOf q ≡ headOf p → reached 4 s ≡ ps ++ p ∷ [] →
+      reached 4 a ≡ ps ++ q ∷ [] → reached 188 a ≡ reached 188 s →
       Gains s a [] []
   gains-same ps p q h c d e =
       record {
@@ -100,29 +106,38 @@ module _ {s a : List ℕ} (clear : formatFault a ≡ none) where
         whole = whole-of a ∙ ap (map cellOf) e ∙ sym (whole-of s) ∙ sym (append-nil (wholeCells s));
       }
     where
-      still : (ps : List Packet) (p q : Packet) → headOf q ≡ headOf p → reached 4 s ≡ ps ++ p ∷ [] → reached 4 a ≡ ps ++ q ∷ [] → shownCells a ≡ shownCells s
+      still : (ps : List Packet) (p q : Packet) → headOf q ≡ headOf p → reached 4 s ≡ ps ++ p ∷ [] →
+          reached 4 a ≡ ps ++ q ∷ [] → shownCells a ≡ shownCells s
       still ps p q h c d =
-          shown-of a ∙ ap (map headOf) d ∙ map-append headOf ps (q ∷ []) ∙ ap (λ (x : Cell). map headOf ps ++ x ∷ []) h ∙ sym (map-append headOf ps (p ∷ [])) ∙ ap (map headOf) (sym c) ∙ sym (shown-of s)
+          shown-of a ∙ ap (map headOf) d ∙ map-append headOf ps (q ∷ []) ∙ ap (λ (x : Cell). map headOf ps ++ x ∷ []) h
+          ∙ sym (map-append headOf ps (p ∷ [])) ∙ ap (map headOf) (sym c) ∙ sym (shown-of s)
 
   -- and is whole
-  pub gains-whole : (ps : List Packet) (p q : Packet) → headOf q ≡ headOf p → reached 4 s ≡ ps ++ p ∷ [] → reached 4 a ≡ ps ++ q ∷ [] → reached 188 s ≡ ps →
+  pub gains-whole : (ps : List Packet) (p q : Packet) → headOf q ≡ headOf p → reached 4 s ≡ ps ++ p ∷ [] →
+      reached 4 a ≡ ps ++ q ∷ [] → reached 188 s ≡ ps →
       reached 188 a ≡ ps ++ q ∷ [] → Gains s a [] (cellOf q ∷ [])
   gains-whole ps p q h c d e f =
       record {
         clear = clear;
         shown =
-            shown-of a ∙ ap (map headOf) d ∙ map-append headOf ps (q ∷ []) ∙ ap (λ (x : Cell). map headOf ps ++ x ∷ []) h ∙ sym (map-append headOf ps (p ∷ [])) ∙ ap (map headOf) (sym c) ∙ sym (shown-of s) ∙ sym (append-nil (shownCells s));
-        whole = whole-of a ∙ ap (map cellOf) f ∙ map-append cellOf ps (q ∷ []) ∙ ap (λ (x : List Cell). x ++ cellOf q ∷ []) (ap (map cellOf) (sym e) ∙ sym (whole-of s));
+            shown-of a ∙ ap (map headOf) d ∙ map-append headOf ps (q ∷ [])
+            ∙ ap (λ (x : Cell). map headOf ps ++ x ∷ []) h ∙ sym (map-append headOf ps (p ∷ []))
+            ∙ ap (map headOf) (sym c) ∙ sym (shown-of s) ∙ sym (append-nil (shownCells s));
+        whole = whole-of a ∙ ap (map cellOf) f ∙ map-append cellOf ps (q ∷ [])
+            ∙ ap (λ (x : List Cell). x ++ cellOf q ∷ []) (ap (map cellOf) (sym e) ∙ sym (whole-of s));
       }
 
   -- cells that are shown and whole at once
-  pub gains-many : (ps qs : List Packet) (cs : List Cell) → map cellOf qs ≡ cs → reached 4 s ≡ ps → reached 188 s ≡ ps → reached 4 a ≡ ps ++ qs → reached 188 a ≡ ps ++ qs →
+  pub gains-many : (ps qs : List Packet) (cs : List Cell) → map cellOf qs ≡ cs → reached 4 s ≡ ps →
+      reached 188 s ≡ ps → reached 4 a ≡ ps ++ qs → reached 188 a ≡ ps ++ qs →
       Gains s a (map head cs) cs
   gains-many ps qs cs g b c d e =
       record {
         clear = clear;
-        shown = shown-of a ∙ ap (map headOf) d ∙ map-append headOf ps qs ∙ rw (heads qs, g) (ap (λ (x : List Cell). x ++ map head cs) (ap (map headOf) (sym b) ∙ sym (shown-of s)));
-        whole = whole-of a ∙ ap (map cellOf) e ∙ map-append cellOf ps qs ∙ rw g (ap (λ (x : List Cell). x ++ cs) (ap (map cellOf) (sym c) ∙ sym (whole-of s)));
+        shown = shown-of a ∙ ap (map headOf) d ∙ map-append headOf ps qs
+            ∙ rw (heads qs, g) (ap (λ (x : List Cell). x ++ map head cs) (ap (map headOf) (sym b) ∙ sym (shown-of s)));
+        whole = whole-of a ∙ ap (map cellOf) e ∙ map-append cellOf ps qs
+            ∙ rw g (ap (λ (x : List Cell). x ++ cs) (ap (map cellOf) (sym c) ∙ sym (whole-of s)));
       }
 
 pub level : (s : List ℕ) (ps : List Packet) → reached 4 s ≡ ps → reached 188 s ≡ ps → Level s

@@ -27,18 +27,21 @@ at-live h k (refused l e p) = absurd (omega arith)
 at-live h k (head v) = absurd (omega (arith, v .fed, v .short))
 at-live h k (live g v) = (g, v)
 
-pub at-head : {k : List ℕ} {s : Walk} {joined : List ℕ} → s .status ≡ 0 → s .fed < 24 → Stands k s joined → Head k s joined
+pub at-head : {k : List ℕ} {s : Walk} {joined : List ℕ} → s .status ≡ 0 → s .fed < 24 → Stands k s joined →
+    Head k s joined
 at-head h k (refused l e p) = absurd (omega arith)
 at-head h k (head v) = v
 at-head h k (live g v) = absurd (omega (arith, v .fed))
 
 -- a refusal that the bytes show now
-pub refuse : {kept : List ℕ} {r : Walk} {piece joined a : List ℕ} (n k p : ℕ) → length kept ≡ 64 → formatFault a ≡ fault k p → 0 < k → r .status ≡ k → r .place ≡ p →
+pub refuse : {kept : List ℕ} {r : Walk} {piece joined a : List ℕ} (n k p : ℕ) → length kept ≡ 64 →
+    formatFault a ≡ fault k p → 0 < k → r .status ≡ k → r .place ≡ p →
     Halts r joined a → Stood kept (record { taken = n; walk = r; event = Refused }) piece joined a
 refuse n k p l e h a b g = record { stands = refused l (rw (e, a, b)) (omega arith); tells = (rw (e, a, b), g) }
 
 -- one that stands already
-pub refuse-again : {kept : List ℕ} {s : Walk} {piece joined : List ℕ} (n : ℕ) (t : List ℕ) → (s .status ≡ 0 → ⊥) → Stands kept s joined →
+pub refuse-again : {kept : List ℕ} {s : Walk} {piece joined : List ℕ} (n : ℕ) (t : List ℕ) → (s .status ≡ 0 → ⊥) →
+    Stands kept s joined →
     Stood kept (record { taken = n; walk = s; event = Refused }) piece joined (joined ++ t)
 refuse-again {kept} {s} {piece} {joined} n t h (refused l e k) =
     let f = format-kept joined t (s .status) (s .place) e in
@@ -47,8 +50,10 @@ refuse-again n t h (head v) = absurd (h (v .status))
 refuse-again n t h (live g v) = absurd (h (v .status))
 
 -- 4: the limit
-pub limit : {kept : List ℕ} {s : Walk} {piece joined : List ℕ} (n : ℕ) (r : Walk) (t : List ℕ) → s .status ≡ 0 → 268435456 ≤ s .fed → 0 < length t →
-    r .status ≡ 4 → r .place ≡ 268435456 → Stands kept s joined → Stood kept (record { taken = n; walk = r; event = Refused }) piece joined (joined ++ t)
+pub limit : {kept : List ℕ} {s : Walk} {piece joined : List ℕ} (n : ℕ) (r : Walk) (t : List ℕ) → s .status ≡ 0 →
+    268435456 ≤ s .fed → 0 < length t →
+    r .status ≡ 4 → r .place ≡ 268435456 → Stands kept s joined →
+    Stood kept (record { taken = n; walk = r; event = Refused }) piece joined (joined ++ t)
 limit {kept} {s} {piece} {joined} n r t h k some rs rp st =
     let z = at-live h (omega arith) st in
     let u = z .1 in
@@ -58,11 +63,13 @@ limit {kept} {s} {piece} {joined} n r t h k some rs rp st =
     refuse n 4 268435456 (u .room) (four joined t c (omega arith) some) (omega arith) rs rp (surplus (omega arith))
 
 -- 11
-pub inside-head : {kept : List ℕ} {s : Walk} {joined : List ℕ} → s .fed < 24 → s .status ≡ 0 → Stands kept s joined → true ≡ captureInside joined
+pub inside-head : {kept : List ℕ} {s : Walk} {joined : List ℕ} → s .fed < 24 → s .status ≡ 0 → Stands kept s joined →
+    true ≡ captureInside joined
 unfolding captureInside
 inside-head {kept} {s} {joined} h k st = let v = at-head k h st in rw (lt-ltb (length joined) 24 (v .short))
 
-pub inside-live : {kept : List ℕ} {s : Walk} {joined : List ℕ} → 24 ≤ s .fed → s .status ≡ 0 → Stands kept s joined → ltb 0 (s .at) ≡ captureInside joined
+pub inside-live : {kept : List ℕ} {s : Walk} {joined : List ℕ} → 24 ≤ s .fed → s .status ≡ 0 → Stands kept s joined →
+    ltb 0 (s .at) ≡ captureInside joined
 unfolding captureInside
 inside-live {kept} {s} {joined} h k st = let v = at-live k h st in rw (le-ltb (length joined) 24 (v .0), v .1 .many)
 
@@ -74,13 +81,15 @@ many-taken piece i n h = length-take-le n (drop i piece) (simp length-drop (omeg
 pub part-rest : (piece : List ℕ) (i n : ℕ) → length piece ≤ i + n → take n (drop i piece) ≡ drop i piece
 part-rest piece i n h = take-all n (drop i piece) (simp length-drop (omega arith))
 
-pub stepped : {k : List ℕ} {s : Walk} {piece : List ℕ} {i n : ℕ} {k′ : List ℕ} {r : Step} → 0 < n → i + n ≤ length piece → Goes k s piece i n k′ r → Stepped k s piece i k′ r
+pub stepped : {k : List ℕ} {s : Walk} {piece : List ℕ} {i n : ℕ} {k′ : List ℕ} {r : Step} → 0 < n →
+    i + n ≤ length piece → Goes k s piece i n k′ r → Stepped k s piece i k′ r
 stepped {k} {s} {piece} {i} {n} {k′} {r} p q g =
     record {
       some = rw (g .taken) p;
       most = rw (g .taken) q;
       fits = g .fits;
-      goes = λ joined st. subst (λ (m : ℕ). Stood k′ r piece joined (joined ++ take m (drop i piece))) (sym (g .taken)) (g .goes joined st);
+      goes = λ joined st. subst (λ (m : ℕ). Stood k′ r piece joined (joined ++ take m (drop i piece))) (sym (g .taken))
+          (g .goes joined st);
     }
 
 pub nonzero : {n : ℕ} → (n ≡ 0 → ⊥) → 0 < n

@@ -33,36 +33,43 @@ never e = let z : _≡_ {A = ℕ} 0 1 = cc in omega arith
 
 -- ---- what a walk says
 
-pub says-fault : {kept : List ℕ} {s : Walk} {joined : List ℕ} → (s .status ≡ 0 → ⊥) → Stands kept s joined → formatFault joined ≡ fault (s .status) (s .place)
+pub says-fault : {kept : List ℕ} {s : Walk} {joined : List ℕ} → (s .status ≡ 0 → ⊥) → Stands kept s joined →
+    formatFault joined ≡ fault (s .status) (s .place)
 says-fault h (refused l e k) = e
 says-fault h (head v) = absurd (h (v .status))
 says-fault h (live g v) = absurd (h (v .status))
 
-pub says-clear : {kept : List ℕ} {s : Walk} {joined : List ℕ} → s .status ≡ 0 → Stands kept s joined → formatFault joined ≡ none
+pub says-clear : {kept : List ℕ} {s : Walk} {joined : List ℕ} → s .status ≡ 0 → Stands kept s joined →
+    formatFault joined ≡ none
 says-clear h (refused l e k) = absurd (omega arith)
 says-clear h (head v) = v .clear
 says-clear h (live g v) = v .clear
 
-pub says-fed : {kept : List ℕ} {s : Walk} {joined : List ℕ} → s .status ≡ 0 → Stands kept s joined → s .fed ≡ length joined
+pub says-fed : {kept : List ℕ} {s : Walk} {joined : List ℕ} → s .status ≡ 0 → Stands kept s joined →
+    s .fed ≡ length joined
 says-fed h (refused l e k) = absurd (omega arith)
 says-fed h (head v) = v .fed
 says-fed h (live g v) = v .fed
 
-pub says-none : {kept : List ℕ} {s : Walk} {joined : List ℕ} → formatFault joined ≡ none → Stands kept s joined → s .status ≡ 0
+pub says-none : {kept : List ℕ} {s : Walk} {joined : List ℕ} → formatFault joined ≡ none → Stands kept s joined →
+    s .status ≡ 0
 says-none c (refused l e k) = absurd (never (sym e ∙ c))
 says-none c (head v) = v .status
 says-none c (live g v) = v .status
 
-pub says-frames : {kept : List ℕ} {s : Walk} {joined : List ℕ} → s .status ≡ 0 → Stands kept s joined → s .frames ≡ frameCount joined
+pub says-frames : {kept : List ℕ} {s : Walk} {joined : List ℕ} → s .status ≡ 0 → Stands kept s joined →
+    s .frames ≡ frameCount joined
 unfolding frameCount
 says-frames h (refused l e k) = absurd (omega arith)
 says-frames {joined = joined} h (head v) = let k = v .short in rw (header-alone joined (omega arith) .0) (v .frames)
 says-frames h (live g v) = v .frames
 
-pub says-skipped : {kept : List ℕ} {s : Walk} {joined : List ℕ} → s .status ≡ 0 → Stands kept s joined → s .skipped ≡ skippedCount joined
+pub says-skipped : {kept : List ℕ} {s : Walk} {joined : List ℕ} → s .status ≡ 0 → Stands kept s joined →
+    s .skipped ≡ skippedCount joined
 unfolding skippedCount
 says-skipped h (refused l e k) = absurd (omega arith)
-says-skipped {joined = joined} h (head v) = let k = v .short in rw (header-alone joined (omega arith) .0) (v .skipped ∙ unfold skipped count in refl)
+says-skipped {joined = joined} h (head v) =
+    let k = v .short in rw (header-alone joined (omega arith) .0) (v .skipped ∙ unfold skipped count in refl)
 says-skipped h (live g v) = v .skipped
 
 -- ---- a refusal stays, so that none was there before either
@@ -79,7 +86,8 @@ clear-long s h = long-of s (sound-of s h .long)
 
 -- ---- the whole cells that an event brings
 
-pub tells-whole : (e : Event) (s : Walk) (piece before after : List ℕ) → Tells e s piece before after → formatFault after ≡ none →
+pub tells-whole : (e : Event) (s : Walk) (piece before after : List ℕ) → Tells e s piece before after →
+    formatFault after ≡ none →
     wholeCells after ≡ wholeCells before ++ wholeOf e piece
 tells-whole Nothing s piece before after t c = t .whole
 tells-whole (Shown x) s piece before after t c = t .0 .whole
@@ -101,21 +109,26 @@ from-few (suc m) τ q y = go (decLe 188 (length y)) (from-few m τ (q + 188) (dr
     more = reaching 188 (packetsFrom m τ (q + 188) (drop 188 y))
 
     go : Dec (188 ≤ length y) → 188 * length more ≤ length (drop 188 y) →
-        188 * length (pick (leb 188 (length (take 188 y))) (record { time = τ; place = q; bytes = take 188 y } ∷ more) more) ≤ length y
+        188 * length (pick (leb 188 (length (take 188 y)))
+        (record { time = τ; place = q; bytes = take 188 y } ∷ more) more) ≤ length y
     go (yes g) h =
-        rw (le-leb 188 (length (take 188 y)) (simp length-take (omega arith))) (let d = length-drop 188 y in omega arith)
+        rw (le-leb 188 (length (take 188 y)) (simp length-take (omega arith)))
+        (let d = length-drop 188 y in omega arith)
     go (no g) h =
-        rw (lt-leb 188 (length (take 188 y)) (simp length-take (omega arith))) (let d = length-drop 188 y in omega arith)
+        rw (lt-leb 188 (length (take 188 y)) (simp length-take (omega arith)))
+        (let d = length-drop 188 y in omega arith)
 
 of-few : (place : ℕ) (f : List ℕ) → 188 * length (reaching 188 (packetsOf place f)) ≤ length f
 of-few place f =
-    rw (of-from place f) (let h = from-few (countOf f) (frameTime f) (place + 58) (drop 58 f) in let d = length-drop 58 f in omega arith)
+    rw (of-from place f) (let h = from-few (countOf f) (frameTime f) (place + 58) (drop 58 f) in
+    let d = length-drop 58 f in omega arith)
 
 packets-few : (place : ℕ) (fs : List (List ℕ)) → 188 * length (reaching 188 (packets place fs)) ≤ length (endToEnd fs)
 unfolding packets endToEnd
 packets-few place [] = unfold only in omega arith
 packets-few place (f ∷ fs) =
-    let e = only-append (λ (p : Packet). leb 188 (length (p .bytes))) (packetsOf place f) (packets (place + length f) fs) in
+    let e = only-append (λ (p : Packet). leb 188 (length (p .bytes))) (packetsOf place f)
+    (packets (place + length f) fs) in
     rw e
     (let l = length-append (reaching 188 (packetsOf place f)) (reaching 188 (packets (place + length f) fs)) in
     let a = of-few place f in
@@ -138,7 +151,8 @@ reached-few s =
     let j = ap length (endToEnd-append (wholeFrames s) (unfinished s ∷ [])) in
     let l = length-append (endToEnd (wholeFrames s)) (endToEnd (unfinished s ∷ [])) in
     let a = all-bytes s in
-    let e : length (endToEnd (unfinished s ∷ [])) ≡ length (unfinished s) = unfold endToEnd in length-append (unfinished s) [] ∙ omega arith in
+    let e : length (endToEnd (unfinished s ∷ [])) ≡ length (unfinished s) =
+    unfold endToEnd in length-append (unfinished s) [] ∙ omega arith in
     omega arith
 
 length-map : {A B : Type 0} (f : A → B) (xs : List A) → length (map f xs) ≡ length xs
@@ -146,4 +160,5 @@ length-map f [] = refl
 length-map f (x ∷ xs) = ap suc (length-map f xs)
 
 pub whole-few : (s : List ℕ) → 188 * length (wholeCells s) ≤ length s
-whole-few s = let h = reached-few s in let l = ap length (whole-of s) ∙ length-map cellOf (reached 188 s) in omega arith
+whole-few s =
+    let h = reached-few s in let l = ap length (whole-of s) ∙ length-map cellOf (reached 188 s) in omega arith

@@ -38,7 +38,8 @@ Level joined = shownCells joined ≡ map head (wholeCells joined)
 abbrev pub cellsOf : Run → List ℕ → List Cell
 cellsOf r piece = cellsFrom (r .many) (r .time) (r .place) (drop (r .at) piece)
 
--- why no cell is shown before the place of a refusal: it stands already; or it is the first of these bytes; or they show no cell
+-- why no cell is shown before the place of a refusal: it stands already; or it is the first of these
+-- bytes; or they show no cell
 pub data Halts (s : Walk) (before after : List ℕ) : Type 0 where
   again : formatFault before ≡ fault (s .status) (s .place) → Halts s before after
   surplus : s .place ≡ length before → Halts s before after
@@ -88,7 +89,8 @@ pub record Stepped (kept : List ℕ) (s : Walk) (piece : List ℕ) (i : ℕ) (ke
   pub some : 0 < r .taken
   pub most : i + r .taken ≤ length piece
   pub fits : Fits (r .event) piece
-  pub goes : (joined : List ℕ) → Stands kept s joined → Stood kept′ r piece joined (joined ++ take (r .taken) (drop i piece))
+  pub goes : (joined : List ℕ) → Stands kept s joined →
+      Stood kept′ r piece joined (joined ++ take (r .taken) (drop i piece))
 
 -- ---- of the functions within
 
@@ -104,8 +106,8 @@ pub record Collects (w : List ℕ) (got : ℕ) (piece : List ℕ) (from n : ℕ)
   pub new : length w ≡ 64 → (i : ℕ) → i < n → got + i < 6 → getD w′ (58 + (got + i)) 0 ≡ getD piece (from + i) 0
   pub below : (k : ℕ) → k < 58 + got → getD w′ k 0 ≡ getD w k 0
 
--- n bytes more, of a frame of which at bytes are there, end no later than the field that they are in: microseconds, L, the header, the first 42
--- bytes, the frame
+-- n bytes more, of a frame of which at bytes are there, end no later than the field that they are in: microseconds,
+-- L, the header, the first 42 bytes, the frame
 pub record Within (at size n : ℕ) : Type 0 where
   pub time : at < 8 → at + n ≤ 8
   pub stored : at < 12 → at + n ≤ 12

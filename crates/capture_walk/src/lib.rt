@@ -1,6 +1,7 @@
-// One walk through a capture that comes in pieces, cut anywhere: it finds the frames (document 01: records) and their cells, counts the frames, and gives
-// refusals 4 to 8. It knows no PID, no unit and no edition: whoever counts cells takes them from the steps.
-// Of a frame the first 58 bytes are collected, of a cell the first six; a frame, or a cell, that lies whole in a piece is read where it lies.
+// One walk through a capture that comes in pieces, cut anywhere: it finds the frames (document 01: records) and
+// their cells, counts the frames, and gives refusals 4 to 8. It knows no PID, no unit and no edition: whoever counts
+// cells takes them from the steps. Of a frame the first 58 bytes are collected, of a cell the first six; a frame, or
+// a cell, that lies whole in a piece is read where it lies.
 ghost use Prim.Native.Nat.{_<_};
 ghost use lib.ListN.{length};
 ghost use Rattle.capture_walk.specs.State.{Means};

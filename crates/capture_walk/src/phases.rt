@@ -1,4 +1,5 @@
-// What a run of bytes does, wherever it stands: in the file header, in a frame's first bytes, in a cell's first bytes, or in what is skipped.
+// What a run of bytes does, wherever it stands: in the file header, in a frame's first bytes, in a cell's first
+// bytes, or in what is skipped.
 ghost use mathlib.Core.Path.{_≡_};
 ghost use Prim.Native.Nat.{ℕ, _+_, _*_, _<_, _≤_};
 ghost use mathlib.Core.List.{List};
@@ -15,7 +16,8 @@ use crate::types::Walk;
 
 // Bytes of the file header: n of them, from byte i of the piece on, up to the magic's end or the header's end at most.
 pub fn on_file(kept: &mut Collected, s: Walk, piece: &[u8], i: usize, n: u64) -> Step
-    requires { ⌜ (s .status ≡ 0) × (0 < n) × (s .fed < 4 → s .fed + n ≤ 4) × (s .fed + n ≤ 24) × (i + n ≤ length (now piece)) ⌝ }
+    requires { ⌜ (s .status ≡ 0) × (0 < n) × (s .fed < 4 → s .fed + n ≤ 4) × (s .fed + n ≤ 24)
+        × (i + n ≤ length (now piece)) ⌝ }
     ensures { λ r. ⌜ Goes (now (kept .entry)) s (now (piece .entry)) i n (now (kept .exit)) r ⌝ }
 {
     let fed = s.fed;
@@ -81,9 +83,11 @@ fn settle(kept: &Collected, s: Walk) -> Walk
     r
 }
 
-// Bytes of a frame's header, or of the first 42 behind it: n of them, from byte i of the piece on, up to the end of a field at most.
+// Bytes of a frame's header, or of the first 42 behind it: n of them, from byte i of the piece on, up to
+// the end of a field at most.
 pub fn on_front(kept: &mut Collected, s: Walk, piece: &[u8], i: usize, n: u64) -> Step
-    requires { ⌜ (s .status ≡ 0) × (24 ≤ s .fed) × (s .fed + n ≤ 268435456) × (0 < n) × Within (s .at) (s .size) n × (i + n ≤ length (now piece)) ⌝ }
+    requires { ⌜ (s .status ≡ 0) × (24 ≤ s .fed) × (s .fed + n ≤ 268435456) × (0 < n) × Within (s .at) (s .size) n
+        × (i + n ≤ length (now piece)) ⌝ }
     ensures { λ r. ⌜ Goes (now (kept .entry)) s (now (piece .entry)) i n (now (kept .exit)) r ⌝ }
 {
     let at = s.at;
@@ -144,7 +148,8 @@ pub fn on_front(kept: &mut Collected, s: Walk, piece: &[u8], i: usize, n: u64) -
 
 // Bytes of a cell's first four: n of them, from byte i of the piece on.
 pub fn on_first(kept: &mut Collected, s: Walk, piece: &[u8], i: usize, n: u64) -> Step
-    requires { ⌜ (s .status ≡ 0) × (24 ≤ s .fed) × (s .fed + n ≤ 268435456) × (0 < n) × (58 ≤ s .at) × (0 < s .left) × (s .got + n ≤ 4) × (i + n ≤ length (now piece)) ⌝ }
+    requires { ⌜ (s .status ≡ 0) × (24 ≤ s .fed) × (s .fed + n ≤ 268435456) × (0 < n) × (58 ≤ s .at) × (0 < s .left)
+        × (s .got + n ≤ 4) × (i + n ≤ length (now piece)) ⌝ }
     ensures { λ r. ⌜ Goes (now (kept .entry)) s (now (piece .entry)) i n (now (kept .exit)) r ⌝ }
 {
     let got = s.got;
@@ -171,7 +176,8 @@ pub fn on_first(kept: &mut Collected, s: Walk, piece: &[u8], i: usize, n: u64) -
 
 // Bytes behind a cell's first four: n of them, up to its end at most.
 pub fn on_rest(kept: &mut Collected, s: Walk, piece: &[u8], i: usize, n: u64) -> Step
-    requires { ⌜ (s .status ≡ 0) × (24 ≤ s .fed) × (s .fed + n ≤ 268435456) × (58 ≤ s .at) × (0 < s .left) × (4 ≤ s .got) × (s .got < 188 → s .got + n ≤ 188) × (i + n ≤ length (now piece)) ⌝ }
+    requires { ⌜ (s .status ≡ 0) × (24 ≤ s .fed) × (s .fed + n ≤ 268435456) × (58 ≤ s .at) × (0 < s .left)
+        × (4 ≤ s .got) × (s .got < 188 → s .got + n ≤ 188) × (i + n ≤ length (now piece)) ⌝ }
     ensures { λ r. ⌜ Goes (now (kept .entry)) s (now (piece .entry)) i n (now (kept .exit)) r ⌝ }
 {
     let got = s.got;
@@ -202,7 +208,8 @@ pub fn on_rest(kept: &mut Collected, s: Walk, piece: &[u8], i: usize, n: u64) ->
 
 // Bytes of a frame behind its cells, n of them.
 pub fn on_tail(kept: &Collected, s: Walk, piece: &[u8], i: usize, n: u64) -> Step
-    requires { ⌜ (s .status ≡ 0) × (24 ≤ s .fed) × (s .fed + n ≤ 268435456) × (58 ≤ s .at) × (s .left ≡ 0) × (s .size ≤ 65535 → s .at < 16 + s .size → s .at + n ≤ 16 + s .size) × (i + n ≤ length (now piece)) ⌝ }
+    requires { ⌜ (s .status ≡ 0) × (24 ≤ s .fed) × (s .fed + n ≤ 268435456) × (58 ≤ s .at) × (s .left ≡ 0)
+        × (s .size ≤ 65535 → s .at < 16 + s .size → s .at + n ≤ 16 + s .size) × (i + n ≤ length (now piece)) ⌝ }
     ensures { λ r. ⌜ Goes (now (kept .entry)) s (now (piece .entry)) i n (now (kept .entry)) r ⌝ }
 {
     let mut r = s;
@@ -218,7 +225,8 @@ pub fn on_tail(kept: &Collected, s: Walk, piece: &[u8], i: usize, n: u64) -> Ste
 
 // Cells that lie whole in the piece from byte i on: m of them, of a frame whose first bytes are collected.
 pub fn on_run(kept: &Collected, s: Walk, piece: &[u8], i: usize, m: u64) -> Step
-    requires { ⌜ (s .status ≡ 0) × (24 ≤ s .fed) × (58 ≤ s .at) × (s .got ≡ 0) × (0 < m) × (m ≤ s .left) × (s .fed + 188 * m ≤ 268435456) × (i + 188 * m ≤ length (now piece)) ⌝ }
+    requires { ⌜ (s .status ≡ 0) × (24 ≤ s .fed) × (58 ≤ s .at) × (s .got ≡ 0) × (0 < m) × (m ≤ s .left)
+        × (s .fed + 188 * m ≤ 268435456) × (i + 188 * m ≤ length (now piece)) ⌝ }
     ensures { λ r. ⌜ Goes (now (kept .entry)) s (now (piece .entry)) i (188 * m) (now (kept .entry)) r ⌝ }
 {
     let n = 188 * m;

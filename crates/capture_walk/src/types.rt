@@ -10,8 +10,9 @@ pub const COLLECTED_BYTES: usize = 64;
 
 pub type Collected = [u8; COLLECTED_BYTES];
 
-// status, place: the refusal that stands, or 0. fed: bytes fed; at: bytes of the frame that are there; size: its stored length L; got: bytes that are
-// there of the cell under way; left: the frame's cells that are not whole yet; frames, skipped: whole frames, and those of them that do not carry.
+// status, place: the refusal that stands, or 0. fed: bytes fed; at: bytes of the frame that are there; size: its
+// stored length L; got: bytes that are there of the cell under way; left: the frame's cells that are not whole yet;
+// frames, skipped: whole frames, and those of them that do not carry.
 pub struct Walk {
     pub status: u64,
     pub place: u64,
@@ -24,7 +25,8 @@ pub struct Walk {
     pub skipped: u64,
 }
 
-// Cells that lie whole in the piece, one behind the other: the first starts at byte `at` of the piece, and at the offset `place` of the capture.
+// Cells that lie whole in the piece, one behind the other: the first starts at byte `at` of the piece, and at the
+// offset `place` of the capture.
 pub struct Run {
     pub at: usize,
     pub many: u64,

@@ -45,13 +45,19 @@ pub open-number : (o : Opening) → numberOf (openAnswer o) ≡ numberIn (openin
 unfolding openAnswer
 open-number o = of-answer (openingFault o) 0 (opening o)
 
-pub capture-number : (o : Opening) (c : List ℕ) (n : ℕ) → numberOf (captureAnswer o c n) ≡ numberIn (openingFault o orElse captureFault o c)
+pub capture-number : (o : Opening) (c : List ℕ) (n : ℕ) →
+    numberOf (captureAnswer o c n) ≡ numberIn (openingFault o orElse captureFault o c)
 unfolding captureAnswer
-capture-number o c n = of-answer (openingFault o orElse captureFault o c) n (of-either (openingFault o) (captureFault o c) (opening o) (capture o c))
+capture-number o c n =
+    of-answer (openingFault o orElse captureFault o c) n
+    (of-either (openingFault o) (captureFault o c) (opening o) (capture o c))
 
-pub luma-number : (o : Opening) (l : List ℕ) (n : ℕ) → numberOf (lumaAnswer o l n) ≡ numberIn (openingFault o orElse lumaFault o l)
+pub luma-number : (o : Opening) (l : List ℕ) (n : ℕ) →
+    numberOf (lumaAnswer o l n) ≡ numberIn (openingFault o orElse lumaFault o l)
 unfolding lumaAnswer
-luma-number o l n = of-answer (openingFault o orElse lumaFault o l) n (of-either (openingFault o) (lumaFault o l) (opening o) (luma o l))
+luma-number o l n =
+    of-answer (openingFault o orElse lumaFault o l) n
+    (of-either (openingFault o) (lumaFault o l) (opening o) (luma o l))
 
 pub seal-number : (o : Opening) (c l : List ℕ) (n : ℕ) → numberOf (sealAnswer o c l n) ≡ numberIn (sealFault o c l n)
 unfolding sealAnswer

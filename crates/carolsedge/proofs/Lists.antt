@@ -1,4 +1,5 @@
--- DEMAND 3 for the C functions: the statement of `specs/Calls` holds. Under every list of C calls lies a list of calls of `sample`.
+-- DEMAND 3 for the C functions: the statement of `specs/Calls` holds. Under every list of C calls lies a
+-- list of calls of `sample`.
 use Prim.Native.Nat.{ℕ}
 use native.Mathlib.Omega.{arith}
 use mathlib.Core.Path.{_≡_, refl, sym, ap, _∙_}
@@ -26,7 +27,8 @@ record Under (st : State) (cs : List Call) (ls : List Left) (end : State) : Type
   left : ls ≡ map leftOf outcomes
 
 -- one call more, of an answer a with these numbers
-fed-more : (n v : ℕ) (a : Answer) (ls : List Left) (os : List Outcome) → n ≡ numberOf a → v ≡ valueOf a → ls ≡ map leftOf os →
+fed-more : (n v : ℕ) (a : Answer) (ls : List Left) (os : List Outcome) → n ≡ numberOf a → v ≡ valueOf a →
+    ls ≡ map leftOf os →
     record { number = n; value = v; lent = []; three = [] } ∷ ls ≡ map leftOf (fed a ∷ os)
 fed-more n v a ls os k x l = rw (k, x, l)
 

@@ -24,7 +24,8 @@ pub of-unless : (b : Bool) (k : ℕ) → Unplaced (unless b k)
 of-unless true k = tt
 of-unless false k = refl
 
-of-three : (a b c : Bool) (k l m : ℕ) (f : Fault) → Unplaced f → Unplaced (unless a k orElse unless b l orElse unless c m orElse f)
+of-three : (a b c : Bool) (k l m : ℕ) (f : Fault) → Unplaced f →
+    Unplaced (unless a k orElse unless b l orElse unless c m orElse f)
 of-three a b c k l m f x =
     of-either (unless a k) (unless b l orElse unless c m orElse f) (of-unless a k)
     (of-either (unless b l) (unless c m orElse f) (of-unless b l) (of-either (unless c m) f (of-unless c m) x))
@@ -32,14 +33,16 @@ of-three a b c k l m f x =
 pub opening : (o : Opening) → Unplaced (openingFault o)
 unfolding openingFault
 opening o =
-    of-three (goodSize (o .width) (o .height)) (goodTime (o .time)) (goodPid (o .pid)) 1 2 3 (unless (isEdition (o .edition)) 20)
+    of-three (goodSize (o .width) (o .height)) (goodTime (o .time)) (goodPid (o .pid)) 1 2 3
+    (unless (isEdition (o .edition)) 20)
     (of-unless (isEdition (o .edition)) 20)
 
 pub reading : (r : List ℕ) → Unplaced (readingFault r)
 unfolding readingFault
 reading r =
     of-either (unless (leb 64 (length r)) 16) _ (of-unless (leb 64 (length r)) 16)
-    (of-either (unless (isEdition (word32 r 0)) 17) _ (of-unless (isEdition (word32 r 0)) 17) (of-unless (allowed r) 18))
+    (of-either (unless (isEdition (word32 r 0)) 17) _ (of-unless (isEdition (word32 r 0)) 17)
+    (of-unless (allowed r) 18))
 
 row : (rows j : ℕ) → Unplaced (rowFault rows j)
 unfolding rowFault

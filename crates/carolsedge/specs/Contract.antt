@@ -1,4 +1,5 @@
--- What the C functions promise: there is an answer of which the crate below promises what document 01 says, and the number and the value are that answer's.
+-- What the C functions promise: there is an answer of which the crate below promises what document 01 says, and the
+-- number and the value are that answer's.
 use Prim.Native.Nat.{ℕ, _-_, _≤_}
 use mathlib.Core.Path.{_≡_}
 use mathlib.Core.List.{List, []}
@@ -36,7 +37,8 @@ pub record FedCapture (before : Arrays) (piece : List ℕ) (number value : ℕ) 
   pub valued : value ≡ valueOf answer
 
 -- the luma's arrays before, the piece, the number, the value, the arrays after
-pub record FedLuma (luma sums bins picture piece : List ℕ) (number value : ℕ) (luma′ sums′ bins′ picture′ : List ℕ) : Type 0 where
+pub record FedLuma (luma sums bins picture piece : List ℕ) (number value : ℕ)
+    (luma′ sums′ bins′ picture′ : List ℕ) : Type 0 where
   pub answer : Answer
   pub made : side-luma.FeedPost luma sums bins picture piece answer luma′ sums′ bins′ picture′
   pub numbered : number ≡ numberOf answer

@@ -19,7 +19,8 @@ use Rattle.rules.specs.Calls.{Reply, sealedInto, indexed, counted}
 
 abbrev pub figuresOf : Header → List ℕ
 figuresOf h =
-    h .edition ∷ h .units ∷ h .scenes ∷ h .width ∷ h .height ∷ h .time ∷ h .pid ∷ h .pictures ∷ h .frames ∷ h .skipped ∷ h .bad ∷ h .index ∷ []
+    h .edition ∷ h .units ∷ h .scenes ∷ h .width ∷ h .height ∷ h .time ∷ h .pid ∷ h .pictures ∷ h .frames ∷ h .skipped
+    ∷ h .bad ∷ h .index ∷ []
 
 abbrev pub unitFigures : UnitRow → List ℕ
 unitFigures u = u .least ∷ u .greatest ∷ u .size ∷ u .packets ∷ u .lost ∷ u .damaged ∷ []

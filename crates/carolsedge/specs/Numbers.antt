@@ -1,4 +1,5 @@
--- An answer's case as two numbers: document 01's number, 0 where the call is done, and the value, which is what the call answers or the refusal's place.
+-- An answer's case as two numbers: document 01's number, 0 where the call is done, and the value, which is what the
+-- call answers or the refusal's place.
 use Prim.Native.Nat.{ℕ}
 use Rattle.rules.specs.declared.Answer.{Answer}
 use Rattle.rules.specs.declared.Answer.the-variants.{Done, Refused}

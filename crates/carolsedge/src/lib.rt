@@ -84,7 +84,19 @@ pub extern "C" fn carolsedge_open(
     pid: u32,
     edition: u32,
 ) -> u32
-    ensures { λ r. ⌜ Opened (record { width = width; height = height; time = time; pid = pid; edition = edition }) r (record { capture = record { walk = now (walk .exit); kept = now (kept .exit); numbers = now (numbers .exit); table = now (table .exit) }; luma = now (luma .exit); sums = now (sums .exit); bins = now (bins .exit); picture = now (picture .exit) }) ⌝ }
+    ensures { λ r. ⌜ Opened (record { width = width; height = height; time = time; pid = pid; edition = edition }) r
+        (record {
+          capture = record {
+            walk = now (walk .exit);
+            kept = now (kept .exit);
+            numbers = now (numbers .exit);
+            table = now (table .exit);
+          };
+          luma = now (luma .exit);
+          sums = now (sums .exit);
+          bins = now (bins .exit);
+          picture = now (picture .exit);
+        }) ⌝ }
 {
     let o = Opening {
         width: width,
@@ -107,7 +119,17 @@ pub extern "C" fn carolsedge_feed_capture(
     piece: &[u8],
     value: &mut u64,
 ) -> u32
-    ensures { λ r. ⌜ FedCapture (record { walk = now (walk .entry); kept = now (kept .entry); numbers = now (numbers .entry); table = now (table .entry) }) (now (piece .entry)) r (now (value .exit)) (record { walk = now (walk .exit); kept = now (kept .exit); numbers = now (numbers .exit); table = now (table .exit) }) ⌝ }
+    ensures { λ r. ⌜ FedCapture (record {
+      walk = now (walk .entry);
+      kept = now (kept .entry);
+      numbers = now (numbers .entry);
+      table = now (table .entry);
+    }) (now (piece .entry)) r (now (value .exit)) (record {
+      walk = now (walk .exit);
+      kept = now (kept .exit);
+      numbers = now (numbers .exit);
+      table = now (table .exit);
+    }) ⌝ }
 {
     let a = sample::feed_capture(walk, kept, numbers, table, piece);
     *value = value_of(a);
@@ -124,14 +146,17 @@ pub extern "C" fn carolsedge_feed_luma(
     piece: &[u8],
     value: &mut u64,
 ) -> u32
-    ensures { λ r. ⌜ FedLuma (now (luma .entry)) (now (sums .entry)) (now (bins .entry)) (now (picture .entry)) (now (piece .entry)) r (now (value .exit)) (now (luma .exit)) (now (sums .exit)) (now (bins .exit)) (now (picture .exit)) ⌝ }
+    ensures { λ r. ⌜ FedLuma (now (luma .entry)) (now (sums .entry)) (now (bins .entry)) (now (picture .entry))
+        (now (piece .entry)) r (now (value .exit)) (now (luma .exit)) (now (sums .exit)) (now (bins .exit))
+        (now (picture .exit)) ⌝ }
 {
     let a = sample::feed_luma(luma, sums, bins, picture, piece);
     *value = value_of(a);
     number_of(a)
 }
 
-// Seals what was fed into the buffer. The value is the record's length, or the refusal's place; of 15 that is the length needed.
+// Seals what was fed into the buffer. The value is the record's length, or the refusal's place; of 15
+// that is the length needed.
 #[no_mangle]
 pub extern "C" fn carolsedge_seal(
     walk: &WalkWords,
@@ -142,8 +167,15 @@ pub extern "C" fn carolsedge_seal(
     buffer: &mut [u8],
     value: &mut u64,
 ) -> u32
-    ensures { λ r. ⌜ Told (record { capture = record { walk = now (walk .entry); kept = now (kept .entry); numbers = now (numbers .entry); table = now (table .entry) }; luma = now (luma .entry) })
-        (seal (now (buffer .entry))) r (now (value .exit)) (now (buffer .exit)) ⌝ }
+    ensures { λ r. ⌜ Told (record {
+      capture = record {
+        walk = now (walk .entry);
+        kept = now (kept .entry);
+        numbers = now (numbers .entry);
+        table = now (table .entry);
+      };
+      luma = now (luma .entry);
+    }) (seal (now (buffer .entry))) r (now (value .exit)) (now (buffer .exit)) ⌝ }
 {
     let a = sample::seal(walk, kept, numbers, table, luma, buffer);
     *value = value_of(a);
@@ -248,7 +280,8 @@ fn put_scene(row: &mut [u64; 7], s: SceneRow)
     ];
 }
 
-// Tests the whole record, and gives its header's figures. The place of 16 to 19 is 0; on a refusal the lent array stands as it was.
+// Tests the whole record, and gives its header's figures. The place of 16 to 19 is 0; on a refusal the
+// lent array stands as it was.
 #[no_mangle]
 pub extern "C" fn carolsedge_read_header(bytes: &[u8], figures: &mut [u64; 12]) -> u32
     ensures { λ r. ⌜ HeaderRead (now (bytes .entry)) (now (figures .entry)) r (now (figures .exit)) ⌝ }
@@ -290,10 +323,12 @@ pub extern "C" fn carolsedge_read_scene(bytes: &[u8], j: usize, row: &mut [u64; 
     }
 }
 
-// Prints a record's sheet into the buffer. The value is the pages' length, or the refusal's place; of 15 that is the length needed.
+// Prints a record's sheet into the buffer. The value is the pages' length, or the refusal's place; of 15
+// that is the length needed.
 #[no_mangle]
 pub extern "C" fn carolsedge_sheet(bytes: &[u8], buffer: &mut [u8], value: &mut u64) -> u32
-    ensures { λ r. ⌜ SheetPrinted (now (bytes .entry)) (now (buffer .entry)) r (now (value .exit)) (now (buffer .exit)) ⌝ }
+    ensures { λ r. ⌜ SheetPrinted (now (bytes .entry)) (now (buffer .entry)) r (now (value .exit))
+        (now (buffer .exit)) ⌝ }
 {
     let a = record_sheet::sheet(bytes, buffer);
     *value = value_of(a);

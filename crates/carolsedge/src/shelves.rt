@@ -55,8 +55,8 @@ pub extern "C" fn carolsedge_shelf_part(
     }
 }
 
-// Writes a shelf of records that lie end to end, each as long as its number in `lengths` says. The value is the shelf's
-// length, or the refusal's place; of 15 that is the length needed. A refusal leaves the buffer as it was.
+// Writes a shelf of records that lie end to end, each as long as its number in `lengths` says. The value is the
+// shelf's length, or the refusal's place; of 15 that is the length needed. A refusal leaves the buffer as it was.
 #[no_mangle]
 pub extern "C" fn carolsedge_shelf_write(
     records: &[u8],

@@ -1,5 +1,6 @@
--- Writing a shelf. Document 02, R-13, says what a shelf is and how it is read; that one is written, and what is refused
--- then, is the archive's wish (docs/DECISIONS.md). The records lie end to end in one string; a list has their lengths.
+-- Writing a shelf. Document 02, R-13, says what a shelf is and how it is read; that one is written, and
+-- what is refused then, is the archive's wish (docs/DECISIONS.md). The records lie end to end in one
+-- string; a list has their lengths.
 use Prim.Native.Nat.{ℕ, _+_, _≤_}
 use mathlib.Core.Path.{_≡_}
 use mathlib.Core.List.{List, [], _∷_, map}

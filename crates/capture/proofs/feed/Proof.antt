@@ -24,7 +24,11 @@ reply-requires c κs = search needs
 
 returns : tie.Need-returns
 returns c =
-    feed-post _ _ _ _ _ _ _ (c .before .before .before .before .before .before .before .before .before .before .before .before .load .ensures) (c .before .before .before .before .before .before .before .before .before .before .load2 .ensures) (c .before .before .before .before .before .before .before .run .ensures) (c .before .before .before .store .ensures) (c .before .store2 .ensures) (c .reply .ensures)
+    feed-post _ _ _ _ _ _ _
+    (c .before .before .before .before .before .before .before .before .before .before .before .before .load
+    .ensures) (c .before .before .before .before .before .before .before .before .before .before .load2 .ensures)
+    (c .before .before .before .before .before .before .before .run .ensures)
+    (c .before .before .before .store .ensures) (c .before .store2 .ensures) (c .reply .ensures)
 
 pub feed-spec : {M : Type 1} → statement M
 feed-spec =

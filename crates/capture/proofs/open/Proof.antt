@@ -22,7 +22,8 @@ element-write-numbers-3 c = search needs
 returns : tie.Need-returns
 returns c =
     let a = c .before .before .before .before .before .args in
-    opens _ (a .number) (a .pid) (a .edition) (c .before .before .«open» .ensures) (simp length-set refl) (length-replicate {A = ℕ} 3750 0) refl
+    opens _ (a .number) (a .pid) (a .edition) (c .before .before .«open» .ensures) (simp length-set refl)
+    (length-replicate {A = ℕ} 3750 0) refl
 
 pub open-spec : {M : Type 1} → statement M
 open-spec =

@@ -10,7 +10,9 @@ use Rattle.capture.proofs.run.Tie as tie
 
 abbrev Inv-loop : tie.InvT-loop
 Inv-loop kept₀ table₀ piece w₀ t₀ i₀ kept table w t i =
-    (i ≤ length piece) × Goes kept₀ table₀ (record { walk = w₀; tally = t₀ }) (take i piece) kept table (record { walk = w; tally = t })
+    (i ≤ length piece)
+    × Goes kept₀ table₀ (record { walk = w₀; tally = t₀ }) (take i piece) kept table
+    (record { walk = w; tally = t })
 
 abbrev μ-loop : tie.MeasureT-loop
 μ-loop kept₀ table₀ piece w₀ t₀ i₀ kept table w t i = length piece - i
@@ -33,15 +35,25 @@ take-requires c κs =
 
 add-i : tie.Need-add-i Inv-loop μ-loop
 add-i c =
-    let m = c .before .before .before .before .next .ensures .most in omega (arith, c .before .before .before .before .before .before .before .before .before .before .before .before .before .good .1 .1 .1 .0 .0)
+    let m = c .before .before .before .before .next .ensures .most in
+    omega (
+      arith,
+      c .before .before .before .before .before .before .before .before .before .before .before .before .before .good
+          .1 .1 .1 .0 .0,
+    )
 
 loop-less : tie.Need-loop-less Inv-loop μ-loop
 loop-less c =
-    let m = c .before .before .before .before .next .ensures .most in let p = c .before .before .before .before .next .ensures .some in omega arith
+    let m = c .before .before .before .before .next .ensures .most in let p =
+    c .before .before .before .before .next .ensures .some in omega arith
 
 loop-again : tie.Need-loop-again Inv-loop μ-loop
-loop-again c =
-    (c .before .before .before .before .next .ensures .most, goes-step _ _ (c .before .before .before .before .before .before .before .before .before .loop .inv .1) (c .before .before .before .before .before .before .if1 .left) (c .before .before .before .before .next .ensures) (c .before .take .ensures))
+loop-again c = (
+  c .before .before .before .before .next .ensures .most,
+  goes-step _ _ (c .before .before .before .before .before .before .before .before .before .loop .inv .1)
+      (c .before .before .before .before .before .before .if1 .left) (c .before .before .before .before .next .ensures)
+      (c .before .take .ensures),
+)
 
 returns-2 : tie.Need-returns-2 Inv-loop μ-loop
 returns-2 c =

@@ -18,7 +18,8 @@ summary-of-requires c κs = search needs
 
 returns : tie.Need-returns
 returns c =
-    sum-by _ _ _ _ _ (c .before .before .before .load .ensures) (c .before .before .load2 .ensures) (c .before .inside .ensures) (c .summary-of .ensures)
+    sum-by _ _ _ _ _ (c .before .before .before .load .ensures) (c .before .before .load2 .ensures)
+    (c .before .inside .ensures) (c .summary-of .ensures)
 
 pub sum-up-spec : {M : Type 1} → statement M
 sum-up-spec =

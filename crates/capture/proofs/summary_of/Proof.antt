@@ -17,7 +17,12 @@ low-requires-4 c κs = search needs
 
 returns : tie.Need-returns
 returns c =
-    rw (c .before .before .before .low .ensures, c .before .before .low2 .ensures, c .before .low3 .ensures, c .low4 .ensures)
+    rw (
+      c .before .before .before .low .ensures,
+      c .before .before .low2 .ensures,
+      c .before .low3 .ensures,
+      c .low4 .ensures,
+    )
 
 pub summary-of-spec : {M : Type 1} → statement M
 summary-of-spec =

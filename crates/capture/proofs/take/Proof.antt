@@ -20,7 +20,8 @@ check-requires c κs = search needs
 returns-2 : tie.Need-returns-2
 returns-2 c o kept before chunk st te v =
     let x = rw (c .before .before .e .given .1) at te in
-    take-shown v _ (c .check .ensures) ((rw (c .before .before .e .given .1) at (c .before .before .before .before .before .pre)) .1) (x .0) (x .1)
+    take-shown v _ (c .check .ensures)
+    ((rw (c .before .before .e .given .1) at (c .before .before .before .before .before .pre)) .1) (x .0) (x .1)
 
 enum-known-e-2 : tie.Need-enum-known-e-2
 enum-known-e-2 c = search needs

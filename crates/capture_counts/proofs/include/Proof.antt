@@ -19,7 +19,8 @@ add-cell-requires c κs = search needs
 
 returns-2 : tie.Need-returns-2
 returns-2 c =
-    as-unit _ (sym (c .before .before .before .is-early .ensures) ∙ c .before .before .if1 .left) (c .add-cell .ensures)
+    as-unit _ (sym (c .before .before .before .is-early .ensures) ∙ c .before .before .if1 .left)
+    (c .add-cell .ensures)
     refl
 
 pub include-spec : {M : Type 1} → statement M

@@ -25,7 +25,8 @@ taken-requires c κs = search needs
 
 returns-2 : tie.Need-returns-2
 returns-2 c =
-    begins-by _ _ (c .before .before .before .before .before .before .args .c) (c .before .before .before .before .before .if1 .left)
+    begins-by _ _ (c .before .before .before .before .before .before .args .c)
+    (c .before .before .before .before .before .if1 .left)
     (c .before .before .before .before .loss .ensures)
     (c .before .before .begun .ensures)
     (c .before .put-unit .ensures)

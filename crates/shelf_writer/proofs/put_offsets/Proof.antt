@@ -1,5 +1,5 @@
--- `put_offsets` meets its contract. The loop's invariant: the offsets of the records passed are put, and where the next
--- one starts. Assumes nothing.
+-- `put_offsets` meets its contract. The loop's invariant: the offsets of the records passed are put, and where the
+-- next one starts. Assumes nothing.
 use Prim.Native.Nat.{_+_, _-_, _≤_}
 use native.Mathlib.Omega.{arith}
 use mathlib.Core.Path.{_≡_, refl}
