@@ -108,6 +108,9 @@ fn main() {
         film("luma 1920 x 1080", 1920, 1080, 32),
         film("luma 64 x 48", 64, 48, 750),
         stream(),
+        film("luma 320 x 180", 320, 180, 300),
+        film("luma 640 x 360", 640, 360, 75),
+        film("luma 1280 x 720", 1280, 720, 19),
     ];
     println!(
         "{:18}{:>10}{:>9}{:>13}{:>11}{:>9}   ours by: independent  wide sum    memcpy",
@@ -155,7 +158,9 @@ fn goals_of(input: &Input, cut: Cut, times: &Times) -> Vec<(String, bool)> {
     let goal = |text: &str, holds: bool| (format!("{} at {}: {text}", input.name, name_of(cut)), holds);
     let whole = matches!(cut, Cut::Every(size) if size >= 65_536);
     match input.name {
-        "luma 64 x 48" => vec![goal("no slower than the independent program", alone >= 1.0)],
+        "luma 64 x 48" | "luma 320 x 180" | "luma 640 x 360" | "luma 1280 x 720" => {
+            vec![goal("no slower than the independent program", alone >= 1.0)]
+        }
         "capture" if whole => vec![
             goal("1.2 of the independent program", alone >= 1.2),
             goal("faster than the wide sum", sum > 1.0),
