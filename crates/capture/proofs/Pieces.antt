@@ -12,8 +12,8 @@ use Rattle.rules.specs.Refusals.{Fault, none, fault, _orElse_, answer}
 use Rattle.rules.specs.Opening.{openingFault}
 use Rattle.rules.specs.Capture.{captureFault}
 use Rattle.rules.specs.Seal.{captureAnswer}
-use Rattle.rules.proofs.Laws.Begins.{capture-kept}
-use Rattle.rules.proofs.Laws.Clear.{magic-early, link-early, header-units}
+use Rattle.capture_laws.proofs.Begins.{capture-kept}
+use Rattle.capture_laws.proofs.Clear.{magic-early, link-early, header-units}
 use Rattle.capture_walk.specs.declared.types.Walk.{Walk}
 use Rattle.capture_walk.specs.declared.types.Step.{Step}
 use Rattle.capture_walk.specs.Format.{formatFault}

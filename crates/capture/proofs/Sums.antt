@@ -8,8 +8,8 @@ use lib.ListN.{length}
 use borrow.Author.Tests.{eq-eqb, ne-eqb}
 use Rattle.rules.specs.declared.Opening.{Opening}
 use Rattle.rules.specs.Capture.{units, frameCount, skippedCount, tooManyUnits, captureInside}
-use Rattle.rules.proofs.Laws.Clear.{none-both}
-use Rattle.rules.proofs.Laws.Bounds.{frame-count-few, skipped-few, bad-few}
+use Rattle.capture_laws.proofs.Clear.{none-both}
+use Rattle.capture_laws.proofs.Bounds.{frame-count-few, skipped-few, bad-few}
 use Rattle.capture_cells.specs.declared.Cell.{Cell}
 use Rattle.capture_walk.specs.declared.types.Walk.{Walk}
 use Rattle.capture_walk.specs.Format.{formatFault, wholeCells}

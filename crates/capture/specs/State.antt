@@ -20,6 +20,9 @@ pub record Arrays : Type 0 where
   pub numbers : List ℕ
   pub table : List ℕ
 
+abbrev pub arraysOf : List ℕ → List ℕ → List ℕ → List ℕ → Arrays
+arraysOf walk kept numbers table = record { walk = walk; kept = kept; numbers = numbers; table = table }
+
 abbrev pub loaded : List ℕ → Tally
 loaded w =
     record {

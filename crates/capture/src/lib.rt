@@ -4,6 +4,7 @@
 ghost use Rattle.capture_walk.specs.Contract.{Fits};
 ghost use Rattle.capture.specs.Contract.{Opened, FeedPost, SumsUp, Takes, Goes, Replies, summaryOf, totalsIn};
 ghost use mathlib.Core.Path.{_≡_};
+ghost use Rattle.capture.specs.State.{arraysOf};
 
 mod numbers;
 
@@ -60,12 +61,8 @@ pub fn open(
     pid: u64,
     edition: u64,
 )
-    ensures { λ _. ⌜ Opened number pid edition (record {
-      walk = now (walk .exit);
-      kept = now (kept .exit);
-      numbers = now (numbers .exit);
-      table = now (table .exit);
-    }) ⌝ }
+    ensures { λ _. ⌜ Opened number pid edition
+        (arraysOf (now (walk .exit)) (now (kept .exit)) (now (numbers .exit)) (now (table .exit))) ⌝ }
 {
     capture_walk::open(walk, kept);
     *numbers = [0u64; NUMBERS];
@@ -145,17 +142,10 @@ pub fn feed(
     table: &mut Table,
     piece: &[u8],
 ) -> Answer
-    ensures { λ r. ⌜ FeedPost (record {
-      walk = now (walk .entry);
-      kept = now (kept .entry);
-      numbers = now (numbers .entry);
-      table = now (table .entry);
-    }) (now (piece .entry)) r (record {
-      walk = now (walk .exit);
-      kept = now (kept .exit);
-      numbers = now (numbers .exit);
-      table = now (table .exit);
-    }) ⌝ }
+    ensures { λ r. ⌜ FeedPost
+        (arraysOf (now (walk .entry)) (now (kept .entry)) (now (numbers .entry)) (now (table .entry)))
+        (now (piece .entry)) r
+        (arraysOf (now (walk .exit)) (now (kept .exit)) (now (numbers .exit)) (now (table .exit))) ⌝ }
 {
     let w = capture_walk::load(walk);
     let t = load(numbers);

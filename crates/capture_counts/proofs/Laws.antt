@@ -9,12 +9,12 @@ use lib.Seq.{drop-drop}
 use lib.Dec.{ltb, eqb}
 use borrow.Author.Tests.{eq-eqb, eqb-true}
 use Rattle.rules.specs.Bytes.{pick, count, only}
-use Rattle.rules.specs.Refusals.{Fault, none, fault}
+use Rattle.rules.specs.Refusals.{none, fault}
 use Rattle.rules.specs.Packets.{isBad, isDamaged, packetsFrom}
 use Rattle.rules.specs.Units as rule
 use Rattle.rules.specs.Capture.{beginsAt}
 use Rattle.rules.proofs.Laws.Lists.{both, count-append, count-few}
-use Rattle.rules.proofs.Laws.Onward.{from-split}
+use Rattle.capture_laws.proofs.Onward.{from-split}
 use Rattle.capture_cells.specs.declared.Cell.{Cell}
 use Rattle.capture_cells.specs.Cells.{cellIn, cellOf}
 use Rattle.capture_walk.specs.Format.{cellsFrom}
@@ -28,7 +28,7 @@ use Rattle.capture_units.proofs.More.{begins-nine, units-none, units-some}
 use Rattle.capture_units.proofs.Steps.{none-yet}
 use Rattle.capture_units.proofs.Laws.{all-few, all-append, from-append, from-none, before-some, before-none, nine-kept}
 use Rattle.capture_counts.specs.declared.Tally.{Tally}
-use Rattle.capture_counts.specs.Counts.{Counts, Stops, Counted, going, stopped, Checked, fits, full, Accounts}
+use Rattle.capture_counts.specs.Counts.{Counts, Counted, going, stopped, Checked, fits, full, Accounts}
 use Rattle.capture_counts.specs.Counts.{Runs, Checks, Takes, withBad, Included, as-bad, as-unit, passedBy}
 
 -- ---- a cell more

@@ -1,7 +1,6 @@
 // Counts of one identifier, cell by cell: the table of units, bad cells, and refusal 9. The edition decides how a cell
 // is seen.
 ghost use mathlib.Core.Path.{_≡_};
-ghost use mathlib.Core.List.{[], _∷_};
 ghost use mathlib.Core.Bool.{_&&_};
 ghost use Prim.Native.Nat.{_+_, _*_, _≤_};
 ghost use lib.ListN.{length};

@@ -20,14 +20,14 @@ use Rattle.rules.specs.Packets.{wantedOf, badOf}
 use Rattle.rules.specs.Units as rule
 use Rattle.rules.specs.Capture.{units, badCount, earlier, beginsAt, tooManyUnits, captureFault}
 use Rattle.rules.proofs.Laws.Lists.{only-append}
-use Rattle.rules.proofs.Laws.Flow.{reached, nine, nine-of, bad-of, wanted-of}
-use Rattle.rules.proofs.Laws.Clear.{none-both}
-use Rattle.rules.proofs.Laws.Faults.{no-fault, at-fault, Late, late-none, late-fault, Grows, same, new}
-use Rattle.rules.proofs.Laws.Begins.{units-grow}
-use Rattle.rules.proofs.Laws.Bounds.{only-few}
+use Rattle.capture_laws.proofs.Flow.{reached, nine, nine-of, bad-of, wanted-of}
+use Rattle.capture_laws.proofs.Clear.{none-both}
+use Rattle.capture_laws.proofs.Faults.{no-fault, at-fault, Late, late-none, late-fault, Grows, same, new}
+use Rattle.capture_laws.proofs.Begins.{units-grow}
+use Rattle.capture_laws.proofs.Bounds.{only-few}
 use Rattle.capture_cells.specs.declared.Cell.{Cell}
 use Rattle.capture_cells.specs.Cells.{cellIn, cellOf, head}
-use Rattle.capture_walk.specs.Format.{formatFault, headOf, shownCells, wholeCells}
+use Rattle.capture_walk.specs.Format.{formatFault, shownCells, wholeCells}
 use Rattle.capture_walk.specs.declared.types.Walk.{Walk}
 use Rattle.capture_walk.specs.Contract.{Gains, Level, Halts, again, surplus, silent}
 use Rattle.capture_walk.proofs.Format.{capture-format}

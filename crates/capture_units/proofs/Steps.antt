@@ -1,19 +1,19 @@
 -- What the table and the state stand for, cell by cell: with no code.
-use Prim.Native.Nat.{ℕ, zero, suc, _+_, _-_, _*_, _%_, _^_, _≤_, _<_}
+use Prim.Native.Nat.{ℕ, zero, suc, _+_, _*_, _%_, _^_, _≤_, _<_}
 use native.Mathlib.Omega.{arith}
 use native.Mathlib.Decide.{decLt}
 use mathlib.Core.Path.{_≡_, refl, sym, ap, _∙_}
 use mathlib.Core.List.{List, [], _∷_, _++_, append-nil}
 use mathlib.Core.Bool.{Bool, true, false}
 use lib.ListN.{length, getD, set, length-append, length-set, List·getD-append}
-use lib.Dec.{ltb, eqb}
+use lib.Dec.{ltb}
 use lib.Seq.{getD-set-same, getD-set-other, getD-at}
 use borrow.Author.Tests.{lt-ltb, le-ltb, eq-eqb, ne-eqb}
 use Rattle.rules.specs.declared.UnitRow.{UnitRow}
 use Rattle.rules.specs.Bytes.{pick, total}
 use Rattle.capture_cells.specs.declared.Cell.{Cell}
 use Rattle.rules.specs.Packets.{isDamaged}
-use Rattle.rules.proofs.Laws.UnitsMore.{allPackets, allLost, allDamaged}
+use Rattle.capture_laws.proofs.UnitsMore.{allPackets, allLost}
 use Rattle.capture_units.specs.Units.{marks, lastCounter, arrivalAfter, unitsOf, beginnings}
 use Rattle.capture_units.proofs.More.{alone, joins, hurt, more-fine, last-sound, last-damaged, beginnings-more}
 use Rattle.capture_units.proofs.More.{units-begin, units-join, units-hurt}

@@ -13,13 +13,13 @@ use Rattle.rules.specs.Refusals.{none}
 use Rattle.rules.specs.Frames.{storedLength, frameSize, frameTime}
 use Rattle.rules.specs.Packets.{Packet, packetsFrom, packetsOf, packets}
 use Rattle.rules.specs.Capture.{wholeFrames, unfinished}
+use Rattle.capture_laws.specs.UnderWay.{countOf, Split, current, Fine}
 use Rattle.rules.proofs.Laws.Lists.{only-append}
-use Rattle.rules.proofs.Laws.Frames.{size-append}
-use Rattle.rules.proofs.Laws.Onward.{base, base-sum, unfinished-short, countOf, count-more, time-more, roomy, reaching}
-use Rattle.rules.proofs.Laws.Onward.{of-from, from-split, from-done, from-whole, from-short, layout-more}
-use Rattle.rules.proofs.Laws.Flow.{Split, current, reached, passed, packetAt, now-short, more-short, now-done}
-use Rattle.rules.proofs.Laws.Flow.{more-done, now-first, more-first}
-use Rattle.rules.proofs.Laws.Clear.{Fine}
+use Rattle.capture_laws.proofs.Frames.{size-append}
+use Rattle.capture_laws.proofs.Onward.{base, base-sum, unfinished-short, count-more, time-more, roomy, reaching}
+use Rattle.capture_laws.proofs.Onward.{of-from, from-split, from-done, from-whole, from-short, layout-more}
+use Rattle.capture_laws.proofs.Flow.{reached, passed, packetAt, now-short, more-short, now-done}
+use Rattle.capture_laws.proofs.Flow.{more-done, now-first, more-first}
 use Rattle.capture_cells.specs.declared.Cell.{Cell}
 use Rattle.capture_cells.specs.Cells.{Agree, head, headIn, cellIn, cellOf}
 use Rattle.capture_cells.proofs.Agree.{agree-more, agree-sym, time-agree, head-agree, cell-agree}

@@ -12,9 +12,9 @@ use Rattle.rules.specs.Bytes.{pick, byte, word32, count}
 use Rattle.rules.specs.Refusals.{none, fault}
 use Rattle.rules.specs.Packets.{skipped}
 use Rattle.rules.specs.Capture.{earlier, wrongMagic, wrongLink}
-use Rattle.rules.proofs.Laws.Onward.{header-alone}
-use Rattle.rules.proofs.Laws.Flow.{reached}
-use Rattle.rules.proofs.Laws.Clear.{magic-more, magic-early, link-early, magic-shown, link-shown, reached-none}
+use Rattle.capture_laws.proofs.Onward.{header-alone}
+use Rattle.capture_laws.proofs.Flow.{reached}
+use Rattle.capture_laws.proofs.Clear.{magic-more, magic-early, link-early, magic-shown, link-shown, reached-none}
 use Rattle.capture_cells.specs.Cells.{isMagic}
 use Rattle.capture_cells.proofs.Agree.{magic-agree, link-agree}
 use Rattle.capture_walk.specs.declared.types.Walk.{Walk}

@@ -10,9 +10,9 @@ use Rattle.rules.specs.Bytes.{byte}
 use Rattle.rules.specs.Refusals.{none, fault}
 use Rattle.rules.specs.Frames.{microseconds, storedLength, frameSize}
 use Rattle.rules.specs.Capture.{wholeFrames, unfinished}
-use Rattle.rules.proofs.Laws.Onward.{base, base-sum, unfinished-short, countOf}
-use Rattle.rules.proofs.Laws.Flow.{Split, current, reached, early}
-use Rattle.rules.proofs.Laws.Clear.{Fine}
+use Rattle.capture_laws.specs.UnderWay.{countOf, Split, current, Fine}
+use Rattle.capture_laws.proofs.Onward.{base, base-sum, unfinished-short}
+use Rattle.capture_laws.proofs.Flow.{reached, early}
 use Rattle.capture_cells.specs.Cells.{Agree}
 use Rattle.capture_cells.proofs.Agree.{micro-agree, stored-agree, count-agree}
 use Rattle.capture_walk.specs.declared.types.Walk.{Walk}

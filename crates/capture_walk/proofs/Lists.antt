@@ -8,8 +8,8 @@ use lib.ListN.{length, take, drop, take-append-drop}
 use lib.Seq.{drop-drop, length-take-le}
 use Rattle.rules.specs.Refusals.{none}
 use Rattle.rules.specs.Packets.{Packet, packetsFrom, shown, whole}
-use Rattle.rules.proofs.Laws.Onward.{from-done}
-use Rattle.rules.proofs.Laws.Flow.{reached}
+use Rattle.capture_laws.proofs.Onward.{from-done}
+use Rattle.capture_laws.proofs.Flow.{reached}
 use Rattle.capture_cells.specs.declared.Cell.{Cell}
 use Rattle.capture_cells.specs.Cells.{head, cellIn, cellOf}
 use Rattle.capture_cells.proofs.Agree.{agree-take, agree-more, head-agree, cell-agree}

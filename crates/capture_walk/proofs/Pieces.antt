@@ -10,7 +10,7 @@ use borrow.Author.Tests.{lt-ltb, le-ltb}
 use lib.Seq.{take-all, length-take-le, sets, sets-eq}
 use Rattle.rules.specs.Refusals.{none, fault}
 use Rattle.rules.specs.Capture.{wholeFrames, unfinished, captureInside}
-use Rattle.rules.proofs.Laws.Clear.{magic-early, link-early, long-of}
+use Rattle.capture_laws.proofs.Clear.{magic-early, link-early, long-of}
 use Rattle.capture_walk.specs.declared.types.Walk.{Walk}
 use Rattle.capture_walk.specs.declared.types.Step.{Step}
 use Rattle.capture_walk.specs.declared.types.Event.the-variants.{Refused}

@@ -12,11 +12,12 @@ use Rattle.rules.specs.Refusals.{Fault, none, fault}
 use Rattle.rules.specs.Frames.{frameTime, behindHeader, frames, rest}
 use Rattle.rules.specs.Packets.{Packet, skipped, packetsFrom, packetsOf, packets}
 use Rattle.rules.specs.Capture.{wholeFrames, unfinished, allFrames, frameCount, skippedCount}
+use Rattle.capture_laws.specs.UnderWay.{countOf}
 use Rattle.rules.proofs.Laws.Lists.{only-append, endToEnd-append}
-use Rattle.rules.proofs.Laws.Frames.{frames-all}
-use Rattle.rules.proofs.Laws.Onward.{header-alone, countOf, of-from, reaching}
-use Rattle.rules.proofs.Laws.Flow.{reached}
-use Rattle.rules.proofs.Laws.Clear.{long-of, reached-none}
+use Rattle.capture_laws.proofs.Frames.{frames-all}
+use Rattle.capture_laws.proofs.Onward.{header-alone, of-from, reaching}
+use Rattle.capture_laws.proofs.Flow.{reached}
+use Rattle.capture_laws.proofs.Clear.{long-of, reached-none}
 use Rattle.capture_cells.specs.declared.Cell.{Cell}
 use Rattle.capture_cells.specs.Cells.{cellOf}
 use Rattle.capture_walk.specs.declared.types.Walk.{Walk}

@@ -8,7 +8,7 @@ use lib.ListN.{length, take, drop, getD}
 use Rattle.rules.specs.Refusals.{none, fault}
 use Rattle.rules.specs.Frames.{microseconds, storedLength, frameSize}
 use Rattle.rules.specs.Capture.{wholeFrames, unfinished, captureInside}
-use Rattle.rules.proofs.Laws.Clear.{Fine}
+use Rattle.capture_laws.specs.UnderWay.{Fine}
 use Rattle.capture_cells.specs.declared.Cell.{Cell}
 use Rattle.capture_cells.specs.Cells.{head}
 use Rattle.capture_walk.specs.declared.types.Walk.{Walk}

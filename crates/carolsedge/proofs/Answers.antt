@@ -1,11 +1,8 @@
--- The contracts of the reading functions, of the index and of a count of repeats, by the case of the answer.
-use Prim.Native.Nat.{ℕ, _-_, _≤_}
-use native.Mathlib.Omega.{arith}
-use mathlib.Core.Path.{_≡_, refl}
+-- The contracts of the reading functions and of the index, by the case of the answer.
+use Prim.Native.Nat.{ℕ}
+use mathlib.Core.Path.{_≡_}
 use mathlib.Core.List.{List}
 use lib.Ieee.{Float}
-use Rattle.rules.specs.declared.Answer.{Answer}
-use Rattle.rules.specs.declared.Answer.the-variants.{Done, Refused}
 use Rattle.rules.specs.declared.Index.{Index}
 use Rattle.rules.specs.declared.IndexAnswer.{IndexAnswer}
 use Rattle.rules.specs.declared.IndexAnswer.the-variants as of-index
@@ -19,14 +16,10 @@ use Rattle.rules.specs.declared.HeaderAnswer.the-variants as of-header
 use Rattle.rules.specs.declared.UnitAnswer.the-variants as of-unit
 use Rattle.rules.specs.declared.SceneAnswer.the-variants as of-scene
 use Rattle.rules.specs.Refusals.{listed}
-use Rattle.rules.specs.Calls.{counted}
 use Rattle.rules.specs.Reading.{headerAnswer, unitAnswer, sceneAnswer}
 use Rattle.carolsedge.specs.Figures.{figuresOf, unitFigures, sceneFigures, indexFigures}
-use Rattle.carolsedge.specs.Numbers.{numberOf, valueOf}
-use Rattle.carolsedge.specs.Contract.{HeaderRead, UnitRead, SceneRead, IndexTold, CountTold}
-use Rattle.rules.proofs.Laws.Listed.{listed-in}
+use Rattle.carolsedge.specs.Contract.{HeaderRead, UnitRead, SceneRead, IndexTold}
 use Rattle.sample.specs.WhileFeeding.{IndexPost}
-use Rattle.sample.specs.Passage.{RepeatsPost}
 
 module _ (b old : List ℕ) (a : HeaderAnswer) (e : a ≡ headerAnswer b) where
   pub header-done : (h : Header) (new : List ℕ) → a ≡ of-header.Given h → new ≡ figuresOf h → HeaderRead b old 0 new
@@ -57,19 +50,3 @@ module _ (numbers luma : List ℕ) (old : List Float) (a : IndexAnswer) (h : Ind
 
   pub index-refused : (k p r : ℕ) → a ≡ of-index.Refused k p → r ≡ listed k → IndexTold numbers luma old r p old
   index-refused k p r g n = record { answer = a; made = h .asked; numbered = rw g n; placed = rw g; given = rw g }
-
--- what is counted at most is the value, where nothing is refused
-most-counted : (r : Answer) (n : ℕ) → ((m : ℕ) → r ≡ Done m → m ≤ n) → numberOf r ≡ 0 → valueOf r ≤ n
-most-counted (Done m) n h e = h m refl
-most-counted (Refused k p) n h e = omega (arith, e, listed-in k .0)
-
-pub counted-told : (luma : List ℕ) (a b : ℕ) (r : Answer) → RepeatsPost luma a b r → (n v : ℕ) → n ≡ numberOf r →
-    v ≡ valueOf r →
-    CountTold luma a b n v
-counted-told luma a b r h n v en ev =
-    record {
-      told =
-          λ capture.
-          record { reply = counted r; made = h .asked capture; numbered = en; valued = ev; lent = refl; three = refl };
-      most = λ z. rw ev (most-counted r (b - a) (h .most) (rw (← en) z));
-    }

@@ -11,15 +11,15 @@ use Rattle.rules.specs.declared.Answer.{Answer}
 use Rattle.rules.specs.declared.IndexAnswer.{IndexAnswer}
 use Rattle.rules.specs.declared.IndexAnswer.the-variants.{Given, Refused}
 use Rattle.rules.specs.Bytes.{pick}
-use Rattle.rules.specs.Calls.{Reply, indexed, lentAfter, Call, Outcome, fed, replied}
+use Rattle.rules.specs.Calls.{Reply, indexed, counted, lentAfter, Call, Outcome, fed, replied}
 use Rattle.rules.proofs.Laws.Listed.{listed-in}
 use Rattle.sample.specs.State.{State}
 use Rattle.sample.specs.Calls as of-sample
 use Rattle.sample.proofs.Lists.{every-list}
 use Rattle.carolsedge.specs.Numbers.{numberOf, valueOf, indexNumber, replyNumber, replyValue}
 use Rattle.carolsedge.specs.Figures.{indexInto, threeOf}
-use Rattle.carolsedge.specs.Calls.{Left, leftOf, feedsCapture, feedsLuma, asks, asksIndex, MadeAll, done, next}
-use Rattle.carolsedge.specs.Calls.{EveryList}
+use Rattle.carolsedge.specs.Calls.{Left, leftOf, feedsCapture, feedsLuma, asks, asksIndex, asksRepeats}
+use Rattle.carolsedge.specs.Calls.{MadeAll, done, next, EveryList}
 
 record Under (st : State) (cs : List Call) (ls : List Left) (end : State) : Type 0 where
   outcomes : List Outcome
@@ -77,6 +77,13 @@ under (next (asksIndex {st = st} {before = before} p) r) =
       left =
           told-more _ _ [] _ (indexed (p .answer)) _ (u .outcomes) (p .numbered) (p .placed) refl
           (three-left (p .answer) _ before _ (p .numbered) (p .given)) (u .left);
+    }
+under (next (asksRepeats {st = st} p) r) =
+    let u = under r in
+    record {
+      outcomes = replied (counted (p .answer)) ∷ u .outcomes;
+      runs = of-sample.next (of-sample.asks (p .made .asked (st .capture))) (u .runs);
+      left = told-more _ _ [] [] (counted (p .answer)) _ (u .outcomes) (p .numbered) (p .valued) refl refl (u .left);
     }
 
 pub every-call : EveryList

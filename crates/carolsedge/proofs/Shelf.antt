@@ -7,7 +7,7 @@ use Rattle.rules.specs.declared.PartAnswer.{PartAnswer}
 use Rattle.rules.specs.declared.ShelfAnswer.the-variants as of-shelf
 use Rattle.rules.specs.declared.PartAnswer.the-variants as of-part
 use Rattle.rules.specs.Refusals.{Fault, none, fault, listed}
-use Rattle.rules.specs.Shelf.{recordCount, edge, shelfLost, shelfFault, partFault, orShelf, orPart, shelfAnswer}
+use Rattle.rules.specs.Shelf.{recordCount, shelfLost, shelfFault, partFault, orShelf, orPart, shelfAnswer}
 use Rattle.rules.specs.Shelf.{partAnswer}
 use Rattle.rules.proofs.Laws.Listed.{Numbered, shelf, part}
 use Rattle.shelf_writer.specs.Writing.{shelfLength, writingFault, writingAnswer}

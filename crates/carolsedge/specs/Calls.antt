@@ -9,14 +9,14 @@ use lib.Dec.{eqb}
 use Rattle.rules.specs.Bytes.{pick}
 use Rattle.rules.specs.declared.Opening.{Opening}
 use Rattle.rules.specs.Opening.{openAnswer}
-use Rattle.rules.specs.Calls.{Question, index, lentAfter, Call, feedCapture, feedLuma, ask, Outcome, fed, replied}
-use Rattle.rules.specs.Calls.{expected, lumaFed}
+use Rattle.rules.specs.Calls.{Question, index, repeats, lentAfter, Call, feedCapture, feedLuma, ask, Outcome, fed}
+use Rattle.rules.specs.Calls.{replied, expected, lumaFed}
 use Rattle.capture.specs.State.{Arrays}
 use Rattle.sample.specs.State.{State, wordsOf}
 use Rattle.sample.specs.Calls.{InHistograms}
 use Rattle.carolsedge.specs.Numbers.{numberOf, valueOf, replyNumber, replyValue}
 use Rattle.carolsedge.specs.Figures.{threeOf}
-use Rattle.carolsedge.specs.Contract.{Opened, FedCapture, FedLuma, Told, IndexTold}
+use Rattle.carolsedge.specs.Contract.{Opened, FedCapture, FedLuma, Told, IndexTold, CountTold}
 
 -- what a call leaves: its number, its value, of a question the lent bytes and, of an index that is given, its three
 -- f64 (after a refusal those that were lent stand: `IndexTold`)
@@ -52,6 +52,9 @@ pub data Made : State → Call → Left → State → Type 0 where
   asksIndex : {st : State} {n v : ℕ} {before after : List Float} →
       IndexTold (st .capture .numbers) (st .luma) before n v after →
       Made st (ask index) (record { number = n; value = v; lent = []; three = pick (eqb n 0) after [] }) st
+  asksRepeats : {st : State} {a b n v : ℕ} →
+      CountTold (st .luma) a b n v →
+      Made st (ask (repeats a b)) (record { number = n; value = v; lent = []; three = [] }) st
 
 -- calls that are made one after the other, the first on the state st; what they leave; and the state that the last
 -- leaves

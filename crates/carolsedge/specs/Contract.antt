@@ -1,6 +1,6 @@
 -- What the C functions promise: there is an answer of which the crate below promises what document 01 says, and the
 -- number and the value are that answer's.
-use Prim.Native.Nat.{ℕ, _-_, _≤_}
+use Prim.Native.Nat.{ℕ}
 use mathlib.Core.Path.{_≡_}
 use mathlib.Core.List.{List, []}
 use lib.ListN.{length}
@@ -11,12 +11,13 @@ use Rattle.rules.specs.declared.IndexAnswer.{IndexAnswer}
 use Rattle.rules.specs.declared.SurveyAnswer.{SurveyAnswer}
 use Rattle.rules.specs.Reading.{headerAnswer, unitAnswer, sceneAnswer}
 use Rattle.rules.specs.Sheet.{sheetAnswer, sheetBuffer}
-use Rattle.rules.specs.Calls.{Question, index, repeats, Reply, indexed, lentAfter}
+use Rattle.rules.specs.Calls.{Question, index, Reply, indexed, lentAfter}
 use Rattle.capture.specs.State.{Arrays}
 use Rattle.capture.specs.Contract as side-capture
 use Rattle.luma.specs.Contract as side-luma
 use Rattle.sample.specs.State.{State, Words}
 use Rattle.sample.specs.Contract.{OpenPost, Asked}
+use Rattle.sample.specs.Passage.{RepeatsPost}
 use Rattle.carolsedge.specs.Numbers.{numberOf, valueOf, replyNumber, replyValue, headerNumber, unitNumber}
 use Rattle.carolsedge.specs.Numbers.{sceneNumber, indexNumber, indexPlace, mostNumber, mostValue, mostCount}
 use Rattle.survey.specs.State as state-survey
@@ -44,7 +45,7 @@ pub record FedLuma (luma sums bins picture piece : List ℕ) (number value : ℕ
   pub numbered : number ≡ numberOf answer
   pub valued : value ≡ valueOf answer
 
--- of every question but the index: the words that it looks at, the question, the number, the value, the lent bytes
+-- of a question that lends bytes: the words that it looks at, the question, the number, the value, the lent bytes
 -- after
 pub record Told (w : Words) (q : Question) (number value : ℕ) (after : List ℕ) : Type 0 where
   pub reply : Reply
@@ -68,10 +69,10 @@ pub record IndexTold (numbers luma : List ℕ) (before : List Float) (number pla
 
 -- of a count of repeats: the luma words, a and b, the number, the value
 pub record CountTold (luma : List ℕ) (a b number value : ℕ) : Type 0 where
-  -- whatever stands in the capture side's arrays
-  pub told : (capture : Arrays) → Told (record { capture = capture; luma = luma }) (repeats a b) number value []
-  -- of every state: no more is counted than the passage has pictures
-  pub most : number ≡ 0 → value ≤ b - a
+  pub answer : Answer
+  pub made : RepeatsPost luma a b answer
+  pub numbered : number ≡ numberOf answer
+  pub valued : value ≡ valueOf answer
 
 -- the record's bytes, the lent array before, the number, the lent array after
 pub record HeaderRead (bytes before : List ℕ) (number : ℕ) (after : List ℕ) : Type 0 where

@@ -5,6 +5,8 @@ ghost use mathlib.Core.Path.{_≡_};
 ghost use Rattle.replay.specs.Script.{Replayed};
 ghost use Rattle.rules.specs.Refusals.{listed};
 ghost use Rattle.rules.specs.Calls.{seal};
+ghost use Rattle.capture.specs.State.{arraysOf};
+ghost use Rattle.sample.specs.State.{sampleOf, wordsIn};
 ghost use Rattle.carolsedge.specs.Numbers.{numberOf, valueOf};
 ghost use Rattle.carolsedge.specs.Figures.{figuresOf, unitFigures, sceneFigures};
 ghost use Rattle.carolsedge.specs.Contract.{Opened, FedCapture, FedLuma, Told, HeaderRead, UnitRead, SceneRead};
@@ -85,18 +87,8 @@ pub extern "C" fn carolsedge_open(
     edition: u32,
 ) -> u32
     ensures { λ r. ⌜ Opened (record { width = width; height = height; time = time; pid = pid; edition = edition }) r
-        (record {
-          capture = record {
-            walk = now (walk .exit);
-            kept = now (kept .exit);
-            numbers = now (numbers .exit);
-            table = now (table .exit);
-          };
-          luma = now (luma .exit);
-          sums = now (sums .exit);
-          bins = now (bins .exit);
-          picture = now (picture .exit);
-        }) ⌝ }
+        (sampleOf (arraysOf (now (walk .exit)) (now (kept .exit)) (now (numbers .exit)) (now (table .exit)))
+        (now (luma .exit)) (now (sums .exit)) (now (bins .exit)) (now (picture .exit))) ⌝ }
 {
     let o = Opening {
         width: width,
@@ -119,17 +111,10 @@ pub extern "C" fn carolsedge_feed_capture(
     piece: &[u8],
     value: &mut u64,
 ) -> u32
-    ensures { λ r. ⌜ FedCapture (record {
-      walk = now (walk .entry);
-      kept = now (kept .entry);
-      numbers = now (numbers .entry);
-      table = now (table .entry);
-    }) (now (piece .entry)) r (now (value .exit)) (record {
-      walk = now (walk .exit);
-      kept = now (kept .exit);
-      numbers = now (numbers .exit);
-      table = now (table .exit);
-    }) ⌝ }
+    ensures { λ r. ⌜ FedCapture
+        (arraysOf (now (walk .entry)) (now (kept .entry)) (now (numbers .entry)) (now (table .entry)))
+        (now (piece .entry)) r (now (value .exit))
+        (arraysOf (now (walk .exit)) (now (kept .exit)) (now (numbers .exit)) (now (table .exit))) ⌝ }
 {
     let a = sample::feed_capture(walk, kept, numbers, table, piece);
     *value = value_of(a);
@@ -167,15 +152,10 @@ pub extern "C" fn carolsedge_seal(
     buffer: &mut [u8],
     value: &mut u64,
 ) -> u32
-    ensures { λ r. ⌜ Told (record {
-      capture = record {
-        walk = now (walk .entry);
-        kept = now (kept .entry);
-        numbers = now (numbers .entry);
-        table = now (table .entry);
-      };
-      luma = now (luma .entry);
-    }) (seal (now (buffer .entry))) r (now (value .exit)) (now (buffer .exit)) ⌝ }
+    ensures { λ r. ⌜ Told
+        (wordsIn (arraysOf (now (walk .entry)) (now (kept .entry)) (now (numbers .entry)) (now (table .entry)))
+        (now (luma .entry)))
+        (seal (now (buffer .entry))) r (now (value .exit)) (now (buffer .exit)) ⌝ }
 {
     let a = sample::seal(walk, kept, numbers, table, luma, buffer);
     *value = value_of(a);

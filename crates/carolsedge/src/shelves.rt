@@ -1,6 +1,5 @@
 // A shelf (document 02, R-13) as C functions: each hands its memory to the call of `shelf` and splits the answer into
 // numbers.
-ghost use mathlib.Core.Path.{_≡_};
 ghost use Rattle.carolsedge.specs.Shelf.{ShelfOpened, PartTaken, ShelfWritten};
 use crate::listed_number;
 use crate::number_of;

@@ -9,8 +9,7 @@ use lib.ListN.{length, length-append, length-map}
 use lib.Dec.{leb, ltb, eqb, lit≤, lit<}
 use borrow.Author.Tests.{eqb-true, eqb-false, eq-eqb, ne-eqb, leb-true, leb-false}
 use Rattle.rules.specs.Bytes.{pick, total, count, table, endToEnd, All, empty, and}
-use Rattle.rules.proofs.Laws.Lists.{count-append, count-few}
-use Rattle.rules.proofs.Laws.Begins.{all-append}
+use Rattle.rules.proofs.Laws.Lists.{count-append, count-few, all-append}
 use Rattle.rules.specs.Units.{gapLoss}
 use Rattle.rules.specs.GapRuns.{gapLost, lostIn, gaps, runs, runsLosing, entryCount, gapTable, Total, NoFurther}
 use Rattle.rules.specs.GapRuns.{Narrow, AsCounted, Run, OnlyRuns, EachOnce}

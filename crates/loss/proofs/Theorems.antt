@@ -7,7 +7,7 @@ use mathlib.Core.Path.{_≡_, refl, sym, _∙_}
 use mathlib.Core.List.{List, [], _∷_, map}
 use mathlib.Core.Bool.{Bool, true, false, true≢false}
 use lib.IntN.{pos}
-use lib.ListN.{length, take, replicate}
+use lib.ListN.{length, replicate}
 use lib.Dec.{T, ltb, lit≤}
 use lib.Ieee.{Float, nan, inf, fin, binary64, up, down, round, ofInt, add, sub, mul, neg, sum, lt, le, eq, isNan}
 use lib.Ieee.Fits.{down-pos}
@@ -17,8 +17,7 @@ use Rattle.rules.specs.Bytes.{pick, All, empty, and}
 use Rattle.rules.specs.Refusals.{unless, _orElse_, answer}
 use Rattle.rules.specs.declared.Answer.the-variants.{Done}
 use Rattle.rules.specs.Index.{float}
-use Rattle.rules.proofs.Laws.Lists.{all-drop, all-take, both as ands}
-use Rattle.rules.proofs.Laws.Begins.{all-append}
+use Rattle.rules.proofs.Laws.Lists.{all-drop, all-take, both as ands, all-append}
 use Rattle.index.proofs.Bound.{AtMost, at-most, Is, is, finite, whole, under, small, upper, round-at-most}
 use Rattle.index.proofs.Bound.{add-at-most, mul-at-most}
 use Rattle.rules.specs.declared.Loss.the-variants.{KeyFrame, Plain}

@@ -5,9 +5,10 @@ use mathlib.Core.List.{List}
 use mathlib.Core.Bool.{Bool}
 use lib.ListN.{length, getD}
 use Rattle.rules.specs.declared.Answer.{Answer}
-use Rattle.rules.specs.declared.Answer.the-variants.{Done, Refused}
+use Rattle.rules.specs.declared.Answer.the-variants.{Done}
 use Rattle.rules.specs.Refusals.{answer}
 use Rattle.rules.specs.Passage.{repeatedIn, passageFault}
+use Rattle.rules.specs.Calls.{refusalOf}
 use Rattle.luma_laws.specs.Past.{mapWord}
 use Rattle.luma_state.specs.Layout.{repeatsAt}
 
@@ -25,6 +26,6 @@ pub record BetweenPost (w : List ℕ) (a b r : ℕ) : Type 0 where
 -- the answer for n whole pictures
 pub record AnswerPost (w : List ℕ) (n a b : ℕ) (r : Answer) : Type 0 where
   pub rule : (rs : List Bool) → Mapped w rs → length rs ≡ n → r ≡ answer (passageFault n a b) (repeatedIn a b rs)
-  -- of any words: refused with 26 at place 0, and no more counted than the passage has pictures
-  pub refused : (k p : ℕ) → r ≡ Refused k p → k ≡ 26
+  -- of any words: it is refused exactly as the rule says, and no more is counted than the passage has pictures
+  pub refusal : refusalOf r ≡ passageFault n a b
   pub most : (m : ℕ) → r ≡ Done m → m ≤ b - a

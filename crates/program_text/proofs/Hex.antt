@@ -1,10 +1,10 @@
 -- Hexadecimal text that is written byte by byte.
-use Prim.Native.Nat.{ℕ, suc, _+_, _*_, _/_, _%_, _≤_, _<_}
+use Prim.Native.Nat.{ℕ, _+_, _*_, _/_, _%_, _≤_, _<_}
 use native.Mathlib.Omega.{arith}
 use native.Mathlib.Numerals.{add-one}
 use mathlib.Core.Path.{_≡_, refl, sym, ap, _∙_}
-use mathlib.Core.List.{List, [], _∷_, _++_, map, map-append, append-nil}
-use lib.ListN.{length, length-append, length-drop, take, drop, set, getD}
+use mathlib.Core.List.{List, [], _∷_, _++_, map, map-append}
+use lib.ListN.{length, length-append, length-drop, take, set, getD}
 use lib.Seq.{take-suc, take-all, length-take-le}
 use Rattle.rules.specs.Bytes.{endToEnd}
 use Rattle.rules.specs.Seal.{over}

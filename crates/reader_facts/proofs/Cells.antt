@@ -1,5 +1,5 @@
 -- Capture records are carrying ones and passed-over ones, and every cell of a carrying one is counted once.
-use Prim.Native.Nat.{ℕ, zero, suc, _+_, _-_, _*_, _/_, _≤_}
+use Prim.Native.Nat.{ℕ, zero, suc, _+_, _-_, _/_}
 use native.Mathlib.Omega.{arith}
 use mathlib.Core.Path.{_≡_, refl, sym, ap, _∙_}
 use mathlib.Core.List.{List, [], _∷_, _++_, map}
@@ -11,8 +11,8 @@ use Rattle.rules.specs.Frames.{frameTime, body}
 use Rattle.rules.specs.Packets.{Packet, udpLength, carries, packetsFrom, packetsIn, packetsOf, packets, skipped}
 use Rattle.rules.specs.Packets.{whole}
 use Rattle.rules.specs.Capture.{wholeFrames, unfinished, units, frameCount, skippedCount, badCount}
-use Rattle.rules.proofs.Laws.UnitsMore.{allPackets, allDamaged}
-use Rattle.rules.proofs.Laws.Damage.{every-cell}
+use Rattle.capture_laws.proofs.UnitsMore.{allPackets, allDamaged}
+use Rattle.capture_laws.proofs.Damage.{every-cell}
 use Rattle.record_laws.proofs.Ranges.{all-reached}
 use Rattle.reader_facts.specs.Facts.{carrying, carriedCells, foreignCells}
 

@@ -1,31 +1,26 @@
 -- R-14: the statements of `specs/Facts` hold.
-use Prim.Native.Nat.{ℕ, zero, suc, _+_, _*_, _^_, _≤_, _<_}
+use Prim.Native.Nat.{ℕ, _*_, _≤_}
 use native.Mathlib.Omega.{arith}
-use mathlib.Core.Path.{_≡_, refl, sym, ap, _∙_, subst}
-use mathlib.Core.List.{List, [], _∷_, _++_, map}
-use mathlib.Core.Bool.{Bool, true, false, not}
-use lib.ListN.{length, take}
-use lib.Dec.{T}
-use lib.Ieee.{Float, binary64, ofBits, isNan, le}
+use mathlib.Core.Path.{_≡_, sym, ap, _∙_}
+use mathlib.Core.List.{List, [], _∷_}
+use mathlib.Core.Bool.{not}
+use lib.ListN.{length}
+use lib.Ieee.{Float, binary64}
 use lib.Ieee.Bits.{ofBits-toBits}
 use lib.Ieee.Fits.{add-fits}
 use Rattle.rules.specs.declared.Opening.{Opening}
 use Rattle.rules.specs.declared.Header.{Header}
-use Rattle.rules.specs.declared.Index.{Index}
 use Rattle.rules.specs.declared.UnitRow.{UnitRow}
-use Rattle.rules.specs.Bytes.{Bytes, word32, word64, total, count}
-use Rattle.rules.specs.Refusals.{none}
+use Rattle.rules.specs.Bytes.{Bytes, word32, word64, total}
 use Rattle.rules.specs.Index.{float, indexOf, valueOf, indexBits}
 use Rattle.rules.specs.Capture.{units, frameCount, skippedCount, badCount, wholeWanted}
 use Rattle.rules.specs.Changes.{repeats}
 use Rattle.rules.specs.Pictures.{pictureCount}
-use Rattle.rules.specs.Record.{recordBytes}
 use Rattle.rules.specs.Reading.{headerOf}
-use Rattle.rules.specs.Seal.{reduced, scenes, unrepeated, indexFrom, index, header, sealed, sealFault}
-use Rattle.rules.specs.Calls.{captureFed, lumaFed}
+use Rattle.rules.specs.Seal.{reduced, scenes, unrepeated, indexFrom, index, header, sealed}
 use Rattle.rules.proofs.Laws.Lists.{count-few}
-use Rattle.rules.proofs.Laws.Bounds.{wanted-few}
-use Rattle.rules.proofs.Laws.UnitsMore.{allPackets, allLost, allDamaged, packets-total, lost-small}
+use Rattle.capture_laws.proofs.Bounds.{wanted-few}
+use Rattle.capture_laws.proofs.UnitsMore.{allPackets, allLost, allDamaged, packets-total, lost-small}
 use Rattle.luma_laws.proofs.Past.{length-repeats}
 use Rattle.luma_laws.proofs.Counted.{reduced-length}
 use Rattle.luma_laws.proofs.Scenes.{pictures-most}
@@ -34,7 +29,7 @@ use Rattle.record_laws.proofs.Ranges.{Sealable, sealable, UnitRange, unit-range
 use Rattle.index.specs.Counts.{Counts}
 use Rattle.index.proofs.Bound.{at-least-one, at-most-five, no-nan}
 use Rattle.sample.proofs.ReadBack.{sealed-well, in-front, sealed-last}
-use Rattle.reader_facts.specs.Facts.{carrying, carriedCells, foreignCells, unitWords, unitRows, indexIn}
+use Rattle.reader_facts.specs.Facts.{unitWords, indexIn}
 use Rattle.reader_facts.specs.Facts.{AllCounted, OneToFive, SameUnits, SealedBy}
 use Rattle.reader_facts.specs.Facts.{EverySealCounts, EverySealOneToFive, EqualCapturesEqualUnits}
 use Rattle.reader_facts.proofs.Cells.{records-counted, cells-counted}

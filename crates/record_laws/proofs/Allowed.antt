@@ -13,7 +13,7 @@ use borrow.Author.Tests.{eq-eqb, eqb-true, leb-true}
 use Rattle.rules.specs.declared.Header.{Header}
 use Rattle.rules.specs.declared.UnitRow.{UnitRow}
 use Rattle.rules.specs.declared.SceneRow.{SceneRow}
-use Rattle.rules.specs.Bytes.{pick, within, word32, word64, bytesOf, endToEnd, table}
+use Rattle.rules.specs.Bytes.{pick, within, word32, bytesOf, endToEnd, table}
 use Rattle.rules.specs.Editions.{isEdition, knowsDamage}
 use Rattle.rules.specs.Opening.{goodSize, goodTime, goodPid}
 use Rattle.rules.specs.Record.{recordLength, sceneOffset, headerBytes, unitBytes, sceneBytes, recordBytes}

@@ -5,3 +5,4 @@ pub mod Record
 pub mod Allowed
 pub mod Ranges
 pub mod Sealed
+pub mod Editions

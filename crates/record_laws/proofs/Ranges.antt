@@ -38,17 +38,16 @@ use Rattle.rules.specs.Seal.{reduced, scenesIn, scenes, indexFrom, index, heade
 use Rattle.rules.specs.Seal.{lumaUnfinished, noPicture, sealFault}
 use Rattle.luma_laws.proofs.Pictures.{bytes-take, bytes-drop}
 use Rattle.record_laws.proofs.Words.{word32-fits}
-use Rattle.rules.proofs.Laws.Frames.{size-least, by-frames, frames-none, frames-one}
-use Rattle.rules.proofs.Laws.Begins.{only-all, all-append}
-use Rattle.rules.proofs.Laws.Onward.{base, base-sum, Whole, frames-whole, of-none, of-from, layout}
-use Rattle.rules.proofs.Laws.Flow.{reached, wanted-of, nine-of, few-begin}
-use Rattle.rules.proofs.Laws.Lists.{all-drop, count-few, inside, smaller-min, larger-max}
-use Rattle.rules.proofs.Laws.Clear.{none-both, clear-of, long-of, shows}
-use Rattle.rules.proofs.Laws.Bounds.{frame-count-few, skipped-few, bad-few, wanted-few}
+use Rattle.capture_laws.proofs.Frames.{size-least, by-frames, frames-none, frames-one}
+use Rattle.capture_laws.proofs.Onward.{base, base-sum, Whole, frames-whole, of-none, of-from, layout}
+use Rattle.capture_laws.proofs.Flow.{reached, wanted-of, nine-of, few-begin}
+use Rattle.rules.proofs.Laws.Lists.{all-drop, count-few, inside, smaller-min, larger-max, only-all, all-append}
+use Rattle.capture_laws.proofs.Clear.{none-both, clear-of, long-of, shows}
+use Rattle.capture_laws.proofs.Bounds.{frame-count-few, skipped-few, bad-few, wanted-few}
 use Rattle.luma_laws.proofs.Sizes.{good}
 use Rattle.luma_laws.proofs.Ranges.{AtMost, sample-scored, sample-changed}
-use Rattle.rules.proofs.Laws.UnitsMore.{units-beginnings, packets-total, lost-small, allPackets, allLost, allDamaged}
-use Rattle.rules.proofs.Laws.Damage.{cells-groups, zero-units}
+use Rattle.capture_laws.proofs.UnitsMore.{units-beginnings, packets-total, lost-small, allPackets, allLost, allDamaged}
+use Rattle.capture_laws.proofs.Damage.{cells-groups, zero-units}
 use Rattle.record_laws.proofs.Record.{Each, UnitFits, SceneFits, Figures}
 use Rattle.luma_laws.proofs.Spans.{longest-most, peak-most}
 use Rattle.luma_laws.proofs.Scenes.{Apart, last, next, starts-apart, below-length, starts-first, sample-scores}

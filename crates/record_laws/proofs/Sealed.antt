@@ -27,7 +27,7 @@ use Rattle.rules.specs.Seal.{scenes, header, sealed, sealedLength, sealFault}
 use Rattle.record_laws.proofs.Record.{Each, Figures, length-record, header-read, unit-read, scene-read}
 use Rattle.record_laws.proofs.Allowed.{goodHeader, goodUnit, goodUnits, goodScenes, goodFigures}
 use Rattle.record_laws.proofs.Allowed.{allowed-figures, record-allowed}
-use Rattle.rules.proofs.Laws.Bounds.{skipped-few}
+use Rattle.capture_laws.proofs.Bounds.{skipped-few}
 use Rattle.luma_laws.proofs.Scenes.{Joins, pictures-most, sample-joins}
 use Rattle.luma_laws.proofs.Most.{sample-few}
 use Rattle.record_laws.proofs.Ranges.{Sealable, sealable, UnitRange, units-most, unit-ranges, unit-zeros}

@@ -5,15 +5,15 @@ use mathlib.Core.Path.{_≡_, refl, sym, ap, _∙_}
 use mathlib.Core.Bool.{Bool, true, false}
 use mathlib.Core.List.{List}
 use lib.ListN.{length, drop}
-use lib.Dec.{leb, ltb, eqb}
-use borrow.Author.Tests.{lt-ltb, le-ltb, le-leb, lt-leb, eq-eqb, ne-eqb}
+use lib.Dec.{leb}
+use borrow.Author.Tests.{lt-ltb, le-ltb, le-leb, lt-leb}
 use Rattle.rules.specs.declared.Header.{Header}
 use Rattle.rules.specs.declared.UnitRow.{UnitRow}
 use Rattle.rules.specs.declared.SceneRow.{SceneRow}
 use Rattle.rules.specs.declared.HeaderAnswer.the-variants as of-header
 use Rattle.rules.specs.declared.UnitAnswer.the-variants as of-unit
 use Rattle.rules.specs.declared.SceneAnswer.the-variants as of-scene
-use Rattle.rules.specs.Bytes.{pick, word32}
+use Rattle.rules.specs.Bytes.{word32}
 use Rattle.rules.specs.Refusals.{Fault, none, fault, unless, _orElse_}
 use Rattle.rules.specs.Record.{recordLength, sceneOffset}
 use Rattle.rules.specs.Editions.{isEdition, knowsDamage}

@@ -1,6 +1,6 @@
 -- The view that `open` makes answers as the rules say, by the contracts of `open` and of the
 -- three functions over a view.
-use mathlib.Core.Path.{_≡_, subst}
+use mathlib.Core.Path.{subst}
 use mathlib.Core.List.{List}
 use Prim.Native.Nat.{ℕ}
 use denote.Ref.{RefT, now}

@@ -18,13 +18,12 @@ use Rattle.rules.specs.declared.UnitAnswer.the-variants as of-unit
 use Rattle.rules.specs.declared.SceneAnswer.the-variants as of-scene
 use Rattle.rules.specs.Bytes.{pick, word32}
 use Rattle.rules.specs.Refusals.{Fault, none, fault}
-use Rattle.rules.specs.Pictures.{ifOpened}
 use Rattle.rules.specs.Record.{recordLength}
 use Rattle.rules.specs.Reading.{headerOf, unitAt, sceneAt, orUnit, orScene, readingFault, rowFault, unitFault}
 use Rattle.rules.specs.Reading.{sceneFault, headerAnswer, unitAnswer, sceneAnswer}
 use Rattle.record_reader.specs.declared.Opened.the-variants.{Accepted}
 use Rattle.record_reader.specs.Opened.{openedAs}
-use Rattle.record_reader.proofs.Answers.{AcceptedAs, accepted-as}
+use Rattle.record_reader.proofs.Answers.{accepted-as}
 use Rattle.record_view.specs.Seen.{unitsOf, scenesOf, fits, HeaderSeen, UnitSeen, SceneSeen}
 
 -- ---- counts that fit

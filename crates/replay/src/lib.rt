@@ -7,6 +7,8 @@ ghost use mathlib.Core.Path.{_≡_};
 ghost use Prim.Native.Nat.{_-_, _≤_};
 ghost use lib.ListN.{length, replicate};
 ghost use Rattle.rules.specs.Calls.{seal};
+ghost use Rattle.capture.specs.State.{arraysOf};
+ghost use Rattle.sample.specs.State.{sampleOf, wordsIn};
 ghost use Rattle.replay.specs.Script.{FedCapture, FedLuma, Replied, IndexReplied, CountReplied};
 ghost use Rattle.replay.specs.Script.{Called, CallPost, All, Replayed};
 
@@ -38,17 +40,11 @@ fn call_capture(
     out: &mut [u8],
 )
     requires { ⌜ length (now out) ≡ 17 ⌝ }
-    ensures { λ _. ⌜ FedCapture (record {
-      walk = now (walk .entry);
-      kept = now (kept .entry);
-      numbers = now (numbers .entry);
-      table = now (table .entry);
-    }) (now (piece .entry)) (record {
-      walk = now (walk .exit);
-      kept = now (kept .exit);
-      numbers = now (numbers .exit);
-      table = now (table .exit);
-    }) (now (out .exit)) ⌝ }
+    ensures { λ _. ⌜ FedCapture
+        (arraysOf (now (walk .entry)) (now (kept .entry)) (now (numbers .entry)) (now (table .entry)))
+        (now (piece .entry))
+        (arraysOf (now (walk .exit)) (now (kept .exit)) (now (numbers .exit)) (now (table .exit)))
+        (now (out .exit)) ⌝ }
 {
     let a = sample::feed_capture(walk, kept, numbers, table, piece);
     put(out, a);
@@ -80,15 +76,9 @@ fn call_seal(
     out: &mut [u8],
 )
     requires { ⌜ 17 ≤ length (now out) ⌝ }
-    ensures { λ _. ⌜ Replied (record {
-      capture = record {
-        walk = now (walk .entry);
-        kept = now (kept .entry);
-        numbers = now (numbers .entry);
-        table = now (table .entry);
-      };
-      luma = now (luma .entry);
-    })
+    ensures { λ _. ⌜ Replied
+        (wordsIn (arraysOf (now (walk .entry)) (now (kept .entry)) (now (numbers .entry)) (now (table .entry)))
+        (now (luma .entry)))
         (seal (replicate (length (now (out .entry)) - 17) 0xA5)) (now (out .exit)) ⌝ }
 {
     fill(&mut out[17..]);
@@ -128,29 +118,13 @@ fn call(
     out: &mut [u8],
 ) -> usize
     requires { ⌜ Called (now script) at h (length (now out)) ⌝ }
-    ensures { λ r. ⌜ CallPost (record {
-      capture = record {
-        walk = now (walk .entry);
-        kept = now (kept .entry);
-        numbers = now (numbers .entry);
-        table = now (table .entry);
-      };
-      luma = now (luma .entry);
-      sums = now (sums .entry);
-      bins = now (bins .entry);
-      picture = now (picture .entry);
-    }) (now (script .entry)) at h r (record {
-      capture = record {
-        walk = now (walk .exit);
-        kept = now (kept .exit);
-        numbers = now (numbers .exit);
-        table = now (table .exit);
-      };
-      luma = now (luma .exit);
-      sums = now (sums .exit);
-      bins = now (bins .exit);
-      picture = now (picture .exit);
-    }) (now (out .exit)) ⌝ }
+    ensures { λ r. ⌜ CallPost
+        (sampleOf (arraysOf (now (walk .entry)) (now (kept .entry)) (now (numbers .entry)) (now (table .entry)))
+        (now (luma .entry)) (now (sums .entry)) (now (bins .entry)) (now (picture .entry)))
+        (now (script .entry)) at h r
+        (sampleOf (arraysOf (now (walk .exit)) (now (kept .exit)) (now (numbers .exit)) (now (table .exit)))
+        (now (luma .exit)) (now (sums .exit)) (now (bins .exit)) (now (picture .exit)))
+        (now (out .exit)) ⌝ }
 {
     let from = at + 5;
     match h {
@@ -193,18 +167,10 @@ fn all(
     script: &[u8],
     out: &mut [u8],
 )
-    ensures { λ _. ⌜ All (record {
-      capture = record {
-        walk = now (walk .entry);
-        kept = now (kept .entry);
-        numbers = now (numbers .entry);
-        table = now (table .entry);
-      };
-      luma = now (luma .entry);
-      sums = now (sums .entry);
-      bins = now (bins .entry);
-      picture = now (picture .entry);
-    }) (now (script .entry)) (now (out .entry)) (now (out .exit)) ⌝ }
+    ensures { λ _. ⌜ All
+        (sampleOf (arraysOf (now (walk .entry)) (now (kept .entry)) (now (numbers .entry)) (now (table .entry)))
+        (now (luma .entry)) (now (sums .entry)) (now (bins .entry)) (now (picture .entry)))
+        (now (script .entry)) (now (out .entry)) (now (out .exit)) ⌝ }
 {
     let mut at: usize = 20;
     let mut to: usize = 0;

@@ -1,8 +1,8 @@
 -- Document 02, R-6: worked cells, units and records with damage, as a table with one theorem over its entries.
-use Prim.Native.Nat.{ℕ, _+_, _*_, _/_, _%_}
+use Prim.Native.Nat.{ℕ, _+_, _/_, _%_}
 use mathlib.Core.Path.{_≡_, refl}
 use mathlib.Core.List.{List, [], _∷_, _++_, map}
-use lib.ListN.{replicate, set, drop}
+use lib.ListN.{replicate, set}
 use Rattle.rules.specs.declared.Condition.{Condition}
 use Rattle.rules.specs.declared.Condition.the-variants.{Good, Damaged, Bad}
 use Rattle.rules.specs.declared.Opening.{Opening}
@@ -12,20 +12,20 @@ use Rattle.rules.specs.Editions.{isEdition, heedsSplices, knowsDamage}
 use Rattle.rules.specs.Opening.{goodSize, goodTime, goodPid, openingFault}
 use Rattle.rules.specs.Frames.{seconds, microseconds, storedLength, frameTime, body, frameSize, framesUpTo}
 use Rattle.rules.specs.Frames.{restUpTo, frames, rest, behindHeader}
-use Rattle.rules.specs.Packets.{Packet, ipLength, udpLength, carries, packetsFrom, packetsIn, packetsOf, packets}
+use Rattle.rules.specs.Packets.{ipLength, udpLength, carries, packetsFrom, packetsIn, packetsOf, packets}
 use Rattle.rules.specs.Packets.{shown, whole}
 use Rattle.rules.specs.Packets.{startsCell, damageMark, condition, identifier, isWanted, startMark, counter}
 use Rattle.rules.specs.Packets.{spliceMark, wantedOf, badOf}
 use Rattle.rules.specs.Units.{gapLoss, setApart, lossBetween, arrivalsAfter, arrivals, beforeUnits, groups}
 use Rattle.rules.specs.Units.{cellsOf, leastTime, unitOf, unitsOf, beginnings}
 use Rattle.rules.specs.Capture.{wholeFrames, unfinished, allFrames, wholeWanted, shownWanted, units, badCount}
-use Rattle.rules.specs.Capture.{beginsAt, tooManyUnits}
+use Rattle.rules.specs.Capture.{tooManyUnits}
 use Rattle.rules.specs.Record.{recordLength, sceneOffset, unitBytes}
 use Rattle.rules.specs.Reading.{allowedHeader, allowedUnit, allowedUnits, allowedScene, allowedScenes}
 use Rattle.rules.specs.Reading.{allowedRows, allowed, readingFault}
 use Rattle.rules.specs.Seal.{noPacket}
 use Rattle.rules.proofs.Worked.{Case}
-use Rattle.rules.proofs.Samples.{goodHeader, frameWith, packetOf, openedBy, toldFault, words, marks, showRecord}
+use Rattle.rules.proofs.Samples.{goodHeader, frameWith, packetOf, openedBy, toldFault, words, showRecord}
 
 -- what a cell is, as a number: 0 good, 1 damaged, 2 bad
 abbrev told : Condition → ℕ
@@ -69,10 +69,6 @@ onlyBroken e =
     let capture : List ℕ = goodHeader ++ frameWith 0 0 2 (brokenOf 256 0x40 3 ++ brokenOf 256 0 4) in
     toldFault (noPacket (units (by e) capture)) ++ badCount (by e) capture ∷ []
 
--- 750 start marks and a damaged one
-oneBroken : List Packet
-oneBroken = marks 750 ++ record { time = 0; place = 141000; bytes = 0x47 ∷ 0xC1 ∷ 0x00 ∷ 0x10 ∷ [] } ∷ []
-
 -- an edition's record whose byte at this place is 1
 readBy : ℕ → ℕ → List ℕ
 readBy e place = toldFault (readingFault (set (set showRecord 0 e) place 1))
@@ -105,12 +101,6 @@ broken =
     ∷ record { rule = lostBy 3 ++ lostBy 4; paper = 1 ∷ 7 ∷ [] }
     -- 12: damaged packets alone begin no unit, and are bad cells
     ∷ record { rule = onlyBroken 4 ++ onlyBroken 3; paper = 12 ∷ 0 ∷ 2 ∷ 0 ∷ 0 ∷ 0 ∷ [] }
-    -- 9: a damaged start mark begins no 751st unit
-    ∷ record {
-      rule = toldFault (beginsAt (drop 750 (beginnings 4 oneBroken)))
-          ++ toldFault (beginsAt (drop 750 (beginnings 3 oneBroken)));
-      paper = 0 ∷ 0 ∷ 9 ∷ 141003 ∷ [];
-    }
     -- 18: word 28 of a unit row passes in edition 4 and not in 3; a scene row's passes in none
     ∷ record {
       rule = readBy 4 92 ++ readBy 4 95 ++ readBy 3 92 ++ readBy 4 124;
@@ -120,7 +110,7 @@ broken =
 
 -- the theorem: every entry's rule gives what document 02 says
 pub set-apart : map (λ (c : Case). c .rule) broken ≡ map (λ (c : Case). c .paper) broken
-unfolding broken rooftop rowsBy lostBy onlyBroken oneBroken readBy words marks showRecord word32 word64 network16
+unfolding broken rooftop rowsBy lostBy onlyBroken readBy words showRecord word32 word64 network16
     bytesOf total greatestOf leastOf count only table endToEnd isEdition heedsSplices knowsDamage goodSize goodTime
     goodPid openingFault seconds microseconds storedLength frameTime body frameSize framesUpTo restUpTo frames rest
     behindHeader ipLength udpLength carries packetsFrom packetsIn packetsOf packets shown whole startsCell damageMark

@@ -1,6 +1,5 @@
 -- Document 02, R-10: tables of gap runs as far as a hand counts them, answers and lent tables, as a table with one
 -- theorem over its entries.
-use Prim.Native.Nat.{ℕ}
 use mathlib.Core.Path.{_≡_, refl}
 use mathlib.Core.List.{List, [], _∷_, _++_, map}
 use lib.ListN.{take, drop, replicate}

@@ -28,7 +28,7 @@ use Rattle.rules.specs.Index.{icOf, ipOf, valueOf, indexOf}
 use Rattle.rules.specs.Seal.{reduced, unrepeated, indexFrom, index, noPacket, noPicture, captureAnswer}
 use Rattle.rules.specs.Seal.{lumaAnswer}
 use Rattle.rules.specs.WhileFeeding.{indexFault, indexAnswer}
-use Rattle.rules.specs.Calls.{Call, feedCapture, feedLuma, ask, index as asked, expected}
+use Rattle.rules.specs.Calls.{feedCapture, feedLuma, ask, index as asked, expected}
 use Rattle.rules.proofs.Worked.{Case}
 use Rattle.rules.proofs.Samples.{goodHeader, frameWith, packetOf, opened, small, run, oneFrame, picture}
 

@@ -1,11 +1,12 @@
--- Small whole samples, through every rule from the bytes to the answers: the example of document 01's `show`, a scene
--- cut, a loss across a unit's start, and the small input of each refusal. Each is a theorem that the checker computes.
+-- Small samples: a loss across a unit's start, the editions, and the small input of each refusal but 9. Each is a
+-- theorem that the checker computes. Whole samples, from the bytes to the record, and 9 take longer: they stand in the
+-- crate worked_samples, so that a wrong rule is refused here at once.
 use Prim.Native.Nat.{ℕ, _+_, _*_, _/_, _%_}
 use native.Mathlib.Omega.{arith}
 use borrow.Author.Tests.{lt-ltb}
 use mathlib.Core.Path.{_≡_, refl}
 use mathlib.Core.List.{List, [], _∷_, _++_, map}
-use lib.ListN.{length, replicate, set, drop}
+use lib.ListN.{length, replicate, set}
 use lib.Ieee.{binary64, add, mul, div, ofInt, toBits}
 use Rattle.rules.specs.declared.Opening.{Opening}
 use Rattle.rules.specs.declared.Answer.{Answer}
@@ -27,7 +28,7 @@ use Rattle.rules.specs.Units.{gapLoss, setApart, lossBetween, arrivalsAf
 use Rattle.rules.specs.Units.{cellsOf, leastTime, unitOf, unitsOf, beginnings}
 use Rattle.rules.specs.Capture.{wholeFrames, unfinished, allFrames, wholeWanted, shownWanted, units, frameCount}
 use Rattle.rules.specs.Capture.{skippedCount, badCount, showing, tooLong, wrongMagic, wrongLink}
-use Rattle.rules.specs.Capture.{wrongFrameHeader, wrongFrame, tooManyUnits, beginsAt, captureFault}
+use Rattle.rules.specs.Capture.{wrongFrameHeader, wrongFrame, tooManyUnits, captureFault}
 use Rattle.rules.specs.Capture.{captureInside}
 use Rattle.rules.specs.Pictures.{pictureSize, pictureCount, pictures, lumaFault, rows, band, blockSum, pixelIn}
 use Rattle.rules.specs.Pictures.{pixel, pixelLine, pixels}
@@ -166,25 +167,9 @@ feeding capture = told (captureAnswer small capture (length capture))
 
 pub samples : List Case
 samples =
-    -- `show`'s example, into a buffer of two bytes more
-    record {
-      rule =
-          run (opened 30 30 40000 256)
-          (feedCapture oneFrame ∷ feedLuma (replicate 1800 16) ∷ ask (seal (replicate 130 0xA5)) ∷ []);
-      paper = 0 ∷ 0 ∷ 0 ∷ 270 ∷ 0 ∷ 1800 ∷ 0 ∷ 128 ∷ showRecord ++ 0xA5 ∷ 0xA5 ∷ [];
-    }
-    -- a cut from black to white at picture 3 of 6: s is 1,000,000 there, and q is 0, since every pixel rises alike
-    ∷ record {
-      rule = sealed small oneFrame (replicate 1350 16 ++ replicate 1350 235);
-      paper =
-          words (1 ∷ 160 ∷ 1 ∷ 64 ∷ 2 ∷ 96 ∷ 15 ∷ 30 ∷ 200000 ∷ 256 ∷ 6 ∷ 1 ∷ 0 ∷ 0 ∷ 0xAAAAAAAA ∷ 0x4002AAAA ∷ [])
-          ++ words (10000005 ∷ 0 ∷ 10000005 ∷ 0 ∷ 184 ∷ 1 ∷ 0 ∷ 0 ∷ [])
-          ++ words (0 ∷ 3 ∷ 2 ∷ 2 ∷ 0 ∷ 0 ∷ 0 ∷ 0 ∷ [])
-          ++ words (3 ∷ 3 ∷ 2 ∷ 2 ∷ 1000000 ∷ 1000000 ∷ 0 ∷ 0 ∷ []);
-    }
     -- a loss across a unit's start: counters 3, then 5 with a start mark, then 6; the one lost is the second unit's. A
     -- bad and a foreign packet stand between
-    ∷ record {
+    record {
       rule =
           endToEnd
           (map unitBytes
@@ -240,12 +225,6 @@ samples =
     ∷ record { rule = feeding (goodHeader ++ frameHeader 0 1000000 65536); paper = 7 ∷ 31 ∷ [] }
     ∷ record { rule = feeding (goodHeader ++ frameHeader 0 999999 65536); paper = 8 ∷ 35 ∷ [] }
     ∷ record { rule = feeding (goodHeader ++ frameHeader 0 999999 65535); paper = 0 ∷ 40 ∷ [] }
-    -- 9: 751 start marks; 750 pass
-    ∷ record {
-      rule = toldFault (beginsAt (drop 750 (beginnings 1 (marks 751))))
-          ++ toldFault (beginsAt (drop 750 (beginnings 1 (marks 750))));
-      paper = 9 ∷ 141003 ∷ 0 ∷ 0 ∷ [];
-    }
     -- 11: an empty capture; a header that is cut off. 12: a header alone; a packet of another identifier
     ∷ record { rule = sealing small [] [] 0 ++ sealing small (0xD4 ∷ []) [] 0; paper = 11 ∷ 0 ∷ 11 ∷ 1 ∷ [] }
     ∷ record {

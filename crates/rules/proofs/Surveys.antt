@@ -2,7 +2,7 @@
 use Prim.Native.Nat.{ℕ}
 use mathlib.Core.Path.{_≡_, refl}
 use mathlib.Core.List.{List, [], _∷_, _++_, map}
-use lib.ListN.{take, drop, set}
+use lib.ListN.{take, set}
 use Rattle.rules.specs.declared.SurveyAnswer.{SurveyAnswer}
 use Rattle.rules.specs.declared.SurveyAnswer.the-variants.{Most, Refused}
 use Rattle.rules.specs.Bytes.{word32, network16, bytesOf, count, only, endToEnd}
@@ -14,18 +14,18 @@ use Rattle.rules.specs.Capture.{wholeFrames, unfinished, allFrames, show
 use Rattle.rules.specs.Capture.{wrongFrameHeader, wrongFrame, formatFault, captureInside}
 use Rattle.rules.specs.Seal.{captureUnfinished}
 use Rattle.rules.specs.Survey.{goodOf, goodPackets, withMost, surveyFeedAnswer, noGood, surveyFault}
-use Rattle.rules.specs.Survey.{surveyAnswer, SurveyCall, feedSurvey, askSurvey, SurveyOutcome, fedSurvey, found}
+use Rattle.rules.specs.Survey.{surveyAnswer, SurveyOutcome, fedSurvey, found}
 use Rattle.rules.specs.Survey.{surveyExpected}
 use Rattle.rules.proofs.Worked.{Case}
 use Rattle.rules.proofs.Samples.{told, toldFault, fileHeader, goodHeader}
 use Rattle.rules.proofs.Samples.{frameHeader, frameWith, packetOf}
 
 -- 0, identifier and count; or a refusal's number and place
-abbrev toldMost : SurveyAnswer → List ℕ
+abbrev pub toldMost : SurveyAnswer → List ℕ
 toldMost (Most id n) = 0 ∷ id ∷ n ∷ []
 toldMost (Refused k p) = k ∷ p ∷ []
 
-abbrev toldOf : SurveyOutcome → List ℕ
+abbrev pub toldOf : SurveyOutcome → List ℕ
 toldOf (fedSurvey a) = told a
 toldOf (found a) = toldMost a
 
@@ -33,7 +33,7 @@ survey : List ℕ → List ℕ
 survey capture = toldMost (surveyAnswer capture)
 
 -- a packet of this identifier, and the same with another first byte, and marked as damaged
-abbrev good : ℕ → List ℕ
+abbrev pub good : ℕ → List ℕ
 good id = packetOf id 0 0
 
 abbrev bad : ℕ → List ℕ
@@ -50,7 +50,7 @@ onlyBad : List ℕ
 onlyBad = goodHeader ++ frameWith 0 0 1 (bad 3)
 
 -- identifier 8191 twice, and 0 between
-ends : List ℕ
+unfoldable pub ends : List ℕ
 ends = goodHeader ++ frameWith 1 2 3 (good 8191 ++ good 0 ++ good 8191)
 
 -- one packet of 3, and two of 2 in a frame that is passed over: a fragment
@@ -82,19 +82,6 @@ surveys =
     ∷ record {
       rule = survey (ends ++ frameHeader 0 1000000 65536) ++ survey (ends ++ frameHeader 0 999999 65536);
       paper = 7 ∷ 653 ∷ 8 ∷ 657 ∷ [];
-    }
-    -- all identifiers, of which the last wins, in a list of calls: a question between the pieces changes nothing, and
-    -- a refused feed ends it
-    ∷ record {
-      rule =
-          endToEnd
-          (map toldOf
-          (surveyExpected []
-          (askSurvey ∷ feedSurvey (take 300 ends) ∷ askSurvey ∷ feedSurvey (drop 300 ends) ∷ askSurvey
-          ∷ feedSurvey (frameHeader 0 1000000 0)
-          ∷ askSurvey
-          ∷ [])));
-      paper = 11 ∷ 0 ∷ 0 ∷ 300 ∷ 11 ∷ 300 ∷ 0 ∷ 346 ∷ 0 ∷ 8191 ∷ 2 ∷ 7 ∷ 653 ∷ 7 ∷ 653 ∷ [];
     }
     ∷ []
 

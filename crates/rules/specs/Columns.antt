@@ -1,7 +1,7 @@
 -- Document 02, R-3: the two tile boundaries of a row of w pixels. The tile column of pixel c is the number of
 -- boundaries at or below c; that law stands in luma_laws/Columns. No histogram is defined by them.
 use Prim.Native.Nat.{ℕ, _*_, _≤_}
-use mathlib.Core.List.{List, [], _∷_}
+use mathlib.Core.List.{List}
 use lib.Dec.{leb}
 use Rattle.rules.specs.Bytes.{count}
 

@@ -3,7 +3,7 @@
 use Prim.Native.Nat.{ℕ, zero, suc, _≤_, _<_}
 use mathlib.Core.Path.{_≡_}
 use mathlib.Core.List.{List, [], _∷_, _++_}
-use mathlib.Core.Bool.{Bool, _&&_}
+use mathlib.Core.Bool.{_&&_}
 use lib.ListN.{length}
 use lib.Dec.{ltb, eqb}
 use Rattle.rules.specs.declared.Answer.{Answer}
@@ -37,7 +37,7 @@ unfoldable pub withMost : (ℕ → ℕ) → ℕ → ℕ
 withMost counts zero = 0
 withMost counts (suc n) = let best = withMost counts n in pick (ltb (counts best) (counts n)) n best
 
--- what that says (proofs/Laws/Survey shows it, and that no two identifiers have it): id is an identifier, none below n
+-- what that says (capture_laws/Survey shows it, and that no two have it): id is an identifier, none below n
 -- has more, and every lower one has fewer
 pub record HasMost (counts : ℕ → ℕ) (n id : ℕ) : Type 0 where
   pub below : id < identifiers
@@ -69,7 +69,7 @@ surveyAnswer capture =
     let best = withMost counts identifiers in
     orMost (surveyFault capture (counts best)) best (counts best)
 
--- what an identifier that is answered says of the capture (proofs/Laws/Survey)
+-- what an identifier that is answered says of the capture (capture_laws/Survey)
 pub record MostIn (capture : List ℕ) (id n : ℕ) : Type 0 where
   pub counted : n ≡ goodPackets capture id
   pub some : 0 < n

@@ -4,12 +4,12 @@ use native.Mathlib.Omega.{arith}
 use mathlib.Core.Path.{_≡_, refl, sym, ap, _∙_}
 use mathlib.Core.List.{List, [], _∷_, _++_, append-nil, append-assoc, head-eq-of-cons-eq, tail-eq-of-cons-eq}
 use mathlib.Core.List.{cons-ne-nil}
-use lib.ListN.{length, getD}
+use lib.ListN.{getD}
 use Rattle.rules.specs.declared.Opening.{Opening}
 use Rattle.rules.specs.Refusals.{none, fault}
 use Rattle.rules.specs.Histograms.{histograms}
 use Rattle.rules.specs.Seal.{reduced}
-use Rattle.rules.specs.Calls.{Question, answerTo, Call, feedCapture, feedLuma, ask, Outcome, fed, replied, expected}
+use Rattle.rules.specs.Calls.{Question, answerTo, Call, feedCapture, feedLuma, ask, Outcome, replied, expected}
 use Rattle.rules.specs.Calls.{captureFed, lumaFed}
 use Rattle.luma_laws.proofs.Counted.{whole-counted, every-picture}
 use Rattle.luma_cuts.specs.Counts.{tilesAt}
@@ -17,8 +17,7 @@ use Rattle.luma_state.specs.State as side-luma
 use Rattle.luma_state.specs.State.{loaded, slot, Stands, refused, live}
 use Rattle.luma.proofs.Seals.{ring-is}
 use Rattle.sample.specs.State.{State, Means}
-use Rattle.sample.specs.Contract.{OpenPost}
-use Rattle.sample.specs.Calls.{Ran, feedsCapture, feedsLuma, asks, Runs, done, next, Kept, EveryList}
+use Rattle.sample.specs.Calls.{feedsCapture, feedsLuma, asks, Runs, done, next, Kept, EveryList}
 use Rattle.sample.specs.Calls.{RepliesAlike}
 
 -- from a state that stands for the strings so far: what the calls come to, and what the

@@ -1,18 +1,20 @@
 -- What a count of repeats comes to: the opening's number, 26, or the count.
-use Prim.Native.Nat.{ℕ, zero, suc, _-_, _≤_, _<_}
+use Prim.Native.Nat.{ℕ, zero, suc}
 use native.Mathlib.Omega.{arith}
 use mathlib.Core.Path.{_≡_, refl, sym, ap, subst, _∙_}
-use mathlib.Core.List.{List}
+use mathlib.Core.List.{List, []}
+use mathlib.Core.Bool.{Bool, true, false, _&&_}
 use lib.ListN.{getD}
+use lib.Dec.{leb}
 use Rattle.rules.specs.declared.Opening.{Opening}
 use Rattle.rules.specs.declared.Answer.{Answer}
 use Rattle.rules.specs.declared.Answer.the-variants.{Done, Refused}
-use Rattle.rules.specs.Refusals.{Fault, none, fault, InTable, answer, listed}
+use Rattle.rules.specs.Refusals.{none, fault, unless, listed}
 use Rattle.rules.specs.Opening.{openingFault}
 use Rattle.rules.specs.Pictures.{pictureCount}
 use Rattle.rules.specs.Seal.{reduced}
-use Rattle.rules.specs.Passage.{repeatsFault, repeatsAnswer}
-use Rattle.rules.specs.Calls.{repeats, counted, answerTo, refusalOf}
+use Rattle.rules.specs.Passage.{passageFault, repeatsAnswer}
+use Rattle.rules.specs.Calls.{repeats, counted}
 use Rattle.rules.proofs.Laws.Listed.{listed-in}
 use Rattle.rules.proofs.Laws.Passage.{opening-first, repeats-numbered}
 use Rattle.figures.specs.Opening.{OpeningFault}
@@ -25,9 +27,7 @@ use Rattle.luma.proofs.Posts.{Alive}
 use Rattle.luma.proofs.Seals.{pictures-are, reduced-are}
 use Rattle.luma_passage.specs.Contract.{AnswerPost}
 use Rattle.luma_passage.proofs.Sample.{sample-passage}
-use Rattle.capture.specs.State.{Arrays}
-use Rattle.sample.specs.State.{State, Words, wordsOf, Means}
-use Rattle.sample.specs.Contract.{Leaves, Asked}
+use Rattle.sample.specs.State.{State, Words, Means}
 use Rattle.sample.specs.Passage.{RepeatsPost}
 
 -- ---- what the luma words know of the whole pictures, refusal 10 or not
@@ -54,9 +54,13 @@ kept luma sums bins picture o joined good m = go (m .stands)
 
 -- ---- what a count promises
 
-refusal-is : (a : Answer) (k p : ℕ) → refusalOf a ≡ fault k p → a ≡ Refused k p
-refusal-is (Done n) k p e = absurd (let z : _≡_ {A = ℕ} 0 1 = cc in omega arith)
-refusal-is (Refused l q) k p e = cc
+twenty-six : (n a b k p : ℕ) → passageFault n a b ≡ fault k p → k ≡ 26
+unfolding passageFault
+twenty-six n a b k p e = go (leb a b && leb b n) e
+  where
+    go : (t : Bool) → unless t 26 ≡ fault k p → k ≡ 26
+    go true x = absurd (let z : _≡_ {A = ℕ} 0 1 = cc in omega arith)
+    go false x = cc
 
 opening-some : (o : Opening) (number : ℕ) → OpeningFault o number → (number ≡ 0 → ⊥) → openingFault o ≡ fault number 0
 opening-some o zero w h = absurd (h refl)
@@ -96,6 +100,11 @@ module _ (luma : List ℕ) (a b : ℕ) (r : Answer) (p : Opening) (pe : p ≡ op
                         rw i at (listed-in number);
                   };
             };
+        refusal =
+            let some = opening-some p number w h in
+            let first = opening-first p [] a b number 0 some in
+            let i : listed number ≡ number = rw first at (repeats-numbered p [] a b) in
+            rw (e, ← pe, some) (ap (λ (n : ℕ). fault n 0) i);
         most = λ m y. absurd (never m (sym e ∙ y));
       }
     where
@@ -125,9 +134,10 @@ module _ (luma : List ℕ) (a b : ℕ) (r : Answer) (p : Opening) (pe : p ≡ op
                     kept = λ n q y. refl;
                     listed =
                         λ n q y.
-                        let i : n ≡ 26 = x .refused n q (refusal-is r n q y) in
+                        let i : n ≡ 26 = twenty-six (l .pictures) a b n q (sym (x .refusal) ∙ y) in
                         (omega arith, omega arith);
                   };
             };
+        refusal = rw (← pe, opening-none p number w h) (rw le at (x .refusal));
         most = x .most;
       }

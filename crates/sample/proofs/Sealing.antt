@@ -1,28 +1,25 @@
 -- What a seal comes to: each refusal in document 01's order, and the record.
-use Prim.Native.Nat.{ℕ, zero, suc, _+_, _*_, _%_, _^_, _≤_, _<_}
+use Prim.Native.Nat.{ℕ}
 use native.Mathlib.Omega.{arith}
 use mathlib.Core.Path.{_≡_, refl, sym, ap, subst, subst⁻¹, _∙_}
-use mathlib.Core.List.{List, [], _∷_, map}
-use mathlib.Core.Bool.{Bool, true, false}
+use mathlib.Core.List.{List, [], _∷_}
+use mathlib.Core.Bool.{true, false}
 use lib.ListN.{length}
-use borrow.Author.Tests.{eq-eqb, ne-eqb, lt-ltb, le-ltb}
+use borrow.Author.Tests.{eq-eqb, ne-eqb}
 use Rattle.rules.specs.declared.Opening.{Opening}
 use Rattle.rules.specs.declared.Answer.{Answer}
 use Rattle.rules.specs.declared.Answer.the-variants.{Done, Refused}
-use Rattle.rules.specs.declared.Header.{Header}
 use Rattle.rules.specs.declared.UnitRow.{UnitRow}
-use Rattle.rules.specs.Bytes.{pick, total}
-use Rattle.rules.specs.Refusals.{Fault, none, fault, _orElse_, answer, listed}
+use Rattle.rules.specs.Refusals.{Fault, none, fault, _orElse_, listed}
 use Rattle.rules.specs.Opening.{openingFault}
-use Rattle.rules.specs.Capture.{units, captureFault, captureInside}
+use Rattle.rules.specs.Capture.{units, captureFault}
 use Rattle.rules.specs.Pictures.{pictureCount, lumaFault}
 use Rattle.rules.specs.Seal.{captureUnfinished, noPacket, lumaUnfinished, noPicture, noRoom, sealFault, sealAnswer}
-use Rattle.rules.specs.Seal.{ifDone, over, sealed, sealedLength, sealedBuffer}
+use Rattle.rules.specs.Seal.{sealedLength, sealedBuffer}
 use Rattle.rules.specs.Calls.{seal, sealedInto, answerTo}
 use Rattle.rules.proofs.Laws.Listed.{listed-in, seal as in-the-table}
 use Rattle.capture.specs.declared.Summary.{Summary}
-use Rattle.capture.specs.State.{Arrays}
-use Rattle.capture.specs.Contract.{SumsUp, SumOf, Figures, standing}
+use Rattle.capture.specs.Contract.{SumsUp, SumOf, Figures}
 use Rattle.luma.specs.declared.Summary as of-luma
 use Rattle.luma.specs.Contract.{SummaryPost, Summarised, Known}
 use Rattle.luma_state.specs.State.{openingIn}

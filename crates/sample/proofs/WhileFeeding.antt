@@ -1,11 +1,10 @@
 -- What an index call comes to: each refusal in document 02's order, and the index.
-use Prim.Native.Nat.{ℕ, suc, _%_, _^_, _≤_, _<_}
+use Prim.Native.Nat.{ℕ, suc, _%_, _^_, _≤_}
 use native.Mathlib.Omega.{arith}
 use mathlib.Core.Path.{_≡_, refl, sym, ap, subst, _∙_}
 use mathlib.Core.List.{List, [], _∷_, map}
 use mathlib.Core.Bool.{Bool, true, false}
-use lib.ListN.{length, getD}
-use lib.Dec.{eqb}
+use lib.ListN.{length}
 use borrow.Author.Tests.{eq-eqb, ne-eqb}
 use Rattle.rules.specs.declared.Opening.{Opening}
 use Rattle.rules.specs.declared.Index.{Index}
@@ -14,21 +13,21 @@ use Rattle.rules.specs.declared.IndexAnswer.the-variants.{Given, Refused}
 use Rattle.rules.specs.declared.UnitRow.{UnitRow}
 use Rattle.rules.specs.Bytes.{pick, total, only}
 use Rattle.rules.specs.Editions.{heedsSplices, knowsDamage}
-use Rattle.rules.specs.Refusals.{Fault, none, fault, _orElse_, listed}
+use Rattle.rules.specs.Refusals.{none, fault, _orElse_, listed}
 use Rattle.rules.specs.Opening.{openingFault}
 use Rattle.rules.specs.Packets.{Packet}
 use Rattle.rules.specs.Units.{Arrival, setApart, firstArrival, arrivalsAfter, arrivals, groups, cellsOf, unitOf}
 use Rattle.rules.specs.Units.{unitsOf}
 use Rattle.rules.specs.Capture.{wholeWanted, units, captureFault, captureInside}
-use Rattle.rules.specs.Pictures.{pictureCount, lumaFault}
+use Rattle.rules.specs.Pictures.{lumaFault}
 use Rattle.rules.specs.Seal as rule
 use Rattle.rules.specs.Seal.{noPacket, noPicture}
-use Rattle.rules.specs.WhileFeeding.{indexFault, orIndex, indexAnswer}
-use Rattle.rules.specs.Calls.{index, indexed, answerTo}
+use Rattle.rules.specs.WhileFeeding.{indexFault, indexAnswer}
+use Rattle.rules.specs.Calls.{index, indexed}
 use Rattle.rules.proofs.Laws.Listed.{listed-in}
-use Rattle.rules.proofs.Laws.UnitsMore.{allPackets, groups-endToEnd, rows-packets}
+use Rattle.capture_laws.proofs.UnitsMore.{allPackets, groups-endToEnd, rows-packets}
 use Rattle.rules.proofs.Laws.WhileFeeding.{index-numbered}
-use Rattle.index.specs.Counts.{NoNan, taken, IndexFrom}
+use Rattle.index.specs.Counts.{NoNan, IndexFrom}
 use Rattle.capture_walk.specs.State as of-walk
 use Rattle.capture.specs.declared.Summary.{Summary}
 use Rattle.capture.specs.declared.Totals as capture-totals
@@ -42,9 +41,8 @@ use Rattle.luma.specs.declared.Totals as luma-totals
 use Rattle.luma.specs.Contract as of-luma
 use Rattle.luma.specs.Contract.{Summarised, Known, insideOf}
 use Rattle.luma.proofs.Seals.{summarised}
-use Rattle.sample.specs.State.{State, Words, wordsOf, Means}
-use Rattle.sample.specs.Contract.{Leaves, Asked}
-use Rattle.sample.specs.WhileFeeding.{keptAs, noneOf, indexBy, IndexPost}
+use Rattle.sample.specs.State.{State, Words, Means}
+use Rattle.sample.specs.WhileFeeding.{noneOf, indexBy, IndexPost}
 use Rattle.sample.proofs.Sealing.{either}
 use Rattle.sample.proofs.Writing.{index-is-rule}
 

@@ -3,7 +3,7 @@ use Prim.Native.Nat.{ℕ, _+_, _*_, _%_, _^_, _≤_, _<_}
 use native.Mathlib.Omega.{arith}
 use native.Mathlib.Nat.{mod-eq-of-lt}
 use mathlib.Core.Path.{_≡_, refl, sym, ap, subst, _∙_}
-use mathlib.Core.List.{List, [], _∷_, map}
+use mathlib.Core.List.{List, map}
 use mathlib.Core.Bool.{Bool, not}
 use lib.ListN.{length}
 use borrow.Author.Tests.{lt-ltb, le-ltb}
@@ -14,7 +14,6 @@ use Rattle.rules.specs.declared.Header.{Header}
 use Rattle.rules.specs.declared.Index.{Index}
 use Rattle.rules.specs.declared.UnitRow.{UnitRow}
 use Rattle.rules.specs.declared.SceneRow.{SceneRow}
-use Rattle.rules.specs.Bytes.{count}
 use Rattle.rules.specs.Refusals.{none, fault}
 use Rattle.rules.specs.Editions.{roundsToNearest}
 use Rattle.rules.specs.Capture.{units}
@@ -23,11 +22,11 @@ use Rattle.rules.specs.Histograms.{histograms}
 use Rattle.rules.specs.Cuts.{cutScores}
 use Rattle.rules.specs.Changes.{repeats, changes}
 use Rattle.rules.specs.Scenes.{scenesOf}
-use Rattle.rules.specs.Index.{indexOf, indexBits}
+use Rattle.rules.specs.Index.{indexBits}
 use Rattle.rules.specs.Record.{recordLength, recordBytes}
 use Rattle.rules.specs.Seal.{reduced, scenesIn, scenes, unrepeated, indexFrom, index, header, sealed, sealedLength}
 use Rattle.rules.specs.Seal.{over, noRoom, sealFault, sealAnswer, sealedBuffer}
-use Rattle.rules.specs.Calls.{Reply, seal, sealedInto, answerTo}
+use Rattle.rules.specs.Calls.{seal, sealedInto, answerTo}
 use Rattle.rules.proofs.Laws.Lists.{count-few}
 use Rattle.luma_laws.proofs.Counted.{reduced-length}
 use Rattle.luma_laws.proofs.Sizes.{good}
@@ -42,7 +41,7 @@ use Rattle.luma_laws.proofs.Past.{length-repeats}
 use Rattle.capture_cells.specs.declared.Cell.{Cell}
 use Rattle.capture_walk.specs.Format.{wholeCells}
 use Rattle.capture_units.specs.Units.{ofPid, unitsOf, unitsIn}
-use Rattle.rules.proofs.Laws.UnitsMore.{allPackets, allLost}
+use Rattle.capture_laws.proofs.UnitsMore.{allPackets, allLost}
 use Rattle.capture_units.proofs.More.{packets-some, cells-total, lost-small}
 use Rattle.capture_units.proofs.Laws.{units-cells}
 use Rattle.capture.specs.declared.Summary.{Summary}

@@ -13,10 +13,17 @@ pub record State : Type 0 where
   pub bins : List ℕ
   pub picture : List ℕ
 
+abbrev pub sampleOf : Arrays → List ℕ → List ℕ → List ℕ → List ℕ → State
+sampleOf capture luma sums bins picture =
+    record { capture = capture; luma = luma; sums = sums; bins = bins; picture = picture }
+
 -- what a question looks at: the capture side's arrays and the luma words
 pub record Words : Type 0 where
   pub capture : Arrays
   pub luma : List ℕ
+
+abbrev pub wordsIn : Arrays → List ℕ → Words
+wordsIn capture luma = record { capture = capture; luma = luma }
 
 abbrev pub wordsOf : State → Words
 wordsOf st = record { capture = st .capture; luma = st .luma }

@@ -8,6 +8,8 @@ ghost use lib.Dec.{T};
 ghost use lib.Ieee.{isNan};
 ghost use Rattle.rules.specs.Refusals.{listed};
 ghost use Rattle.rules.specs.Index.{indexBits};
+ghost use Rattle.capture.specs.State.{arraysOf};
+ghost use Rattle.sample.specs.State.{sampleOf, wordsIn};
 ghost use Rattle.capture.specs.Contract as side-capture;
 ghost use Rattle.luma.specs.Contract as side-luma;
 ghost use Rattle.index.specs.Counts.{IndexFrom};
@@ -40,18 +42,9 @@ pub fn open(
     picture: &mut [u8; 14104],
     o: Opening,
 ) -> Answer
-    ensures { λ r. ⌜ OpenPost o r (record {
-      capture = record {
-        walk = now (walk .exit);
-        kept = now (kept .exit);
-        numbers = now (numbers .exit);
-        table = now (table .exit);
-      };
-      luma = now (luma .exit);
-      sums = now (sums .exit);
-      bins = now (bins .exit);
-      picture = now (picture .exit);
-    }) ⌝ }
+    ensures { λ r. ⌜ OpenPost o r (sampleOf
+        (arraysOf (now (walk .exit)) (now (kept .exit)) (now (numbers .exit)) (now (table .exit)))
+        (now (luma .exit)) (now (sums .exit)) (now (bins .exit)) (now (picture .exit))) ⌝ }
 {
     let number = figures::opening_fault(o);
     capture::open(
@@ -74,17 +67,10 @@ pub fn feed_capture(
     table: &mut Table,
     piece: &[u8],
 ) -> Answer
-    ensures { λ r. ⌜ side-capture.FeedPost (record {
-      walk = now (walk .entry);
-      kept = now (kept .entry);
-      numbers = now (numbers .entry);
-      table = now (table .entry);
-    }) (now (piece .entry)) r (record {
-      walk = now (walk .exit);
-      kept = now (kept .exit);
-      numbers = now (numbers .exit);
-      table = now (table .exit);
-    }) ⌝ }
+    ensures { λ r. ⌜ side-capture.FeedPost
+        (arraysOf (now (walk .entry)) (now (kept .entry)) (now (numbers .entry)) (now (table .entry)))
+        (now (piece .entry)) r
+        (arraysOf (now (walk .exit)) (now (kept .exit)) (now (numbers .exit)) (now (table .exit))) ⌝ }
 {
     capture::feed(walk, kept, numbers, table, piece)
 }
@@ -189,15 +175,9 @@ pub fn seal(
     luma: &[u64; 1600],
     buffer: &mut [u8],
 ) -> Answer
-    ensures { λ r. ⌜ SealPost (record {
-      capture = record {
-        walk = now (walk .entry);
-        kept = now (kept .entry);
-        numbers = now (numbers .entry);
-        table = now (table .entry);
-      };
-      luma = now (luma .entry);
-    })
+    ensures { λ r. ⌜ SealPost
+        (wordsIn (arraysOf (now (walk .entry)) (now (kept .entry)) (now (numbers .entry)) (now (table .entry)))
+        (now (luma .entry)))
         (now (buffer .entry)) r (now (buffer .exit)) ⌝ }
 {
     let c = capture::sum_up(walk, numbers);

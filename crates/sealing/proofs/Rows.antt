@@ -14,18 +14,16 @@ use Rattle.rules.specs.declared.Header.{Header}
 use Rattle.rules.specs.declared.UnitRow.{UnitRow}
 use Rattle.rules.specs.declared.SceneRow.{SceneRow}
 use Rattle.rules.specs.Bytes.{endToEnd}
-use Rattle.rules.specs.Scenes.{sceneOf, scenesOf}
-use Rattle.rules.specs.Record.{recordLength, sceneOffset, headerBytes, unitBytes, sceneBytes, recordBytes}
+use Rattle.rules.specs.Scenes.{scenesOf}
+use Rattle.rules.specs.Record.{recordLength, sceneOffset, headerBytes, unitBytes, sceneBytes}
 use Rattle.rules.specs.Reading.{unitPlace}
 use Rattle.rules.specs.Seal.{over}
 use Rattle.rules.proofs.Laws.Lists.{endToEnd-append}
 use Rattle.record_laws.proofs.Record.{length-header, length-unit, length-scene, length-rows, parts-of}
 use Rattle.words.specs.Written.{written}
 use Rattle.words.proofs.Laws.{written-append, length-written}
-use Rattle.capture_cells.specs.declared.Cell.{Cell}
-use Rattle.capture_units.specs.declared.Units.{Units}
 use Rattle.capture_units.specs.Units.{unitsOf}
-use Rattle.capture_units.specs.State.{Stands, noUnit}
+use Rattle.capture_units.specs.State.{noUnit}
 use Rattle.capture_units.specs.Contract.{Row}
 use Rattle.luma_scenes.specs.Words.{Holds}
 use Rattle.luma_scenes.specs.Next.{nextStart, startAt, scenesFrom}

@@ -19,7 +19,7 @@ use Rattle.rules.specs.declared.Answer.the-variants.{Done, Refused as RefusedAn
 use Rattle.rules.specs.declared.SurveyAnswer.{SurveyAnswer}
 use Rattle.rules.specs.declared.SurveyAnswer.the-variants.{Most, Refused}
 use Rattle.rules.proofs.Laws.Listed.{Numbered, listed-in, format}
-use Rattle.rules.proofs.Laws.Survey.{with-most-is, most-alike}
+use Rattle.capture_laws.proofs.Survey.{with-most-is, most-alike}
 use Rattle.capture_walk.specs.declared.types.Walk.{Walk}
 use Rattle.capture_walk.specs.declared.types.Step.{Step}
 use Rattle.capture_walk.specs.Format.{formatFault, wholeCells}

@@ -1,7 +1,6 @@
 -- `take_cell` meets its contract: the cell is refused, in, or not of the identifier.
 use native.Mathlib.Omega.{arith}
-use mathlib.Core.Path.{refl, ap}
-use Rattle.capture_counts.specs.declared.Tally.{Tally}
+use mathlib.Core.Path.{refl}
 use Rattle.capture_counts.proofs.Laws.{check-other, check-room, check-full, account-in, account-out}
 use Rattle.capture_counts.proofs.Laws.{takes-none, takes-one}
 use borrow.Author.Needs.{needs}

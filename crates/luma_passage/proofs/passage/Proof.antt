@@ -1,10 +1,8 @@
 -- `passage` meets its contract, by its two tests.
-use Prim.Native.Nat.{ℕ}
 use native.Mathlib.Omega.{arith}
-use mathlib.Core.Path.{_≡_, refl, ap}
+use mathlib.Core.Path.{refl}
 use borrow.Author.Needs.{needs}
 use borrow.Author.Tests.{le-leb, lt-leb}
-use Rattle.rules.specs.declared.Answer.the-variants.{Done}
 use Rattle.rules.specs.Passage.{passageFault}
 use Rattle.luma_passage.proofs.Answers.{refused-post, done-post}
 use Rattle.luma_passage.proofs.passage.Statement.{statement}
@@ -14,14 +12,14 @@ returns : tie.Need-returns
 unfolding passageFault
 returns c =
     let a = c .before .args in
-    refused-post _ _ _ _ _ refl (λ rs m e. rw (lt-leb (a .a) (a .b) (omega arith)))
+    refused-post _ _ _ _ _ refl (rw (lt-leb (a .a) (a .b) (omega arith)))
 
 returns-2 : tie.Need-returns-2
 unfolding passageFault
 returns-2 c =
     let a = c .before .before .args in
     refused-post _ _ _ _ _ refl
-    (λ rs m e. rw (le-leb (a .a) (a .b) (omega arith), lt-leb (a .b) (a .n) (omega arith)))
+    (rw (le-leb (a .a) (a .b) (omega arith), lt-leb (a .b) (a .n) (omega arith)))
 
 repeated-between-requires : tie.Need-repeated-between-requires
 repeated-between-requires c κs = search needs
@@ -32,9 +30,8 @@ returns-3 c =
     let a = c .before .before .before .args in
     let counted = c .repeated-between .ensures in
     done-post _ _ _ _ _ _ refl (counted .most)
-    (λ rs m e.
-    rw (le-leb (a .a) (a .b) (omega arith), le-leb (a .b) (a .n) (omega arith))
-    (ap Done (counted .repeated rs m (omega arith) (omega arith))))
+    (rw (le-leb (a .a) (a .b) (omega arith), le-leb (a .b) (a .n) (omega arith)))
+    (λ rs m e. counted .repeated rs m (omega arith) (omega arith))
 
 pub passage-spec : {M : Type 1} → statement M
 passage-spec = tie.close (tie.spec returns returns-2 repeated-between-requires returns-3)

@@ -1,14 +1,12 @@
 -- `answers::put_hex` meets its contract. The invariant: the digits of the bytes passed stand at the
 -- front, and all else is as it was.
-use Prim.Native.Nat.{_+_, _*_, _-_, _≤_}
+use Prim.Native.Nat.{_-_, _≤_}
 use native.Mathlib.Omega.{arith}
-use mathlib.Core.Path.{_≡_, refl, ap, _∙_}
-use borrow.Author.Needs.{needs}
+use mathlib.Core.Path.{_≡_, refl}
 use lib.ListN.{length, take, length-set}
-use lib.Seq.{take-all}
 use Rattle.rules.specs.Seal.{over}
 use Rattle.program_text.specs.Text.{hexText}
-use Rattle.program_text.proofs.Hex.{length-text, byte-more, none-yet, all-written}
+use Rattle.program_text.proofs.Hex.{byte-more, none-yet, all-written}
 use Rattle.program_text.proofs.Counted.{counted}
 use Rattle.program_text.proofs.put_hex.Statement.{statement}
 use Rattle.program_text.proofs.put_hex.Tie as tie

@@ -1,7 +1,7 @@
 -- `header_at` meets its contract: counts that fit are taken, and with others the record is read. Assumes nothing.
 use borrow.Author.Needs.{needs}
 use borrow.Author.Tests.{not-true, not-false}
-use mathlib.Core.Path.{sym, ap, _∙_}
+use mathlib.Core.Path.{sym, _∙_}
 use native.Mathlib.Omega.{arith}
 use Rattle.record_view.proofs.Counted.{fit-shows, header-read, header-there}
 use Rattle.record_view.proofs.header_at.Statement.{statement}

@@ -1,5 +1,5 @@
 -- `replay` meets its contract: demand 3's theorem, of the run that `all` made.
-use Prim.Native.Nat.{ℕ, _-_, _≤_}
+use Prim.Native.Nat.{ℕ, _-_}
 use native.Mathlib.Omega.{arith}
 use mathlib.Core.List.{List}
 use lib.ListN.{length}

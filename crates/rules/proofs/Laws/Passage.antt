@@ -1,19 +1,19 @@
 -- The order of a count's refusals; passages behind each other, and all pictures.
 use Prim.Native.Nat.{ℕ, _+_, _-_, _≤_, _<_}
 use native.Mathlib.Omega.{arith}
-use mathlib.Core.Path.{_≡_, refl, ap, _∙_}
-use mathlib.Core.Bool.{Bool, true, false, not, _&&_}
-use mathlib.Core.List.{List, [], _∷_}
-use lib.ListN.{length, take, drop}
+use mathlib.Core.Path.{_≡_, refl}
+use mathlib.Core.Bool.{Bool, not, _&&_}
+use mathlib.Core.List.{List}
+use lib.ListN.{take, drop}
 use lib.Seq.{drop-drop, take-add}
 use lib.Dec.{leb}
 use borrow.Author.Tests.{le-leb, lt-leb}
 use Rattle.rules.specs.declared.Opening.{Opening}
 use Rattle.rules.specs.Bytes.{count}
-use Rattle.rules.specs.Refusals.{Fault, none, fault, unless, _orElse_}
+use Rattle.rules.specs.Refusals.{none, fault}
 use Rattle.rules.specs.Opening.{openingFault}
 use Rattle.rules.specs.Pictures.{pictureCount}
-use Rattle.rules.specs.Scenes.{span, isTrue, sceneOf}
+use Rattle.rules.specs.Scenes.{isTrue, sceneOf}
 use Rattle.rules.specs.Passage.{repeatedIn, passageFault, repeatsFault}
 use Rattle.rules.proofs.Laws.Lists.{count-append}
 use Rattle.rules.proofs.Laws.Listed.{Numbered, of-either, of-unless, opening}

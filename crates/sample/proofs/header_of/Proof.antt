@@ -1,7 +1,4 @@
 -- `header_of` meets its contract: the bits are taken where the header is made. Assumes nothing.
-use mathlib.Core.Path.{ap}
-use Rattle.rules.specs.declared.Header.{Header}
-use Rattle.sample.specs.Contract.{headerBy}
 use borrow.Author.Needs.{needs}
 use Rattle.sample.proofs.header_of.Statement.{statement}
 use Rattle.sample.proofs.header_of.Tie as tie

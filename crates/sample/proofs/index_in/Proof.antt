@@ -1,5 +1,4 @@
 -- `index_in` meets its contract: each count is handed on below 2 ^ 32. Assumes nothing.
-use mathlib.Core.Path.{_≡_}
 use Rattle.sample.proofs.Writing.{index-by}
 use borrow.Author.Needs.{needs}
 use Rattle.sample.proofs.index_in.Statement.{statement}

@@ -1,7 +1,7 @@
 -- `write_scenes` meets its contract. The loop's invariant: the rows of the scenes before j are written, and scene j,
 -- if there is one, starts at `start`.
 -- The measure is the scenes that are left. Assumes nothing.
-use Prim.Native.Nat.{ℕ, _+_, _*_, _≤_, _<_, _-_}
+use Prim.Native.Nat.{ℕ, _+_, _*_, _≤_, _-_}
 use native.Mathlib.Omega.{arith}
 use mathlib.Core.Path.{_≡_, refl, ap, _∙_}
 use lib.ListN.{length}

@@ -1,6 +1,6 @@
 -- `write_units` meets its contract. The loop's invariant: the rows of the units before j are written. The measure is
 -- the units that are left. Assumes nothing.
-use Prim.Native.Nat.{ℕ, _≤_, _<_, _-_}
+use Prim.Native.Nat.{ℕ, _≤_, _-_}
 use native.Mathlib.Omega.{arith}
 use mathlib.Core.Path.{_≡_, refl, subst, _∙_}
 use lib.ListN.{length}

@@ -1,12 +1,12 @@
 -- `has_room` meets its contract. The loop's invariant: the opening's answer and the calls before `at` take `to` bytes,
 -- and there is room for them.
-use Prim.Native.Nat.{ℕ, _+_, _-_, _≤_}
+use Prim.Native.Nat.{_-_, _≤_}
 use native.Mathlib.Omega.{arith}
-use mathlib.Core.Path.{_≡_, sym, ap, _∙_}
+use mathlib.Core.Path.{sym, ap, _∙_}
 use lib.ListN.{length}
 use borrow.Author.Needs.{needs}
 use borrow.Author.Tests.{lt-leb}
-use Rattle.replay.specs.Script.{roomFor, headAt, nextOf, sizeOf}
+use Rattle.replay.specs.Script.{roomFor, sizeOf}
 use Rattle.replay.proofs.Laws.{Taken, taken-start, taken-end, taken-stop, taken-full, taken-on, next-on}
 use Rattle.replay.proofs.reading.has_room.Statement.{statement}
 use Rattle.replay.proofs.reading.has_room.Tie as tie

@@ -1,6 +1,5 @@
 -- `put_index` meets its contract, by the two cases of its answer.
 use borrow.Author.Needs.{needs}
-use Rattle.replay.specs.Script.{indexCode}
 use Rattle.replay.proofs.writing.put_index.Statement.{statement}
 use Rattle.replay.proofs.writing.put_index.Tie as tie
 

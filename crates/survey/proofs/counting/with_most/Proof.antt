@@ -5,7 +5,7 @@ use mathlib.Core.Path.{_≡_, refl, _∙_}
 use mathlib.Core.Logic.{⊎-elim}
 use Rattle.rules.specs.Survey.{HasMost}
 use Rattle.survey.specs.State.{countIn}
-use Rattle.rules.proofs.Laws.Survey.{most-none, most-new, most-old}
+use Rattle.capture_laws.proofs.Survey.{most-none, most-new, most-old}
 use borrow.Author.Needs.{needs}
 use Rattle.survey.proofs.counting.with_most.Statement.{statement}
 use Rattle.survey.proofs.counting.with_most.Tie as tie

@@ -5,12 +5,12 @@ use mathlib.Core.Path.{_≡_, refl, ap, _∙_}
 use mathlib.Core.List.{List, [], _∷_, map}
 use mathlib.Core.Bool.{true, false}
 use lib.ListN.{length}
 use Rattle.rules.specs.declared.UnitRow.{UnitRow}
 use Rattle.rules.specs.Editions.{heedsSplices, roundsToNearest, knowsDamage}
 use Rattle.rules.specs.Packets.{Packet, startMark, counter, spliceMark}
 use Rattle.rules.specs.Changes.{spread, root, nearest, changeFrom, change, changesAfter, changes}
 use Rattle.rules.specs.Units.{Arrival, gapLoss, lossBetween, setApart, arrivalsAfter, arrivals, groups, unitsOf}
-use Rattle.rules.proofs.Laws.Damage.{plainUnit, plain-units}
+use Rattle.capture_laws.proofs.Damage.{plainUnit, plain-units}
 
 -- document 01's arrivals and units, as they stood before there were editions: every gap counts, and so does every cell
 firstAfter : Packet → List Packet → List Arrival
@@ -99,7 +99,7 @@ pub units-three : (ps : List Packet) → unitsOf 3 ps ≡ unitsOf 2 ps
 unfolding unitsOf heedsSplices knowsDamage
 units-three ps = refl
 
--- edition 4 has edition 3's changes; what it does to units, Laws/Damage says
+-- edition 4 has edition 3's changes; what it does to units, capture_laws/Damage says
 pub changes-four : (pxs : List (List ℕ)) → changes (roundsToNearest 4) pxs ≡ changes (roundsToNearest 3) pxs
 unfolding roundsToNearest
 changes-four pxs = refl

@@ -1,26 +1,27 @@
 -- How many frames and packets a capture can have: no more than its bytes allow.
-use Prim.Native.Nat.{ℕ, zero, suc, _+_, _*_, _≤_, _<_}
+use Prim.Native.Nat.{ℕ, zero, suc, _+_, _*_, _≤_}
 use native.Mathlib.Omega.{arith}
 use native.Mathlib.Decide.{decLe}
-use mathlib.Core.Path.{_≡_, refl, sym, ap, _∙_}
+use mathlib.Core.Path.{_≡_, ap, _∙_}
 use mathlib.Core.List.{List, [], _∷_, _++_}
 use mathlib.Core.Bool.{Bool, true, false, not, _&&_}
 use lib.ListN.{length, take, drop, length-append, length-take, length-drop}
 use lib.Dec.{leb, eqb}
 use borrow.Author.Tests.{le-leb, lt-leb}
 use Rattle.rules.specs.declared.Opening.{Opening}
 use Rattle.rules.specs.Bytes.{pick, count, only, endToEnd, All, and, empty}
 use Rattle.rules.specs.Frames.{frameTime, behindHeader, frames, rest}
 use Rattle.rules.specs.Editions.{knowsDamage}
 use Rattle.rules.specs.Packets.{Packet, carries, packetsFrom, packetsOf, packets, skipped, condition, isBad}
 use Rattle.rules.specs.Packets.{identifier, isWanted, wantedOf, badOf}
 use Rattle.rules.specs.Units.{setApart, beforeUnits}
 use Rattle.rules.specs.Capture.{wholeFrames, unfinished, allFrames, wholeWanted, frameCount, skippedCount}
 use Rattle.rules.specs.Capture.{badCount}
+use Rattle.capture_laws.specs.UnderWay.{countOf}
 use Rattle.rules.proofs.Laws.Lists.{count-few, only-append, endToEnd-append}
-use Rattle.rules.proofs.Laws.Frames.{size-least, frames-all}
-use Rattle.rules.proofs.Laws.Onward.{Whole, frames-whole, countOf, of-from, reaching}
-use Rattle.rules.proofs.Laws.Flow.{reached, bad-of, wanted-of}
+use Rattle.capture_laws.proofs.Frames.{size-least, frames-all}
+use Rattle.capture_laws.proofs.Onward.{Whole, frames-whole, of-from, reaching}
+use Rattle.capture_laws.proofs.Flow.{reached, bad-of, wanted-of}
 
 module _ {A : Type 0} (test : A → Bool) where
   pub only-few : (xs : List A) → length (only test xs) ≤ length xs

@@ -11,13 +11,13 @@ use lib.ListN.{length, take, drop, length-append, length-drop, List·getD-append
 use lib.Seq.{length-take-le, getD-take, drop-append-le}
 use lib.Dec.{leb, ltb}
 use borrow.Author.Tests.{le-leb, lt-leb, lt-ltb, le-ltb}
 use Rattle.rules.specs.Bytes.{pick, byte, word32}
 use Rattle.rules.specs.Refusals.{Fault, none, fault}
 use Rattle.rules.specs.Frames.{microseconds, storedLength, frameSize, frames, rest, behindHeader}
 use Rattle.rules.specs.Capture.{wholeFrames, unfinished, allFrames, earlier, showing, tooLong, wrongMagic}
 use Rattle.rules.specs.Capture.{wrongLink, wrongFrameHeader, wrongFrame}
-use Rattle.rules.proofs.Laws.Frames.{size-least, size-append, frames-none, rest-none, frames-one, rest-one}
-use Rattle.rules.proofs.Laws.Frames.{frames-onward, rest-onward, by-frames}
+use Rattle.capture_laws.proofs.Frames.{size-least, size-append, frames-none, rest-none, frames-one, rest-one}
+use Rattle.capture_laws.proofs.Frames.{frames-onward, rest-onward, by-frames}
 
 -- ---- refusals below a place and refusals from it on
 

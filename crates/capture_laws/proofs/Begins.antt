@@ -11,38 +11,24 @@ use lib.ListN.{length, take, drop, length-append, length-take, length-drop, drop
 use lib.Seq.{length-take-le, getD-take, drop-append-le, take-append-add}
 use lib.Dec.{leb}
 use borrow.Author.Tests.{le-leb, lt-leb}
 use Rattle.rules.specs.declared.Opening.{Opening}
 use Rattle.rules.specs.Bytes.{pick, byte, word32, network16, only, All, and, empty}
-use Rattle.rules.specs.Refusals.{none, fault}
+use Rattle.rules.specs.Refusals.{fault}
 use Rattle.rules.specs.Frames.{seconds, microseconds, storedLength, frameTime, body, frameSize, frames, rest}
 use Rattle.rules.specs.Frames.{behindHeader}
 use Rattle.rules.specs.Editions.{knowsDamage}
 use Rattle.rules.specs.Packets.{Packet, ipLength, udpLength, carries, packetsFrom, packetsIn, packetsOf, packets}
 use Rattle.rules.specs.Packets.{shown, startsCell, damageMark, condition, identifier, isWanted, startMark}
 use Rattle.rules.specs.Packets.{wantedOf}
 use Rattle.rules.specs.Units.{Arrival, setApart, firstArrival, damagedArrival, laterArrival, arrivalsAfter}
 use Rattle.rules.specs.Units.{arrivals, beginnings}
 use Rattle.rules.specs.Capture.{wholeFrames, unfinished, allFrames, shownWanted, beginsAt, tooManyUnits}
 use Rattle.rules.specs.Capture.{captureFault}
-use Rattle.rules.proofs.Laws.Lists.{all-drop, only-append}
-use Rattle.rules.proofs.Laws.Faults.{no-fault, at-fault, late-fault, Grows, same, new, grows-kept}
-use Rattle.rules.proofs.Laws.Faults.{earlier-grows, long-grows, magic-grows, link-grows, frames-grow}
-use Rattle.rules.proofs.Laws.Frames.{size-least, size-append, frames-none, rest-none, frames-one, rest-one}
-use Rattle.rules.proofs.Laws.Frames.{frames-onward, rest-onward, by-frames}
-
-module _ {A : Type 0} {P : A → Type 0} where
-  pub only-all : (test : A → Bool) {xs : List A} → All P xs → All P (only test xs)
-  unfolding only
-  only-all test empty = empty
-  only-all test (and {x} {xs} h hs) = go (test x) (only-all test hs)
-    where
-      go : (b : Bool) → All P (only test xs) → All P (pick b (x ∷ only test xs) (only test xs))
-      go true r = and h r
-      go false r = r
-
-  pub all-append : {xs ys : List A} → All P xs → All P ys → All P (xs ++ ys)
-  all-append empty r = r
-  all-append (and h hs) r = and h (all-append hs r)
+use Rattle.rules.proofs.Laws.Lists.{all-drop, all-append, only-all, only-append}
+use Rattle.capture_laws.proofs.Faults.{no-fault, at-fault, late-fault, Grows, same, new, grows-kept}
+use Rattle.capture_laws.proofs.Faults.{earlier-grows, long-grows, magic-grows, link-grows, frames-grow}
+use Rattle.capture_laws.proofs.Frames.{size-least, size-append, frames-none, rest-none, frames-one, rest-one}
+use Rattle.capture_laws.proofs.Frames.{frames-onward, rest-onward, by-frames}
 
 -- its byte 3 stands at n or later; before n
 abbrev After : ℕ → Packet → Type 0

@@ -7,15 +7,14 @@ use mathlib.Core.Path.{_≡_, refl, sym, ap, _∙_}
 use mathlib.Core.Bool.{Bool, true, false}
 use mathlib.Core.List.{List}
 use lib.Dec.{ltb, eqb}
-use borrow.Author.Tests.{lt-ltb, le-ltb, ne-eqb, ltb-true, ltb-false, eqb-false}
-use Rattle.rules.specs.declared.SurveyAnswer.{SurveyAnswer}
+use borrow.Author.Tests.{ltb-true, ltb-false, eqb-false}
 use Rattle.rules.specs.declared.SurveyAnswer.the-variants.{Most, Refused}
 use Rattle.rules.specs.Bytes.{pick}
 use Rattle.rules.specs.Refusals.{Fault, none, fault, _orElse_}
 use Rattle.rules.specs.Capture.{formatFault}
 use Rattle.rules.specs.Seal.{captureUnfinished}
 use Rattle.rules.specs.Survey.{goodPackets, identifiers, withMost, HasMost, noGood, surveyFault, orMost}
 use Rattle.rules.specs.Survey.{surveyAnswer, MostIn}
 
 -- ---- one identifier more
 

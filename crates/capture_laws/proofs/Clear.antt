@@ -1,5 +1,5 @@
 -- A capture that shows no refusal so far: what bytes more show first.
-use Prim.Native.Nat.{ℕ, zero, suc, _+_, _-_, _*_, _≤_, _<_}
+use Prim.Native.Nat.{ℕ, _+_, _≤_, _<_}
 use native.Mathlib.Omega.{arith}
 use native.Mathlib.Decide.{decLe}
 use mathlib.Core.Path.{_≡_, refl, sym, ap, _∙_}
@@ -8,22 +8,23 @@ use mathlib.Core.Bool.{Bool, true, false, not, _&&_, and-false}
 use lib.ListN.{length, length-append, List·getD-append}
 use lib.Dec.{leb, ltb, eqb}
 use borrow.Author.Tests.{le-leb, lt-ltb, le-ltb, ltb-false}
 use Rattle.rules.specs.declared.Opening.{Opening}
 use Rattle.rules.specs.Bytes.{pick, byte, word32, only, endToEnd, All, and, empty}
 use Rattle.rules.specs.Refusals.{Fault, none, fault}
 use Rattle.rules.specs.Frames.{microseconds, storedLength, frameSize}
 use Rattle.rules.specs.Packets.{packets, wantedOf}
 use Rattle.rules.specs.Units.{arrivals, beginnings}
 use Rattle.rules.specs.Capture.{wholeFrames, unfinished, allFrames, earlier, showing, tooLong, wrongMagic}
 use Rattle.rules.specs.Capture.{wrongLink, wrongFrameHeader, wrongFrame, tooManyUnits, captureFault}
-use Rattle.rules.proofs.Laws.Frames.{size-least}
-use Rattle.rules.proofs.Laws.Capture.{too-long}
-use Rattle.rules.proofs.Laws.Faults.{Late, late-none, late-fault, Grows, same, new, showing-none, earlier-grows}
-use Rattle.rules.proofs.Laws.Faults.{magic-grows, link-grows, frames-grow}
-use Rattle.rules.proofs.Laws.Begins.{units-grow}
-use Rattle.rules.proofs.Laws.Onward.{base, base-sum, Whole, frames-whole, whole-part, unfinished-part}
-use Rattle.rules.proofs.Laws.Onward.{whole-full, unfinished-full, header-alone, of-none, layout}
-use Rattle.rules.proofs.Laws.Flow.{reached, nine, nine-of}
+use Rattle.capture_laws.specs.UnderWay.{Fine}
+use Rattle.capture_laws.proofs.Frames.{size-least}
+use Rattle.capture_laws.proofs.Capture.{too-long}
+use Rattle.capture_laws.proofs.Faults.{Late, late-none, late-fault, Grows, same, new, showing-none}
+use Rattle.capture_laws.proofs.Faults.{earlier-grows, magic-grows, link-grows, frames-grow}
+use Rattle.capture_laws.proofs.Begins.{units-grow}
+use Rattle.capture_laws.proofs.Onward.{base, base-sum, Whole, frames-whole, whole-part, unfinished-part}
+use Rattle.capture_laws.proofs.Onward.{whole-full, unfinished-full, header-alone, of-none, layout}
+use Rattle.capture_laws.proofs.Flow.{reached, nine, nine-of}
 
 never : {k p : ℕ} → fault k p ≡ none → ⊥
 never e = let z : _≡_ {A = ℕ} 0 1 = cc in omega arith
@@ -128,11 +129,6 @@ unfolding wrongLink
 link-early s h = showing-none (length s) 0 6 23 _ true h
 
 -- ---- 7 and 8
-
--- what is there of a frame's header shows no refusal
-pub record Fine (r : List ℕ) : Type 0 where
-  pub time : 8 ≤ length r → microseconds r ≤ 999999
-  pub size : 12 ≤ length r → storedLength r ≤ 65535
 
 pub shows : (n k place : ℕ) (w : Bool) → place < n → showing n k place w ≡ none → w ≡ false
 unfolding showing

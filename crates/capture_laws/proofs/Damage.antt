@@ -7,17 +7,17 @@ use mathlib.Core.List.{List, [], _∷_, _++_, map}
 use mathlib.Core.Bool.{Bool, true, false, not, _&&_, true≢false}
 use lib.ListN.{length}
 use lib.Dec.{eqb}
 use Rattle.rules.specs.declared.Opening.{Opening}
 use Rattle.rules.specs.declared.UnitRow.{UnitRow}
 use Rattle.rules.specs.Bytes.{pick, total, greatestOf, count, only, All, and, empty}
 use Rattle.rules.specs.Editions.{heedsSplices, knowsDamage}
 use Rattle.rules.specs.Packets.{Packet, packets, whole, condition, isBad, identifier, isWanted, wantedOf, badOf}
 use Rattle.rules.specs.Packets.{otherOf}
 use Rattle.rules.specs.Units.{Arrival, setApart, firstArrival, damagedArrival, laterArrival, arrivalsAfter}
-use Rattle.rules.specs.Units.{arrivals, beforeUnits}
+use Rattle.rules.specs.Units.{arrivals}
 use Rattle.rules.specs.Units.{intoFirst, groups, cellsOf, leastTime, unitOf, unitsOf}
 use Rattle.rules.specs.Capture.{allFrames, wholeWanted, units, badCount}
-use Rattle.rules.proofs.Laws.UnitsMore.{allPackets, allDamaged, packets-total}
+use Rattle.capture_laws.proofs.UnitsMore.{allPackets, allDamaged, packets-total}
 
 -- ---- where no damage is known, no arrival is set apart
 

@@ -1,36 +1,27 @@
 -- What a few bytes more of a frame do to the packets of a capture, and to what is counted of them.
-use Prim.Native.Nat.{ℕ, zero, suc, _+_, _-_, _*_, _≤_, _<_}
+use Prim.Native.Nat.{ℕ, suc, _+_, _-_, _*_, _≤_, _<_}
 use native.Mathlib.Omega.{arith}
-use mathlib.Core.Path.{_≡_, refl, sym, ap, _∙_}
+use mathlib.Core.Path.{_≡_, refl, _∙_}
 use mathlib.Core.List.{List, [], _∷_, _++_, append-nil, append-assoc}
 use mathlib.Core.Bool.{Bool, true, false, not}
-use lib.ListN.{length, drop, length-append, length-drop, List·getD-append}
+use lib.ListN.{length, drop, length-append, length-drop}
 use lib.Seq.{drop-append-le, drop-drop}
-use lib.Dec.{leb, ltb}
+use lib.Dec.{leb}
 use Rattle.rules.specs.declared.Opening.{Opening}
-use Rattle.rules.specs.Bytes.{pick, byte, count, only}
-use Rattle.rules.specs.Refusals.{Fault, none, fault}
+use Rattle.rules.specs.Bytes.{pick, count, only}
+use Rattle.rules.specs.Refusals.{Fault, none}
 use Rattle.rules.specs.Frames.{frameTime, frameSize}
 use Rattle.rules.specs.Editions.{knowsDamage}
 use Rattle.rules.specs.Packets.{Packet, carries, packetsFrom, packetsOf, packets, shown, whole, skipped}
 use Rattle.rules.specs.Packets.{wantedOf, badOf}
 use Rattle.rules.specs.Units.{Arrival, beforeUnits, beginnings}
 use Rattle.rules.specs.Capture.{wholeFrames, unfinished, allFrames, wholeWanted, shownWanted, badCount, beginsAt}
 use Rattle.rules.specs.Capture.{tooManyUnits}
+use Rattle.capture_laws.specs.UnderWay.{Split, current}
 use Rattle.rules.proofs.Laws.Lists.{only-append, count-append}
-use Rattle.rules.proofs.Laws.Onward.{base, unfinished-short, whole-part, whole-full, countOf, of-from}
-use Rattle.rules.proofs.Laws.Onward.{time-more, count-more, reaching, from-split, from-done, from-whole}
-use Rattle.rules.proofs.Laws.Onward.{from-short, from-first, of-none, layout, layout-more}
-
--- of the bytes r of a frame: k of its packets are behind, m are not, of which the first may be there in part
-pub record Split (r : List ℕ) (k m : ℕ) : Type 0 where
-  pub there : 58 ≤ length r
-  pub count : k + m ≡ countOf r
-  pub past : 58 + 188 * k ≤ length r
-
--- the bytes of the packet under way
-abbrev pub current : List ℕ → ℕ → List ℕ
-current r k = drop (58 + 188 * k) r
+use Rattle.capture_laws.proofs.Onward.{base, of-from}
+use Rattle.capture_laws.proofs.Onward.{time-more, count-more, reaching, from-split, from-done, from-whole}
+use Rattle.capture_laws.proofs.Onward.{from-short, from-first, of-none, layout, layout-more}
 
 -- all packets of a capture of which at least d bytes are there
 abbrev pub reached : ℕ → List ℕ → List Packet

@@ -3,24 +3,25 @@ use Prim.Native.Nat.{ℕ, zero, suc, _+_, _-_, _*_, _/_, _%_, _≤_, _<_}
 use native.Mathlib.Omega.{arith}
 use native.Mathlib.Decide.{decLe}
 use mathlib.Core.Path.{_≡_, refl, sym, ap, _∙_}
-use mathlib.Core.List.{List, [], _∷_, _++_, append-nil, append-assoc}
-use mathlib.Core.Bool.{Bool, true, false, _&&_, false≢true}
+use mathlib.Core.List.{List, [], _∷_, _++_, append-nil}
+use mathlib.Core.Bool.{Bool, true, false, _&&_}
 use lib.ListN.{length, take, drop, length-append, length-take, length-drop, take-append-drop, drop-of-length-le}
 use lib.ListN.{List·getD-append}
-use lib.Seq.{length-take-le, take-append-le, drop-append-le, drop-drop, take-all, drop-length}
+use lib.Seq.{length-take-le, take-append-le, drop-append-le, drop-drop, take-all}
 use lib.Dec.{leb, ltb, eqb}
 use borrow.Author.Tests.{le-leb, lt-leb, leb-true, ltb-true, eqb-true}
 use Rattle.rules.specs.Bytes.{pick, byte, word32, network16, only, endToEnd, All, and, empty}
 use Rattle.rules.specs.Frames.{seconds, microseconds, storedLength, frameTime, body, frameSize, frames, rest}
 use Rattle.rules.specs.Frames.{behindHeader}
 use Rattle.rules.specs.Packets.{Packet, ipLength, udpLength, holdsHeaders, isIpv4, isPlain, isUnfragmented}
 use Rattle.rules.specs.Packets.{isUdp, lengthsAgree, isStoredWhole, holdsPackets, carries, packetsFrom}
 use Rattle.rules.specs.Packets.{packetsIn, packetsOf, packets}
 use Rattle.rules.specs.Capture.{wholeFrames, unfinished, allFrames}
+use Rattle.capture_laws.specs.UnderWay.{countOf}
 use Rattle.rules.proofs.Laws.Lists.{both, only-append}
-use Rattle.rules.proofs.Laws.Frames.{size-least, size-append, frames-none, rest-none, frames-one, rest-one}
-use Rattle.rules.proofs.Laws.Frames.{frames-append, rest-append, frames-all, by-frames}
-use Rattle.rules.proofs.Laws.Capture.{packets-append}
+use Rattle.capture_laws.proofs.Frames.{size-least, size-append, frames-none, rest-none, frames-one, rest-one}
+use Rattle.capture_laws.proofs.Frames.{frames-append, rest-append, frames-all, by-frames}
+use Rattle.capture_laws.proofs.Capture.{packets-append}
 
 -- ---- the frames
 
@@ -91,10 +92,6 @@ header-alone s h =
     (rw e (frames-none [] (omega (arith, size-least []))), rw e (rest-none [] (omega (arith, size-least []))))
 
 -- ---- a frame's packets
-
--- how many packets a frame has: none, if it does not carry
-unfoldable pub countOf : List ℕ → ℕ
-countOf f = pick (carries f) ((udpLength f - 8) / 188) 0
 
 pub of-from : (place : ℕ) (f : List ℕ) →
     packetsOf place f ≡ packetsFrom (countOf f) (frameTime f) (place + 58) (drop 58 f)

@@ -1,0 +1,12 @@
+pub mod Frames
+pub mod Capture
+pub mod Onward
+pub mod Faults
+pub mod Units
+pub mod UnitsMore
+pub mod Damage
+pub mod Flow
+pub mod Begins
+pub mod Clear
+pub mod Bounds
+pub mod Survey
