@@ -8,7 +8,7 @@ use lib.ListN.{length}
 use borrow.Author.Tests.{eq-eqb, ne-eqb}
 use Rattle.rules.specs.declared.Opening.{Opening}
 use Rattle.rules.specs.Capture.{units, frameCount, skippedCount, tooManyUnits, captureInside}
-use Rattle.capture_laws.proofs.Clear.{none-both}
+use Rattle.capture_laws.proofs.Format.{none-both, capture-format}
 use Rattle.capture_laws.proofs.Bounds.{frame-count-few, skipped-few, bad-few}
 use Rattle.capture_cells.specs.declared.Cell.{Cell}
 use Rattle.capture_walk.specs.declared.types.Walk.{Walk}
@@ -16,7 +16,6 @@ use Rattle.capture_walk.specs.Format.{formatFault, wholeCells}
 use Rattle.capture_walk.specs.State as walk
 use Rattle.capture_walk.specs.Contract.{Asks}
 use Rattle.capture_walk.proofs.Use.{says-fed, says-clear, says-none, says-frames, says-skipped, clear-long, whole-few}
-use Rattle.capture_walk.proofs.Format.{capture-format}
 use Rattle.capture_units.specs.Units.{ofPid, unitsIn}
 use Rattle.capture_units.proofs.Steps.{totals-exact}
 use Rattle.capture_units.proofs.Laws.{units-cells, bad-all, pid-few}

@@ -12,12 +12,12 @@ use lib.Seq.{length-take-le, getD-take, drop-append-le, take-append-add}
 use lib.Dec.{leb}
 use borrow.Author.Tests.{le-leb, lt-leb}
 use Rattle.rules.specs.declared.Opening.{Opening}
-use Rattle.rules.specs.Bytes.{pick, byte, word32, network16, only, All, and, empty}
+use Rattle.rules.specs.Bytes.{pick, byte, only, All, and, empty}
 use Rattle.rules.specs.Refusals.{fault}
-use Rattle.rules.specs.Frames.{seconds, microseconds, storedLength, frameTime, body, frameSize, frames, rest}
+use Rattle.rules.specs.Frames.{frameTime, body, frameSize, frames, rest}
 use Rattle.rules.specs.Frames.{behindHeader}
 use Rattle.rules.specs.Editions.{knowsDamage}
-use Rattle.rules.specs.Packets.{Packet, ipLength, udpLength, carries, packetsFrom, packetsIn, packetsOf, packets}
+use Rattle.rules.specs.Packets.{Packet, udpLength, carries, packetsFrom, packetsIn, packetsOf, packets}
 use Rattle.rules.specs.Packets.{shown, startsCell, damageMark, condition, identifier, isWanted, startMark}
 use Rattle.rules.specs.Packets.{wantedOf}
 use Rattle.rules.specs.Units.{Arrival, setApart, firstArrival, damagedArrival, laterArrival, arrivalsAfter}
@@ -29,6 +29,7 @@ use Rattle.capture_laws.proofs.Faults.{no-fault, at-fault, late-fault, 
 use Rattle.capture_laws.proofs.Faults.{earlier-grows, long-grows, magic-grows, link-grows, frames-grow}
 use Rattle.capture_laws.proofs.Frames.{size-least, size-append, frames-none, rest-none, frames-one, rest-one}
 use Rattle.capture_laws.proofs.Frames.{frames-onward, rest-onward, by-frames}
+use Rattle.capture_laws.proofs.Onward.{udp-more, time-more, carries-more}
 
 -- its byte 3 stands at n or later; before n
 abbrev After : ℕ → Packet → Type 0
@@ -165,64 +166,6 @@ of-early n place f h = go (carries f) (decLe 58 (length f))
         rw (from-none ((udpLength f - 8) / 188) (frameTime f) (place + 58) (drop 42 (drop 16 f))
         (simp length-drop (omega arith))) empty
 
--- the fields of a frame that is there up to its first packet's byte 3 stay
-module _ (x t : List ℕ) (h : 62 ≤ length x) where
-  body-more : body (x ++ t) ≡ body x ++ t
-  unfolding body
-  body-more = drop-append-le 16 x t (omega arith)
-
-  in-body : (i : ℕ) → i < 46 → byte (body x ++ t) i ≡ byte (body x) i
-  unfolding body
-  in-body i g = List·getD-append (drop 16 x) t 0 i (simp length-drop (omega arith))
-
-  udp-more : udpLength (x ++ t) ≡ udpLength x
-  unfolding udpLength network16
-  udp-more = rw (body-more, in-body 38 (omega arith), in-body 39 (omega arith))
-
-  ip-more : ipLength (x ++ t) ≡ ipLength x
-  unfolding ipLength network16
-  ip-more = rw (body-more, in-body 16 (omega arith), in-body 17 (omega arith))
-
-  stored-more : storedLength (x ++ t) ≡ storedLength x
-  unfolding storedLength word32
-  stored-more =
-      rw (
-        List·getD-append x t 0 8 (omega arith),
-        List·getD-append x t 0 9 (omega arith),
-        List·getD-append x t 0 10 (omega arith),
-        List·getD-append x t 0 11 (omega arith),
-      )
-
-  time-more : frameTime (x ++ t) ≡ frameTime x
-  unfolding frameTime seconds microseconds word32
-  time-more =
-      rw (
-        List·getD-append x t 0 0 (omega arith),
-        List·getD-append x t 0 1 (omega arith),
-        List·getD-append x t 0 2 (omega arith),
-        List·getD-append x t 0 3 (omega arith),
-        List·getD-append x t 0 4 (omega arith),
-        List·getD-append x t 0 5 (omega arith),
-        List·getD-append x t 0 6 (omega arith),
-        List·getD-append x t 0 7 (omega arith),
-      )
-
-  carries-more : carries (x ++ t) ≡ carries x
-  unfolding carries network16
-  carries-more =
-      rw (
-        stored-more,
-        ip-more,
-        udp-more,
-        body-more,
-        in-body 12 (omega arith),
-        in-body 13 (omega arith),
-        in-body 14 (omega arith),
-        in-body 20 (omega arith),
-        in-body 21 (omega arith),
-        in-body 23 (omega arith),
-      )
-
 first-packet : (x t : List ℕ) → 62 ≤ length x → drop 42 (body (x ++ t)) ≡ drop 42 (body x) ++ t
 unfolding body
 first-packet x t h =
@@ -232,7 +175,7 @@ in-grow : (n place : ℕ) (x t : List ℕ) → n ≡ place + length x → 62 ≤
     Extends n (shown (packetsIn place x)) (shown (packetsIn place (x ++ t)))
 unfolding packetsIn
 in-grow n place x t e h =
-    rw (udp-more x t h, time-more x t h, first-packet x t h)
+    rw (udp-more x t (omega arith), time-more x t (omega arith), first-packet x t h)
     (from-grow n ((udpLength x - 8) / 188) (frameTime x) (place + 58) (drop 42 (body x)) t
     (unfold body in simp length-drop (omega arith)))
 
@@ -260,7 +203,7 @@ of-grow n place x t e = go (decLe 62 (length x))
     there h false = ends empty
 
     go : Dec (62 ≤ length x) → Extends n (shown (packetsOf place x)) (shown (packetsOf place (x ++ t)))
-    go (yes h) = rw (carries-more x t h) (there h (carries x))
+    go (yes h) = rw (carries-more x t (omega arith)) (there h (carries x))
     go (no h) = rw (of-none place x (lt-of-not-le h)) (ends (of-late n place (x ++ t) (omega arith)))
 
 -- ---- the packets of frames

@@ -100,7 +100,7 @@ packets-few place (f ∷ fs) =
     let j = length-append f (endToEnd fs) in
     omega arith)
 
-reached-few : (s : List ℕ) → 188 * length (reached 188 s) ≤ length s
+pub reached-few : (s : List ℕ) → 188 * length (reached 188 s) ≤ length s
 unfolding allFrames
 reached-few s =
     let h = packets-few 24 (wholeFrames s ++ unfinished s ∷ []) in

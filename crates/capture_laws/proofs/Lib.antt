@@ -7,6 +7,6 @@ pub mod UnitsMore
 pub mod Damage
 pub mod Flow
 pub mod Begins
-pub mod Clear
+pub mod Format
 pub mod Bounds
 pub mod Survey

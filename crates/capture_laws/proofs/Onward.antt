@@ -114,7 +114,7 @@ module _ (x t : List ℕ) (h : 58 ≤ length x) where
   unfolding body
   in-body i g = List·getD-append (drop 16 x) t 0 i (simp length-drop (omega arith))
 
-  udp-more : udpLength (x ++ t) ≡ udpLength x
+  pub udp-more : udpLength (x ++ t) ≡ udpLength x
   unfolding udpLength network16
   udp-more = rw (body-more, in-body 38 (omega arith), in-body 39 (omega arith))
 

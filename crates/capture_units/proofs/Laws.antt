@@ -21,7 +21,7 @@ use Rattle.rules.specs.Units as rule
 use Rattle.rules.specs.Capture.{units, badCount, earlier, beginsAt, tooManyUnits, captureFault}
 use Rattle.rules.proofs.Laws.Lists.{only-append}
 use Rattle.capture_laws.proofs.Flow.{reached, nine, nine-of, bad-of, wanted-of}
-use Rattle.capture_laws.proofs.Clear.{none-both}
+use Rattle.capture_laws.proofs.Format.{none-both, capture-format}
 use Rattle.capture_laws.proofs.Faults.{no-fault, at-fault, Late, late-none, late-fault, Grows, same, new}
 use Rattle.capture_laws.proofs.Begins.{units-grow}
 use Rattle.capture_laws.proofs.Bounds.{only-few}
@@ -30,7 +30,6 @@ use Rattle.capture_cells.specs.Cells.{cellIn, cellOf, head}
 use Rattle.capture_walk.specs.Format.{formatFault, shownCells, wholeCells}
 use Rattle.capture_walk.specs.declared.types.Walk.{Walk}
 use Rattle.capture_walk.specs.Contract.{Gains, Level, Halts, again, surplus, silent}
-use Rattle.capture_walk.proofs.Format.{capture-format}
 use Rattle.capture_walk.proofs.Lists.{shown-of, whole-of, map-append, heads}
 use Rattle.capture_units.specs.Units.{asKnown, seen, isOf, allOf, fromSound, beforeSound, ofPid, badIn, marks}
 use Rattle.capture_units.specs.Units.{measured, arrivalsAfter, arrivals}

@@ -28,7 +28,7 @@ use Rattle.capture_walk.specs.declared.types.Event.the-variants.{Nothing
 use Rattle.capture_walk.specs.Format.{formatFault, headOf, cellsFrom}
 use Rattle.capture_walk.specs.State.{Under, Core, Stands}
 use Rattle.capture_walk.specs.Contract.{Collects, Taken, Settles, Gains, Level, Stood}
-use Rattle.capture_walk.proofs.Format.{Sound, sound-of, fine-now, next-none}
+use Rattle.capture_laws.proofs.Format.{Sound, sound-of, fine-now, next-none}
 use Rattle.capture_walk.proofs.Lists.{from-cells, cells-cut, gains-none, gains-shown, gains-same, gains-whole}
 use Rattle.capture_walk.proofs.Lists.{gains-many, level}
 use Rattle.capture_walk.proofs.Fits.{fits-skip, size-is, stored-more, fine-skip}

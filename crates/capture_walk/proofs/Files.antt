@@ -14,7 +14,8 @@ use Rattle.rules.specs.Packets.{skipped}
 use Rattle.rules.specs.Capture.{earlier, wrongMagic, wrongLink}
 use Rattle.capture_laws.proofs.Onward.{header-alone}
 use Rattle.capture_laws.proofs.Flow.{reached}
-use Rattle.capture_laws.proofs.Clear.{magic-more, magic-early, link-early, magic-shown, link-shown, reached-none}
+use Rattle.capture_laws.proofs.Format.{magic-more, magic-early, link-early, magic-shown, link-shown, reached-none}
+use Rattle.capture_laws.proofs.Format.{Sound, sound-of, header-shows}
 use Rattle.capture_cells.specs.Cells.{isMagic}
 use Rattle.capture_cells.proofs.Agree.{magic-agree, link-agree}
 use Rattle.capture_walk.specs.declared.types.Walk.{Walk}
@@ -22,7 +23,6 @@ use Rattle.capture_walk.specs.declared.types.Event.the-variants.{Nothing
 use Rattle.capture_walk.specs.Format.{formatFault}
 use Rattle.capture_walk.specs.State.{Head, Core, Stands, head, live}
 use Rattle.capture_walk.specs.Contract.{silent, Stood}
-use Rattle.capture_walk.proofs.Format.{Sound, sound-of, header-shows}
 use Rattle.capture_walk.proofs.Lists.{shown-same, gains-none}
 use Rattle.capture_walk.proofs.Front.{Placed, Held, held-agree, held-more}
 use Rattle.capture_walk.proofs.Pieces.{refuse}

@@ -19,7 +19,7 @@ use Rattle.capture_walk.specs.declared.types.Walk.{Walk}
 use Rattle.capture_walk.specs.declared.types.Event.the-variants.{Nothing, Refused}
 use Rattle.capture_walk.specs.State.{Under, Core, Stands}
 use Rattle.capture_walk.specs.Contract.{Carried, Within, Taken, Settles, Gains, Halts, silent, Stood}
-use Rattle.capture_walk.proofs.Format.{Sound, sound-of, fine-now, next-none, next-seven, next-eight}
+use Rattle.capture_laws.proofs.Format.{Sound, sound-of, fine-now, next-none, next-seven, next-eight}
 use Rattle.capture_walk.proofs.Lists.{shown-same, gains-none}
 use Rattle.capture_walk.proofs.Fits.{stored-more, fine-run, time-behind, fits-run}
 use Rattle.capture_walk.proofs.Pieces.{refuse}

@@ -10,14 +10,14 @@ use borrow.Author.Tests.{lt-ltb, le-ltb}
 use lib.Seq.{take-all, length-take-le, sets, sets-eq}
 use Rattle.rules.specs.Refusals.{none, fault}
 use Rattle.rules.specs.Capture.{wholeFrames, unfinished, captureInside}
-use Rattle.capture_laws.proofs.Clear.{magic-early, link-early, long-of}
+use Rattle.capture_laws.proofs.Format.{magic-early, link-early, long-of, format-kept, Sound, sound-of, four}
+use Rattle.capture_laws.proofs.Format.{header-shows}
 use Rattle.capture_walk.specs.declared.types.Walk.{Walk}
 use Rattle.capture_walk.specs.declared.types.Step.{Step}
 use Rattle.capture_walk.specs.declared.types.Event.the-variants.{Refused}
 use Rattle.capture_walk.specs.Format.{formatFault}
 use Rattle.capture_walk.specs.State.{loaded, Core, Head, Stands, refused, head, live, Means}
 use Rattle.capture_walk.specs.Contract.{Opened, Halts, again, surplus, Stood, Goes, Stepped}
-use Rattle.capture_walk.proofs.Format.{format-kept, Sound, sound-of, four, header-shows}
 
 -- ---- a state that has refused nothing
 

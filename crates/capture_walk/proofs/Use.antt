@@ -1,24 +1,17 @@
 -- For whoever counts cells on top of the walk.
-use Prim.Native.Nat.{ℕ, zero, suc, _+_, _*_, _≤_, _<_}
+use Prim.Native.Nat.{ℕ, suc, _+_, _*_, _≤_}
 use native.Mathlib.Omega.{arith}
-use native.Mathlib.Decide.{decLe}
 use mathlib.Core.Path.{_≡_, refl, sym, ap, _∙_}
-use mathlib.Core.List.{List, [], _∷_, _++_, append-nil, map}
-use lib.ListN.{length, take, drop, length-append, length-take, length-drop}
-use borrow.Author.Tests.{le-leb, lt-leb}
-use lib.Dec.{leb}
-use Rattle.rules.specs.Bytes.{pick, count, endToEnd, only}
+use mathlib.Core.List.{List, [], _∷_, _++_, map}
+use lib.ListN.{length}
+use Rattle.rules.specs.Bytes.{count}
 use Rattle.rules.specs.Refusals.{Fault, none, fault}
-use Rattle.rules.specs.Frames.{frameTime, behindHeader, frames, rest}
-use Rattle.rules.specs.Packets.{Packet, skipped, packetsFrom, packetsOf, packets}
-use Rattle.rules.specs.Capture.{wholeFrames, unfinished, allFrames, frameCount, skippedCount}
-use Rattle.capture_laws.specs.UnderWay.{countOf}
-use Rattle.rules.proofs.Laws.Lists.{only-append, endToEnd-append}
-use Rattle.capture_laws.proofs.Frames.{frames-all}
-use Rattle.capture_laws.proofs.Onward.{header-alone, of-from, reaching}
+use Rattle.rules.specs.Packets.{skipped}
+use Rattle.rules.specs.Capture.{frameCount, skippedCount}
+use Rattle.capture_laws.proofs.Onward.{header-alone}
 use Rattle.capture_laws.proofs.Flow.{reached}
-use Rattle.capture_laws.proofs.Clear.{long-of, reached-none}
-use Rattle.capture_cells.specs.declared.Cell.{Cell}
+use Rattle.capture_laws.proofs.Bounds.{reached-few}
+use Rattle.capture_laws.proofs.Format.{long-of, reached-none, format-kept, sound-of}
 use Rattle.capture_cells.specs.Cells.{cellOf}
 use Rattle.capture_walk.specs.declared.types.Walk.{Walk}
 use Rattle.capture_walk.specs.declared.types.Event.{Event}
@@ -26,7 +19,6 @@ use Rattle.capture_walk.specs.declared.types.Event.the-variants.{Nothing
 use Rattle.capture_walk.specs.Format.{formatFault, wholeCells}
 use Rattle.capture_walk.specs.State.{Stands, refused, head, live}
 use Rattle.capture_walk.specs.Contract.{Tells, wholeOf}
-use Rattle.capture_walk.proofs.Format.{format-kept, sound-of}
 use Rattle.capture_walk.proofs.Lists.{whole-of}
 
 never : {k p : ℕ} → fault k p ≡ none → ⊥
@@ -100,61 +92,6 @@ pub none-whole : wholeCells [] ≡ []
 none-whole = whole-of [] ∙ ap (map cellOf) (reached-none [] (omega arith) 188 (omega arith) (omega arith))
 
 -- ---- no more cells than the bytes allow
-
-from-few : (m τ q : ℕ) (y : List ℕ) → 188 * length (reaching 188 (packetsFrom m τ q y)) ≤ length y
-unfolding packetsFrom only
-from-few zero τ q y = omega arith
-from-few (suc m) τ q y = go (decLe 188 (length y)) (from-few m τ (q + 188) (drop 188 y))
-  where
-    more : List Packet
-    more = reaching 188 (packetsFrom m τ (q + 188) (drop 188 y))
-
-    go : Dec (188 ≤ length y) → 188 * length more ≤ length (drop 188 y) →
-        188 * length (pick (leb 188 (length (take 188 y)))
-        (record { time = τ; place = q; bytes = take 188 y } ∷ more) more) ≤ length y
-    go (yes g) h =
-        rw (le-leb 188 (length (take 188 y)) (simp length-take (omega arith)))
-        (let d = length-drop 188 y in omega arith)
-    go (no g) h =
-        rw (lt-leb 188 (length (take 188 y)) (simp length-take (omega arith)))
-        (let d = length-drop 188 y in omega arith)
-
-of-few : (place : ℕ) (f : List ℕ) → 188 * length (reaching 188 (packetsOf place f)) ≤ length f
-of-few place f =
-    rw (of-from place f) (let h = from-few (countOf f) (frameTime f) (place + 58) (drop 58 f) in
-    let d = length-drop 58 f in omega arith)
-
-packets-few : (place : ℕ) (fs : List (List ℕ)) → 188 * length (reaching 188 (packets place fs)) ≤ length (endToEnd fs)
-unfolding packets endToEnd
-packets-few place [] = unfold only in omega arith
-packets-few place (f ∷ fs) =
-    let e = only-append (λ (p : Packet). leb 188 (length (p .bytes))) (packetsOf place f)
-    (packets (place + length f) fs) in
-    rw e
-    (let l = length-append (reaching 188 (packetsOf place f)) (reaching 188 (packets (place + length f) fs)) in
-    let a = of-few place f in
-    let b = packets-few (place + length f) fs in
-    let j = length-append f (endToEnd fs) in
-    omega arith)
-
-all-bytes : (s : List ℕ) → length (endToEnd (wholeFrames s)) + length (unfinished s) ≤ length s
-unfolding wholeFrames unfinished behindHeader
-all-bytes s =
-    let e = ap length (frames-all (drop 24 s)) in
-    let l = length-append (endToEnd (frames (drop 24 s))) (rest (drop 24 s)) in
-    let d = length-drop 24 s in
-    omega arith
-
-reached-few : (s : List ℕ) → 188 * length (reached 188 s) ≤ length s
-unfolding allFrames
-reached-few s =
-    let h = packets-few 24 (wholeFrames s ++ unfinished s ∷ []) in
-    let j = ap length (endToEnd-append (wholeFrames s) (unfinished s ∷ [])) in
-    let l = length-append (endToEnd (wholeFrames s)) (endToEnd (unfinished s ∷ [])) in
-    let a = all-bytes s in
-    let e : length (endToEnd (unfinished s ∷ [])) ≡ length (unfinished s) =
-    unfold endToEnd in length-append (unfinished s) [] ∙ omega arith in
-    omega arith
 
 length-map : {A B : Type 0} (f : A → B) (xs : List A) → length (map f xs) ≡ length xs
 length-map f [] = refl

@@ -42,7 +42,7 @@ use Rattle.capture_laws.proofs.Frames.{size-least, by-frames, frames-none, fram
 use Rattle.capture_laws.proofs.Onward.{base, base-sum, Whole, frames-whole, of-none, of-from, layout}
 use Rattle.capture_laws.proofs.Flow.{reached, wanted-of, nine-of, few-begin}
 use Rattle.rules.proofs.Laws.Lists.{all-drop, count-few, inside, smaller-min, larger-max, only-all, all-append}
-use Rattle.capture_laws.proofs.Clear.{none-both, clear-of, long-of, shows}
+use Rattle.capture_laws.proofs.Format.{none-both, clear-of, long-of, shows}
 use Rattle.capture_laws.proofs.Bounds.{frame-count-few, skipped-few, bad-few, wanted-few}
 use Rattle.luma_laws.proofs.Sizes.{good}
 use Rattle.luma_laws.proofs.Ranges.{AtMost, sample-scored, sample-changed}
@@ -214,7 +214,7 @@ wanted-timed o s h c i =
     let whole-bytes : All Bytes fs = unfold wholeFrames behindHeader in frames-bytes (drop 24 s) (bytes-drop 24 s h) in
     let room : 24 + length (endToEnd fs) ≤ length s = unfold base in omega (arith, base-sum s (header-there s i)) in
     let fine : wrongFrame (length s) 24 (fs ++ unfinished s ∷ []) ≡ none =
-    unfold allFrames in clear-of o s c .frames in
+    unfold allFrames in clear-of o s c .sound .frames in
     rw (wanted-between o s (between s i))
     (only-all (λ (p : Packet). isWanted o (p .bytes))
     (packets-timed 24 fs (frames-timed (length s) 24 fs (unfinished s ∷ []) (frames-whole s) whole-bytes room fine)))
@@ -370,7 +370,7 @@ unit-fits {n} {u} h r =
     }
 
 pub capture-most : (o : Opening) (capture luma : List ℕ) → Sealable o capture luma → length capture ≤ 268435456
-capture-most o capture luma h = long-of capture (clear-of o capture (h .clear) .long)
+capture-most o capture luma h = long-of capture (clear-of o capture (h .clear) .sound .long)
 
 -- ---- scenes
 

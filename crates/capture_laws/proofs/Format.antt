@@ -1,4 +1,4 @@
--- A capture that shows no refusal so far: what bytes more show first.
+-- Refusals 4 to 8 of a capture that goes on, and that captureFault is these and 9.
 use Prim.Native.Nat.{ℕ, _+_, _≤_, _<_}
 use native.Mathlib.Omega.{arith}
 use native.Mathlib.Decide.{decLe}
@@ -7,7 +7,7 @@ use mathlib.Core.List.{List, [], _∷_, _++_, append-assoc}
 use mathlib.Core.Bool.{Bool, true, false, not, _&&_, and-false}
 use lib.ListN.{length, length-append, List·getD-append}
 use lib.Dec.{leb, ltb, eqb}
-use borrow.Author.Tests.{le-leb, lt-ltb, le-ltb, ltb-false}
+use borrow.Author.Tests.{le-leb, lt-leb, lt-ltb, le-ltb, ltb-false}
 use Rattle.rules.specs.declared.Opening.{Opening}
 use Rattle.rules.specs.Bytes.{pick, byte, word32, only, endToEnd, All, and, empty}
 use Rattle.rules.specs.Refusals.{Fault, none, fault}
@@ -15,13 +15,12 @@ use Rattle.rules.specs.Frames.{microseconds, storedLength, frameSize}
 use Rattle.rules.specs.Packets.{packets, wantedOf}
 use Rattle.rules.specs.Units.{arrivals, beginnings}
 use Rattle.rules.specs.Capture.{wholeFrames, unfinished, allFrames, earlier, showing, tooLong, wrongMagic}
-use Rattle.rules.specs.Capture.{wrongLink, wrongFrameHeader, wrongFrame, tooManyUnits, captureFault}
+use Rattle.rules.specs.Capture.{wrongLink, wrongFrameHeader, wrongFrame, tooManyUnits, formatFault, captureFault}
 use Rattle.capture_laws.specs.UnderWay.{Fine}
 use Rattle.capture_laws.proofs.Frames.{size-least}
 use Rattle.capture_laws.proofs.Capture.{too-long}
-use Rattle.capture_laws.proofs.Faults.{Late, late-none, late-fault, Grows, same, new, showing-none}
-use Rattle.capture_laws.proofs.Faults.{earlier-grows, magic-grows, link-grows, frames-grow}
-use Rattle.capture_laws.proofs.Begins.{units-grow}
+use Rattle.capture_laws.proofs.Faults.{Late, late-none, late-fault, Grows, same, new, grows-kept, showing-none}
+use Rattle.capture_laws.proofs.Faults.{earlier-grows, long-grows, magic-grows, link-grows, frames-grow}
 use Rattle.capture_laws.proofs.Onward.{base, base-sum, Whole, frames-whole, whole-part, unfinished-part}
 use Rattle.capture_laws.proofs.Onward.{whole-full, unfinished-full, header-alone, of-none, layout}
 use Rattle.capture_laws.proofs.Flow.{reached, nine, nine-of}
@@ -42,27 +41,69 @@ earlier-none : (f : Fault) → earlier f none ≡ f
 earlier-none none = refl
 earlier-none (fault k p) = refl
 
--- ---- none of the five stands
+-- ---- the rules' refusals are these and 9
 
-pub record Clear (o : Opening) (s : List ℕ) : Type 0 where
+earlier-assoc : (f g h : Fault) → earlier f (earlier g h) ≡ earlier (earlier f g) h
+earlier-assoc none g h = refl
+earlier-assoc (fault k p) none h = refl
+earlier-assoc (fault k p) (fault l q) none = sym (earlier-none (pick (leb p q) (fault k p) (fault l q)))
+earlier-assoc (fault k p) (fault l q) (fault m r) = go (decLe p q) (decLe q r) (decLe p r)
+  where
+    go : Dec (p ≤ q) → Dec (q ≤ r) → Dec (p ≤ r) →
+        earlier (fault k p) (pick (leb q r) (fault l q) (fault m r))
+        ≡ earlier (pick (leb p q) (fault k p) (fault l q)) (fault m r)
+    go (yes a) (yes b) (yes d) = rw (le-leb q r b, le-leb p q a, le-leb p r d)
+    go (yes a) (yes b) (no d) = absurd (omega arith)
+    go (yes a) (no b) (yes d) = rw (lt-leb q r (omega arith), le-leb p q a, le-leb p r d)
+    go (yes a) (no b) (no d) = rw (lt-leb q r (omega arith), le-leb p q a, lt-leb p r (omega arith))
+    go (no a) (yes b) d = rw (le-leb q r b, lt-leb p q (omega arith), le-leb q r b)
+    go (no a) (no b) (yes d) = absurd (omega arith)
+    go (no a) (no b) (no d) =
+        rw (lt-leb q r (omega arith), lt-leb p q (omega arith), lt-leb q r (omega arith), lt-leb p r (omega arith))
+
+pub capture-format : (o : Opening) (s : List ℕ) → captureFault o s ≡ earlier (formatFault s) (tooManyUnits o s)
+unfolding captureFault formatFault
+capture-format o s =
+    rw (
+      earlier-assoc (wrongLink s) (wrongFrame (length s) 24 (allFrames s)) (tooManyUnits o s),
+      earlier-assoc (wrongMagic s) (earlier (wrongLink s) (wrongFrame (length s) 24 (allFrames s))) (tooManyUnits o s),
+      earlier-assoc (tooLong s)
+          (earlier (wrongMagic s) (earlier (wrongLink s) (wrongFrame (length s) 24 (allFrames s)))) (tooManyUnits o s),
+    )
+
+-- ---- a refusal stays
+
+pub format-kept : (s t : List ℕ) (k p : ℕ) → formatFault s ≡ fault k p → formatFault (s ++ t) ≡ fault k p
+unfolding formatFault
+format-kept s t k p h =
+    grows-kept (earlier-grows (long-grows s t)
+    (earlier-grows (magic-grows s t) (earlier-grows (link-grows s t) (frames-grow s t)))) h
+
+-- ---- none of the four stands
+
+pub record Sound (s : List ℕ) : Type 0 where
   pub long : tooLong s ≡ none
   pub magic : wrongMagic s ≡ none
   pub link : wrongLink s ≡ none
   pub frames : wrongFrame (length s) 24 (allFrames s) ≡ none
+
+pub sound-of : (s : List ℕ) → formatFault s ≡ none → Sound s
+unfolding formatFault
+sound-of s h =
+    let a = none-both (tooLong s) _ h in
+    let b = none-both (wrongMagic s) _ (a .1) in
+    let c = none-both (wrongLink s) (wrongFrame (length s) 24 (allFrames s)) (b .1) in
+    record { long = a .0; magic = b .0; link = c .0; frames = c .1 }
+
+-- and there is no 751st unit
+pub record Clear (o : Opening) (s : List ℕ) : Type 0 where
+  pub sound : Sound s
   pub units : tooManyUnits o s ≡ none
 
 pub clear-of : (o : Opening) (s : List ℕ) → captureFault o s ≡ none → Clear o s
-unfolding captureFault
 clear-of o s h =
-    let a = none-both (tooLong s) _ h in
-    let b = none-both (wrongMagic s) _ (a .1) in
-    let c = none-both (wrongLink s) _ (b .1) in
-    let d = none-both (wrongFrame (length s) 24 (allFrames s)) (tooManyUnits o s) (c .1) in
-    record { long = a .0; magic = b .0; link = c .0; frames = d .0; units = d .1 }
-
-pub none-of : {o : Opening} {s : List ℕ} → Clear o s → captureFault o s ≡ none
-unfolding captureFault
-none-of c = rw (c .long, c .magic, c .link, c .frames, c .units)
+    let b = none-both (formatFault s) (tooManyUnits o s) (sym (capture-format o s) ∙ h) in
+    record { sound = sound-of s (b .0); units = b .1 }
 
 -- ---- 4
 
@@ -86,13 +127,11 @@ four-first n late-none = refl
 four-first n (late-fault {p = q} h) = rw (le-leb n q h)
 
 -- at one byte 4 comes first
-pub four : (o : Opening) (s t : List ℕ) → Clear o s → length s ≡ 268435456 → 0 < length t →
-    captureFault o (s ++ t) ≡ fault 4 268435456
-unfolding captureFault
-four o s t c e h =
-    let g = earlier-grows (magic-grows s t)
-    (earlier-grows (link-grows s t) (earlier-grows (frames-grow s t) (units-grow o s t))) in
-    let l = grows-late g (rw (c .magic, c .link, c .frames, c .units)) in
+pub four : (s t : List ℕ) → Sound s → length s ≡ 268435456 → 0 < length t → formatFault (s ++ t) ≡ fault 4 268435456
+unfolding formatFault
+four s t c e h =
+    let g = earlier-grows (magic-grows s t) (earlier-grows (link-grows s t) (frames-grow s t)) in
+    let l = grows-late g (rw (c .magic, c .link, c .frames)) in
     rw (too-long (s ++ t) (simp length-append (omega arith))) (four-first 268435456 (rw e at l))
 
 -- ---- 5 and 6
@@ -257,9 +296,9 @@ module _ (s t : List ℕ) (h : 24 ≤ length s) (fits : length (unfinished s ++ 
           (omega (arith, size-now))) (earlier-none (wrongFrameHeader (length (s ++ t)) (base s) (unfinished s ++ t))))
 
 -- of the frame that is not whole yet
-pub fine-now : {o : Opening} {s : List ℕ} → 24 ≤ length s → Clear o s → Fine (unfinished s)
+pub fine-now : {s : List ℕ} → 24 ≤ length s → Sound s → Fine (unfinished s)
 unfolding allFrames base
-fine-now {o} {s} h c =
+fine-now {s} h c =
     let e = frames-next (length s) (length s) 24 (unfinished s) (unfinished s ∷ []) (frames-whole s)
     (omega (arith, base-sum s h)) (omega arith) (c .frames) in
     let f : wrongFrame (length s) (base s) (unfinished s ∷ []) ≡ none = sym e ∙ c .frames in
@@ -268,12 +307,10 @@ fine-now {o} {s} h c =
 
 -- ---- bytes more that do not pass the frame's end, nor the limit
 
-module _ (o : Opening) (s t : List ℕ) (h : 24 ≤ length s)
-    (fits : length (unfinished s ++ t) ≤ frameSize (unfinished s ++ t))
-    (few : length (s ++ t) ≤ 268435456) (c : Clear o s) where
-  pub shows-next : captureFault o (s ++ t) ≡ earlier (wrongFrameHeader (length (s ++ t)) (base s) (unfinished s ++ t))
-      (tooManyUnits o (s ++ t))
-  unfolding captureFault
+module _ (s t : List ℕ) (h : 24 ≤ length s) (fits : length (unfinished s ++ t) ≤ frameSize (unfinished s ++ t))
+    (few : length (s ++ t) ≤ 268435456) (c : Sound s) where
+  shows-next : formatFault (s ++ t) ≡ wrongFrameHeader (length (s ++ t)) (base s) (unfinished s ++ t)
+  unfolding formatFault
   shows-next =
       rw (
         long-none (s ++ t) few,
@@ -287,23 +324,17 @@ module _ (o : Opening) (s t : List ℕ) (h : 24 ≤ length s)
   at-end : length (s ++ t) ≡ base s + length (unfinished s ++ t)
   at-end = size-now s t h fits (c .frames)
 
-  -- no refusal
-  pub next-none : Fine (unfinished s ++ t) → tooManyUnits o (s ++ t) ≡ none → captureFault o (s ++ t) ≡ none
-  next-none f u = shows-next ∙ rw (header-fine (length (s ++ t)) (base s) (unfinished s ++ t) at-end f, u)
+  pub next-none : Fine (unfinished s ++ t) → formatFault (s ++ t) ≡ none
+  next-none f = shows-next ∙ header-fine (length (s ++ t)) (base s) (unfinished s ++ t) at-end f
 
-  -- 9, at its place
-  pub next-units : Fine (unfinished s ++ t) → captureFault o (s ++ t) ≡ tooManyUnits o (s ++ t)
-  next-units f = shows-next ∙ rw (header-fine (length (s ++ t)) (base s) (unfinished s ++ t) at-end f)
+  pub next-seven : length (unfinished s ++ t) ≡ 8 → 999999 < microseconds (unfinished s ++ t) →
+      formatFault (s ++ t) ≡ fault 7 (base s + 7)
+  next-seven l g = shows-next ∙ header-seven (length (s ++ t)) (base s) (unfinished s ++ t) at-end l g
 
-  pub next-seven : tooManyUnits o (s ++ t) ≡ none → length (unfinished s ++ t) ≡ 8 →
-      999999 < microseconds (unfinished s ++ t) →
-      captureFault o (s ++ t) ≡ fault 7 (base s + 7)
-  next-seven u l g = shows-next ∙ rw (header-seven (length (s ++ t)) (base s) (unfinished s ++ t) at-end l g, u)
-
-  pub next-eight : tooManyUnits o (s ++ t) ≡ none → length (unfinished s ++ t) ≡ 12 →
-      microseconds (unfinished s ++ t) ≤ 999999 →
-      65535 < storedLength (unfinished s ++ t) → captureFault o (s ++ t) ≡ fault 8 (base s + 11)
-  next-eight u l g k = shows-next ∙ rw (header-eight (length (s ++ t)) (base s) (unfinished s ++ t) at-end l g k, u)
+  pub next-eight : length (unfinished s ++ t) ≡ 12 → microseconds (unfinished s ++ t) ≤ 999999 →
+      65535 < storedLength (unfinished s ++ t) →
+      formatFault (s ++ t) ≡ fault 8 (base s + 11)
+  next-eight l g k = shows-next ∙ header-eight (length (s ++ t)) (base s) (unfinished s ++ t) at-end l g k
 
 -- ---- the file header
 
@@ -322,9 +353,9 @@ module _ (s : List ℕ) (h : length s ≤ 24) where
   header-frames =
       rw (header-alone s h .0, header-alone s h .1, one-frame (length s) 24 []) (empty-frame (length s) 24 h)
 
-  pub header-shows : (o : Opening) → captureFault o s ≡ earlier (wrongMagic s) (wrongLink s)
-  unfolding captureFault
-  header-shows o = rw (long-none s (omega arith), header-frames, header-units o, earlier-none (wrongLink s))
+  pub header-shows : formatFault s ≡ earlier (wrongMagic s) (wrongLink s)
+  unfolding formatFault
+  header-shows = rw (long-none s (omega arith), header-frames, earlier-none (wrongLink s))
 
 -- the first four bytes are D4 C3 B2 A1
 abbrev pub isMagic : List ℕ → Bool
