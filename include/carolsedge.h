@@ -48,7 +48,8 @@ enum {
     CAROLSEDGE_REFUSED_LUMA_LENGTH = 10,    /* a byte of the luma past 750 pictures; place: that byte */
     CAROLSEDGE_REFUSED_CAPTURE_INSIDE = 11, /* seal, survey: it ends inside its header or a frame; place: its bytes
                                                fed */
-    CAROLSEDGE_REFUSED_NO_PACKET = 12,      /* seal, index: no packet of PID, or damaged ones alone */
+    CAROLSEDGE_REFUSED_NO_PACKET = 12,      /* seal, index: no whole packet of PID; by edition 4 also damaged ones
+                                               alone */
     CAROLSEDGE_REFUSED_LUMA_INSIDE = 13,    /* seal: the luma ends inside a picture; place: its bytes fed */
     CAROLSEDGE_REFUSED_NO_PICTURE = 14,     /* seal, index: no picture */
     CAROLSEDGE_REFUSED_BUFFER = 15,         /* what is lent to be written is too short; place: the length needed */

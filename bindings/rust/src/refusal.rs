@@ -33,7 +33,7 @@ impl Refusal {
             9 => "a 751st unit begins",
             10 => "the luma is longer than 750 pictures",
             11 => "the capture ends inside its header or a frame",
-            12 => "the capture has no packet with the identifier, or damaged ones alone",
+            12 => "the capture has no whole packet with the identifier, or, by edition 4, damaged ones alone",
             13 => "the luma ends inside a picture",
             14 => "there is no picture",
             15 => "the buffer is too short",

@@ -603,7 +603,7 @@ fn words() {
     let error: Box<dyn std::error::Error> = refusal(12, 0).into();
     assert_eq!(
         error.to_string(),
-        "refused 12: the capture has no packet with the identifier, or damaged ones alone"
+        "refused 12: the capture has no whole packet with the identifier, or, by edition 4, damaged ones alone"
     );
 }
 

@@ -26,7 +26,7 @@ use Rattle.rules.specs.Capture.{wholeFrames, unfinished, allFrames, shownWanted
 use Rattle.rules.specs.Capture.{captureFault}
 use Rattle.rules.proofs.Laws.Lists.{all-drop, all-append, only-all, only-append}
 use Rattle.capture_laws.proofs.Faults.{no-fault, at-fault, late-fault, Grows, same, new, grows-kept}
-use Rattle.capture_laws.proofs.Faults.{earlier-grows, long-grows, magic-grows, link-grows, frames-grow}
+use Rattle.capture_laws.proofs.Faults.{earlier-grows, format-grows}
 use Rattle.capture_laws.proofs.Frames.{size-least, size-append, frames-none, rest-none, frames-one, rest-one}
 use Rattle.capture_laws.proofs.Frames.{frames-onward, rest-onward, by-frames}
 use Rattle.capture_laws.proofs.Onward.{udp-more, time-more, carries-more}
@@ -438,9 +438,7 @@ units-grow o s t = at-follow
 
 pub capture-grows : (o : Opening) (s t : List ℕ) → Grows (length s) (captureFault o s) (captureFault o (s ++ t))
 unfolding captureFault
-capture-grows o s t =
-    earlier-grows (long-grows s t) (earlier-grows (magic-grows s t)
-    (earlier-grows (link-grows s t) (earlier-grows (frames-grow s t) (units-grow o s t))))
+capture-grows o s t = earlier-grows (format-grows s t) (units-grow o s t)
 
 pub capture-kept : (o : Opening) (s t : List ℕ) (k p : ℕ) → captureFault o s ≡ fault k p →
     captureFault o (s ++ t) ≡ fault k p

@@ -15,7 +15,7 @@ use Rattle.rules.specs.Bytes.{pick, byte, word32}
 use Rattle.rules.specs.Refusals.{Fault, none, fault}
 use Rattle.rules.specs.Frames.{microseconds, storedLength, frameSize, frames, rest, behindHeader}
 use Rattle.rules.specs.Capture.{wholeFrames, unfinished, allFrames, earlier, showing, tooLong, wrongMagic}
-use Rattle.rules.specs.Capture.{wrongLink, wrongFrameHeader, wrongFrame}
+use Rattle.rules.specs.Capture.{wrongLink, wrongFrameHeader, wrongFrame, formatFault}
 use Rattle.capture_laws.proofs.Frames.{size-least, size-append, frames-none, rest-none, frames-one, rest-one}
 use Rattle.capture_laws.proofs.Frames.{frames-onward, rest-onward, by-frames}
 
@@ -240,3 +240,11 @@ frames-grow s t = go (decLe 24 (length s))
         rw (frame-none (length s) 24 (frames (drop 24 s) ++ rest (drop 24 s) ∷ []) (omega arith))
         (new (frame-late (length s) (length (s ++ t)) (grown s t) 24
         (frames (drop 24 (s ++ t)) ++ rest (drop 24 (s ++ t)) ∷ []) (omega arith)))
+
+-- ---- 4 to 8 together
+
+pub format-grows : (s t : List ℕ) → Grows (length s) (formatFault s) (formatFault (s ++ t))
+unfolding formatFault
+format-grows s t =
+    earlier-grows (long-grows s t)
+    (earlier-grows (magic-grows s t) (earlier-grows (link-grows s t) (frames-grow s t)))

@@ -7,7 +7,7 @@ use mathlib.Core.List.{List, [], _∷_, _++_, append-assoc}
 use mathlib.Core.Bool.{Bool, true, false, not, _&&_, and-false}
 use lib.ListN.{length, length-append, List·getD-append}
 use lib.Dec.{leb, ltb, eqb}
-use borrow.Author.Tests.{le-leb, lt-leb, lt-ltb, le-ltb, ltb-false}
+use borrow.Author.Tests.{le-leb, lt-ltb, le-ltb, ltb-false}
 use Rattle.rules.specs.declared.Opening.{Opening}
 use Rattle.rules.specs.Bytes.{pick, byte, word32, only, endToEnd, All, and, empty}
 use Rattle.rules.specs.Refusals.{Fault, none, fault}
@@ -20,7 +20,7 @@ use Rattle.capture_laws.specs.UnderWay.{Fine}
 use Rattle.capture_laws.proofs.Frames.{size-least}
 use Rattle.capture_laws.proofs.Capture.{too-long}
 use Rattle.capture_laws.proofs.Faults.{Late, late-none, late-fault, Grows, same, new, grows-kept, showing-none}
-use Rattle.capture_laws.proofs.Faults.{earlier-grows, long-grows, magic-grows, link-grows, frames-grow}
+use Rattle.capture_laws.proofs.Faults.{earlier-grows, magic-grows, link-grows, frames-grow, format-grows}
 use Rattle.capture_laws.proofs.Onward.{base, base-sum, Whole, frames-whole, whole-part, unfinished-part}
 use Rattle.capture_laws.proofs.Onward.{whole-full, unfinished-full, header-alone, of-none, layout}
 use Rattle.capture_laws.proofs.Flow.{reached, nine, nine-of}
@@ -43,41 +43,14 @@ earlier-none (fault k p) = refl
 
 -- ---- the rules' refusals are these and 9
 
-earlier-assoc : (f g h : Fault) → earlier f (earlier g h) ≡ earlier (earlier f g) h
-earlier-assoc none g h = refl
-earlier-assoc (fault k p) none h = refl
-earlier-assoc (fault k p) (fault l q) none = sym (earlier-none (pick (leb p q) (fault k p) (fault l q)))
-earlier-assoc (fault k p) (fault l q) (fault m r) = go (decLe p q) (decLe q r) (decLe p r)
-  where
-    go : Dec (p ≤ q) → Dec (q ≤ r) → Dec (p ≤ r) →
-        earlier (fault k p) (pick (leb q r) (fault l q) (fault m r))
-        ≡ earlier (pick (leb p q) (fault k p) (fault l q)) (fault m r)
-    go (yes a) (yes b) (yes d) = rw (le-leb q r b, le-leb p q a, le-leb p r d)
-    go (yes a) (yes b) (no d) = absurd (omega arith)
-    go (yes a) (no b) (yes d) = rw (lt-leb q r (omega arith), le-leb p q a, le-leb p r d)
-    go (yes a) (no b) (no d) = rw (lt-leb q r (omega arith), le-leb p q a, lt-leb p r (omega arith))
-    go (no a) (yes b) d = rw (le-leb q r b, lt-leb p q (omega arith), le-leb q r b)
-    go (no a) (no b) (yes d) = absurd (omega arith)
-    go (no a) (no b) (no d) =
-        rw (lt-leb q r (omega arith), lt-leb p q (omega arith), lt-leb q r (omega arith), lt-leb p r (omega arith))
-
 pub capture-format : (o : Opening) (s : List ℕ) → captureFault o s ≡ earlier (formatFault s) (tooManyUnits o s)
-unfolding captureFault formatFault
-capture-format o s =
-    rw (
-      earlier-assoc (wrongLink s) (wrongFrame (length s) 24 (allFrames s)) (tooManyUnits o s),
-      earlier-assoc (wrongMagic s) (earlier (wrongLink s) (wrongFrame (length s) 24 (allFrames s))) (tooManyUnits o s),
-      earlier-assoc (tooLong s)
-          (earlier (wrongMagic s) (earlier (wrongLink s) (wrongFrame (length s) 24 (allFrames s)))) (tooManyUnits o s),
-    )
+unfolding captureFault
+capture-format o s = refl
 
 -- ---- a refusal stays
 
 pub format-kept : (s t : List ℕ) (k p : ℕ) → formatFault s ≡ fault k p → formatFault (s ++ t) ≡ fault k p
-unfolding formatFault
-format-kept s t k p h =
-    grows-kept (earlier-grows (long-grows s t)
-    (earlier-grows (magic-grows s t) (earlier-grows (link-grows s t) (frames-grow s t)))) h
+format-kept s t k p h = grows-kept (format-grows s t) h
 
 -- ---- none of the four stands
 

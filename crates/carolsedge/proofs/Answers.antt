@@ -46,7 +46,7 @@ module _ (b : List ℕ) (j : ℕ) (old : List ℕ) (a : SceneAnswer) (e : a ≡ 
 module _ (numbers luma : List ℕ) (old : List Float) (a : IndexAnswer) (h : IndexPost numbers luma a) where
   pub index-given : (i : Index) (new : List Float) → a ≡ of-index.Given i → new ≡ indexFigures i →
       IndexTold numbers luma old 0 0 new
-  index-given i new g n = record { answer = a; made = h .asked; numbered = rw g; placed = rw g; given = rw g n }
+  index-given i new g n = record { answer = a; made = h; numbered = rw g; placed = rw g; given = rw g n }
 
   pub index-refused : (k p r : ℕ) → a ≡ of-index.Refused k p → r ≡ listed k → IndexTold numbers luma old r p old
-  index-refused k p r g n = record { answer = a; made = h .asked; numbered = rw g n; placed = rw g; given = rw g }
+  index-refused k p r g n = record { answer = a; made = h; numbered = rw g n; placed = rw g; given = rw g }

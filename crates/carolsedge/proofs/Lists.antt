@@ -70,7 +70,7 @@ under (next (asks p) r) =
     }
 under (next (asksIndex {st = st} {before = before} p) r) =
     let u = under r in
-    let made = p .made (st .capture .walk) (st .capture .kept) (st .capture .table) in
+    let made = p .made .asked (st .capture .walk) (st .capture .kept) (st .capture .table) in
     record {
       outcomes = replied (indexed (p .answer)) ∷ u .outcomes;
       runs = of-sample.next (of-sample.asks made) (u .runs);

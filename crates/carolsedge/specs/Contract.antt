@@ -11,12 +11,13 @@ use Rattle.rules.specs.declared.IndexAnswer.{IndexAnswer}
 use Rattle.rules.specs.declared.SurveyAnswer.{SurveyAnswer}
 use Rattle.rules.specs.Reading.{headerAnswer, unitAnswer, sceneAnswer}
 use Rattle.rules.specs.Sheet.{sheetAnswer, sheetBuffer}
-use Rattle.rules.specs.Calls.{Question, index, Reply, indexed, lentAfter}
+use Rattle.rules.specs.Calls.{Question, Reply, lentAfter}
 use Rattle.capture.specs.State.{Arrays}
 use Rattle.capture.specs.Contract as side-capture
 use Rattle.luma.specs.Contract as side-luma
 use Rattle.sample.specs.State.{State, Words}
 use Rattle.sample.specs.Contract.{OpenPost, Asked}
+use Rattle.sample.specs.WhileFeeding.{IndexPost}
 use Rattle.sample.specs.Passage.{RepeatsPost}
 use Rattle.carolsedge.specs.Numbers.{numberOf, valueOf, replyNumber, replyValue, headerNumber, unitNumber}
 use Rattle.carolsedge.specs.Numbers.{sceneNumber, indexNumber, indexPlace, mostNumber, mostValue, mostCount}
@@ -56,13 +57,11 @@ pub record Told (w : Words) (q : Question) (number value : ℕ) (after : List �
   pub three : threeOf reply ≡ []
 
 -- of an index: the capture side's numbers, the luma words, the lent three before, the number, the place, the lent
--- three after; whatever stands in the other arrays
+-- three after
 pub record IndexTold (numbers luma : List ℕ) (before : List Float) (number place : ℕ) (after : List Float) :
     Type 0 where
   pub answer : IndexAnswer
-  pub made : (walk kept table : List ℕ) →
-      Asked (record { capture = record { walk = walk; kept = kept; numbers = numbers; table = table }; luma = luma })
-      index (indexed answer)
+  pub made : IndexPost numbers luma answer
   pub numbered : number ≡ indexNumber answer
   pub placed : place ≡ indexPlace answer
   pub given : after ≡ indexInto answer before

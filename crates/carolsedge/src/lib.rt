@@ -76,10 +76,10 @@ pub extern "C" fn carolsedge_open(
     kept: &mut Collected,
     numbers: &mut Numbers,
     table: &mut Table,
-    luma: &mut [u64; 1600],
-    sums: &mut [u32; 240],
-    bins: &mut [u32; 720],
-    picture: &mut [u8; 14104],
+    luma: &mut luma::Words,
+    sums: &mut luma::Sums,
+    bins: &mut luma::Bins,
+    picture: &mut luma::Picture,
     width: u32,
     height: u32,
     time: u32,
@@ -124,10 +124,10 @@ pub extern "C" fn carolsedge_feed_capture(
 // Feeds a piece of the luma. The value is the piece's length, or the refusal's place.
 #[no_mangle]
 pub extern "C" fn carolsedge_feed_luma(
-    luma: &mut [u64; 1600],
-    sums: &mut [u32; 240],
-    bins: &mut [u32; 720],
-    picture: &mut [u8; 14104],
+    luma: &mut luma::Words,
+    sums: &mut luma::Sums,
+    bins: &mut luma::Bins,
+    picture: &mut luma::Picture,
     piece: &[u8],
     value: &mut u64,
 ) -> u32
@@ -148,7 +148,7 @@ pub extern "C" fn carolsedge_seal(
     kept: &Collected,
     numbers: &Numbers,
     table: &Table,
-    luma: &[u64; 1600],
+    luma: &luma::Words,
     buffer: &mut [u8],
     value: &mut u64,
 ) -> u32
@@ -173,7 +173,7 @@ fn put_three(three: &mut [f64; 3], i: Index)
 #[no_mangle]
 pub extern "C" fn carolsedge_index(
     numbers: &Numbers,
-    luma: &[u64; 1600],
+    luma: &luma::Words,
     three: &mut [f64; 3],
     place: &mut u64,
 ) -> u32
@@ -195,7 +195,7 @@ pub extern "C" fn carolsedge_index(
 
 // Counts the repeated pictures from a up to but without b. The value is the count, or the refusal's place.
 #[no_mangle]
-pub extern "C" fn carolsedge_repeats(luma: &[u64; 1600], a: u32, b: u32, value: &mut u64) -> u32
+pub extern "C" fn carolsedge_repeats(luma: &luma::Words, a: u32, b: u32, value: &mut u64) -> u32
     ensures { λ r. ⌜ CountTold (now (luma .entry)) a b r (now (value .exit)) ⌝ }
 {
     let answer = sample::repeats(luma, a, b);

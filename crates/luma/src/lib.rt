@@ -6,17 +6,21 @@ ghost use Rattle.luma.specs.Contract.{Replied, insideOf, OpenPost, FeedP
 mod steps;
 
 use crate::steps::run;
-use luma_blocks::Picture;
-use luma_blocks::Sums;
+pub use luma_blocks::COLUMNS;
+pub use luma_blocks::PIXELS;
+pub use luma_blocks::Picture;
+pub use luma_blocks::Sums;
 use luma_state::Progress;
-use luma_state::Words;
+pub use luma_state::Words;
 use luma_state::grid_of;
 use luma_state::layout;
+pub use luma_state::layout::WORDS;
 use luma_state::load;
 pub use luma_state::opening_in;
 use luma_state::placed;
 use luma_state::store;
-use luma_tiles::Bins;
+pub use luma_tiles::BINS;
+pub use luma_tiles::Bins;
 use rules::Answer;
 use rules::Opening;
 

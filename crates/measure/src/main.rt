@@ -55,7 +55,7 @@ fn seal(
     kept: &Collected,
     numbers: &Numbers,
     table: &Table,
-    luma: &[u64; 1600],
+    luma: &luma::Words,
     name: &[u8],
 ) {
     let mut buffer = [0u8; 32064];
@@ -86,10 +86,10 @@ fn measure(o: Opening, capture_name: &[u8], luma_name: &[u8], record_name: &[u8]
     let mut kept = [0u8; capture_walk::COLLECTED_BYTES];
     let mut numbers = [0u64; capture::NUMBERS];
     let mut table = [0u64; capture_units::TABLE_WORDS];
-    let mut luma = [0u64; 1600];
-    let mut sums = [0u32; 240];
-    let mut bins = [0u32; 720];
-    let mut picture = [0u8; 14104];
+    let mut luma = [0u64; luma::WORDS];
+    let mut sums = [0u32; luma::COLUMNS];
+    let mut bins = [0u32; luma::BINS];
+    let mut picture = [0u8; luma::PIXELS];
     sample::open(
         &mut walk,
         &mut kept,

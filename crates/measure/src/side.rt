@@ -61,10 +61,10 @@ fn luma_turn(
     fd: i32,
     name: &[u8],
     piece: &mut [u8],
-    luma: &mut [u64; 1600],
-    sums: &mut [u32; 240],
-    bins: &mut [u32; 720],
-    picture: &mut [u8; 14104],
+    luma: &mut luma::Words,
+    sums: &mut luma::Sums,
+    bins: &mut luma::Bins,
+    picture: &mut luma::Picture,
 ) -> u8 {
     let got = libc::read(fd, piece);
     if got < 0 {
@@ -106,10 +106,10 @@ pub fn feed_capture(
 pub fn feed_luma(
     name: &[u8],
     piece: &mut [u8],
-    luma: &mut [u64; 1600],
-    sums: &mut [u32; 240],
-    bins: &mut [u32; 720],
-    picture: &mut [u8; 14104],
+    luma: &mut luma::Words,
+    sums: &mut luma::Sums,
+    bins: &mut luma::Bins,
+    picture: &mut luma::Picture,
 ) -> bool {
     let fd = open_side(name);
     if fd < 0 {

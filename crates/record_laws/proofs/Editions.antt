@@ -1,12 +1,17 @@
--- The laws of editions: edition 1 is document 01's, what a splice mark does from edition 2 on, and that edition 3
--- differs from 2 in the changes alone, and 4 from 3 in the units alone.
-use Prim.Native.Nat.{ℕ}
+-- The laws of editions: edition 1 is document 01's, what a splice mark does from edition 2 on, that edition 3 differs
+-- from 2 in the changes alone, and 4 from 3 in the units and bad cells alone; and what a reader of edition 1 answers.
+use Prim.Native.Nat.{ℕ, _≤_}
 use mathlib.Core.Path.{_≡_, refl, ap, _∙_}
 use mathlib.Core.List.{List, [], _∷_, map}
 use mathlib.Core.Bool.{true, false}
 use lib.ListN.{length}
+use lib.Dec.{leb, eqb}
+use borrow.Author.Tests.{le-leb, ne-eqb}
 use Rattle.rules.specs.declared.UnitRow.{UnitRow}
-use Rattle.rules.specs.Editions.{heedsSplices, roundsToNearest, knowsDamage}
+use Rattle.rules.specs.Bytes.{word32}
+use Rattle.rules.specs.Refusals.{Fault, fault, unless, _orElse_}
+use Rattle.rules.specs.Reading.{allowed, readingFault}
+use Rattle.rules.specs.Editions.{isEdition, heedsSplices, roundsToNearest, knowsDamage}
 use Rattle.rules.specs.Packets.{Packet, startMark, counter, spliceMark}
 use Rattle.rules.specs.Changes.{spread, root, nearest, changeFrom, change, changesAfter, changes}
 use Rattle.rules.specs.Units.{Arrival, gapLoss, lossBetween, setApart, arrivalsAfter, arrivals, groups, unitsOf}
@@ -103,3 +108,19 @@ units-three ps = refl
 pub changes-four : (pxs : List (List ℕ)) → changes (roundsToNearest 4) pxs ≡ changes (roundsToNearest 3) pxs
 unfolding roundsToNearest
 changes-four pxs = refl
+
+-- ---- readers
+
+-- what a reader of document 01 answers, which knows edition 1 alone
+firstReader : List ℕ → Fault
+firstReader r = unless (leb 64 (length r)) 16 orElse unless (eqb (word32 r 0) 1) 17 orElse unless (allowed r) 18
+
+-- it gives 17 to every record of another edition
+pub edition-unknown : (r : List ℕ) → 64 ≤ length r → (word32 r 0 ≡ 1 → ⊥) → firstReader r ≡ fault 17 0
+unfolding firstReader
+edition-unknown r h n = rw (le-leb 64 (length r) h, ne-eqb (word32 r 0) 1 n)
+
+-- and reads those of edition 1 as today's reader does
+pub edition-known : (r : List ℕ) → word32 r 0 ≡ 1 → firstReader r ≡ readingFault r
+unfolding firstReader readingFault isEdition
+edition-known r e = rw e

@@ -2,3 +2,4 @@
 pub mod Rows
 pub mod Answers
 pub mod Theorems
+pub mod Promise

@@ -51,10 +51,10 @@ fn call_capture(
 }
 
 fn call_luma(
-    luma: &mut [u64; 1600],
-    sums: &mut [u32; 240],
-    bins: &mut [u32; 720],
-    picture: &mut [u8; 14104],
+    luma: &mut luma::Words,
+    sums: &mut luma::Sums,
+    bins: &mut luma::Bins,
+    picture: &mut luma::Picture,
     piece: &[u8],
     out: &mut [u8],
 )
@@ -72,7 +72,7 @@ fn call_seal(
     kept: &Collected,
     numbers: &Numbers,
     table: &Table,
-    luma: &[u64; 1600],
+    luma: &luma::Words,
     out: &mut [u8],
 )
     requires { ⌜ 17 ≤ length (now out) ⌝ }
@@ -86,7 +86,7 @@ fn call_seal(
     put(out, a);
 }
 
-fn call_index(numbers: &Numbers, luma: &[u64; 1600], out: &mut [u8])
+fn call_index(numbers: &Numbers, luma: &luma::Words, out: &mut [u8])
     requires { ⌜ length (now out) ≡ 25 ⌝ }
     ensures { λ _. ⌜ IndexReplied (now (numbers .entry)) (now (luma .entry)) (now (out .exit)) ⌝ }
 {
@@ -94,7 +94,7 @@ fn call_index(numbers: &Numbers, luma: &[u64; 1600], out: &mut [u8])
     put_index(out, a);
 }
 
-fn call_repeats(luma: &[u64; 1600], a: u32, b: u32, out: &mut [u8])
+fn call_repeats(luma: &luma::Words, a: u32, b: u32, out: &mut [u8])
     requires { ⌜ length (now out) ≡ 17 ⌝ }
     ensures { λ _. ⌜ CountReplied (now (luma .entry)) a b (now (out .exit)) ⌝ }
 {
@@ -108,10 +108,10 @@ fn call(
     kept: &mut Collected,
     numbers: &mut Numbers,
     table: &mut Table,
-    luma: &mut [u64; 1600],
-    sums: &mut [u32; 240],
-    bins: &mut [u32; 720],
-    picture: &mut [u8; 14104],
+    luma: &mut luma::Words,
+    sums: &mut luma::Sums,
+    bins: &mut luma::Bins,
+    picture: &mut luma::Picture,
     script: &[u8],
     at: usize,
     h: Head,
@@ -160,10 +160,10 @@ fn all(
     kept: &mut Collected,
     numbers: &mut Numbers,
     table: &mut Table,
-    luma: &mut [u64; 1600],
-    sums: &mut [u32; 240],
-    bins: &mut [u32; 720],
-    picture: &mut [u8; 14104],
+    luma: &mut luma::Words,
+    sums: &mut luma::Sums,
+    bins: &mut luma::Bins,
+    picture: &mut luma::Picture,
     script: &[u8],
     out: &mut [u8],
 )
@@ -214,10 +214,10 @@ pub fn replay(script: &[u8], out: &mut [u8]) -> bool
     let mut kept = [0u8; capture_walk::COLLECTED_BYTES];
     let mut numbers = [0u64; capture::NUMBERS];
     let mut table = [0u64; capture_units::TABLE_WORDS];
-    let mut luma = [0u64; 1600];
-    let mut sums = [0u32; 240];
-    let mut bins = [0u32; 720];
-    let mut picture = [0u8; 14104];
+    let mut luma = [0u64; luma::WORDS];
+    let mut sums = [0u32; luma::COLUMNS];
+    let mut bins = [0u32; luma::BINS];
+    let mut picture = [0u8; luma::PIXELS];
     let o = opening(script);
     let a = sample::open(
         &mut walk,

@@ -22,10 +22,10 @@ fn run_opening(
     kept: &mut Collected,
     numbers: &mut Numbers,
     table: &mut Table,
-    luma: &mut [u64; 1600],
-    sums: &mut [u32; 240],
-    bins: &mut [u32; 720],
-    picture: &mut [u8; 14104],
+    luma: &mut luma::Words,
+    sums: &mut luma::Sums,
+    bins: &mut luma::Bins,
+    picture: &mut luma::Picture,
 ) -> bool {
     let mut words = [0u8; 20];
     if io::read_full(STDIN_FILENO, &mut words) < 20 {
@@ -54,7 +54,7 @@ fn run_seal(
     kept: &Collected,
     numbers: &Numbers,
     table: &Table,
-    luma: &[u64; 1600],
+    luma: &luma::Words,
     length: u32,
 ) -> bool {
     if 65536 < length {
@@ -74,7 +74,7 @@ fn run_seal(
     true
 }
 
-fn run_index(numbers: &Numbers, luma: &[u64; 1600]) -> bool {
+fn run_index(numbers: &Numbers, luma: &luma::Words) -> bool {
     match sample::index(numbers, luma) {
         IndexAnswer::Given(i) => program_text::print_bits(b"index", index::index_bits(i)),
         IndexAnswer::Refused { number, place } => {
@@ -85,7 +85,7 @@ fn run_index(numbers: &Numbers, luma: &[u64; 1600]) -> bool {
     true
 }
 
-fn run_repeats(luma: &[u64; 1600]) -> bool {
+fn run_repeats(luma: &luma::Words) -> bool {
     let mut ends = [0u8; 8];
     if io::read_full(STDIN_FILENO, &mut ends) < 8 {
         return false;
@@ -128,10 +128,10 @@ fn feed_capture(
 }
 
 fn feed_luma(
-    luma: &mut [u64; 1600],
-    sums: &mut [u32; 240],
-    bins: &mut [u32; 720],
-    picture: &mut [u8; 14104],
+    luma: &mut luma::Words,
+    sums: &mut luma::Sums,
+    bins: &mut luma::Bins,
+    picture: &mut luma::Picture,
     piece: &mut [u8],
     length: u32,
 ) -> bool {
@@ -150,10 +150,10 @@ fn run_call(
     kept: &mut Collected,
     numbers: &mut Numbers,
     table: &mut Table,
-    luma: &mut [u64; 1600],
-    sums: &mut [u32; 240],
-    bins: &mut [u32; 720],
-    picture: &mut [u8; 14104],
+    luma: &mut luma::Words,
+    sums: &mut luma::Sums,
+    bins: &mut luma::Bins,
+    picture: &mut luma::Picture,
     piece: &mut [u8],
 ) -> bool {
     let mut kind = [0u8; 1];
@@ -187,10 +187,10 @@ fn main() {
     let mut kept = [0u8; capture_walk::COLLECTED_BYTES];
     let mut numbers = [0u64; capture::NUMBERS];
     let mut table = [0u64; capture_units::TABLE_WORDS];
-    let mut luma = [0u64; 1600];
-    let mut sums = [0u32; 240];
-    let mut bins = [0u32; 720];
-    let mut picture = [0u8; 14104];
+    let mut luma = [0u64; luma::WORDS];
+    let mut sums = [0u32; luma::COLUMNS];
+    let mut bins = [0u32; luma::BINS];
+    let mut picture = [0u8; luma::PIXELS];
     let mut piece = [0u8; 1048576];
     if !run_opening(
         &mut walk,

@@ -20,7 +20,7 @@ use Rattle.rules.specs.Units.{unitOf, unitsOf}
 use Rattle.rules.specs.Units.{beginnings}
 use Rattle.rules.specs.Capture.{wholeFrames, unfinished, allFrames, wholeWanted, shownWanted, units, showing}
 use Rattle.rules.specs.Capture.{tooLong, wrongMagic, wrongLink, wrongFrameHeader, wrongFrame, tooManyUnits}
-use Rattle.rules.specs.Capture.{captureFault}
+use Rattle.rules.specs.Capture.{formatFault, captureFault}
 use Rattle.rules.specs.Pictures.{pictureSize, pictureCount, pictures, lumaFault, rows, band, blockSum, pixelIn}
 use Rattle.rules.specs.Pictures.{pixelLine, pixels}
 use Rattle.rules.specs.Changes.{same, repeatsAfter, repeats}
@@ -85,8 +85,8 @@ unfolding cut run oneFrame picture indices openAnswer word32 network16 bytesOf t
     behindHeader ipLength udpLength carries packetsFrom packetsIn packetsOf packets shown whole startsCell damageMark
     condition identifier isWanted startMark counter spliceMark wantedOf gapLoss setApart lossBetween arrivalsAfter
     arrivals groups cellsOf leastTime unitOf unitsOf beginnings wholeFrames unfinished allFrames wholeWanted
-    shownWanted units showing tooLong wrongMagic wrongLink wrongFrameHeader wrongFrame tooManyUnits captureFault
-    pictureSize pictureCount pictures lumaFault rows band blockSum pixelIn pixelLine pixels same repeatsAfter repeats
-    icOf ipOf valueOf indexOf reduced unrepeated indexFrom index noPacket noPicture captureAnswer lumaAnswer indexFault
-    indexAnswer expected add mul div ofInt toBits
+    shownWanted units showing tooLong wrongMagic wrongLink wrongFrameHeader wrongFrame tooManyUnits formatFault
+    captureFault pictureSize pictureCount pictures lumaFault rows band blockSum pixelIn pixelLine pixels same
+    repeatsAfter repeats icOf ipOf valueOf indexOf reduced unrepeated indexFrom index noPacket noPicture captureAnswer
+    lumaAnswer indexFault indexAnswer expected add mul div ofInt toBits
 answered = refl

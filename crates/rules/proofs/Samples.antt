@@ -28,7 +28,7 @@ use Rattle.rules.specs.Units.{gapLoss, setApart, lossBetween, arrivalsAf
 use Rattle.rules.specs.Units.{cellsOf, leastTime, unitOf, unitsOf, beginnings}
 use Rattle.rules.specs.Capture.{wholeFrames, unfinished, allFrames, wholeWanted, shownWanted, units, frameCount}
 use Rattle.rules.specs.Capture.{skippedCount, badCount, showing, tooLong, wrongMagic, wrongLink}
-use Rattle.rules.specs.Capture.{wrongFrameHeader, wrongFrame, tooManyUnits, captureFault}
+use Rattle.rules.specs.Capture.{wrongFrameHeader, wrongFrame, tooManyUnits, formatFault, captureFault}
 use Rattle.rules.specs.Capture.{captureInside}
 use Rattle.rules.specs.Pictures.{pictureSize, pictureCount, pictures, lumaFault, rows, band, blockSum, pixelIn}
 use Rattle.rules.specs.Pictures.{pixel, pixelLine, pixels}
@@ -261,11 +261,11 @@ unfolding words run marks oneFrame picture showRecord sealing feeding samples op
     startMark counter wantedOf badOf gapLoss setApart lossBetween heedsSplices knowsDamage spliceMark arrivalsAfter
     arrivals beforeUnits groups cellsOf leastTime unitOf unitsOf beginnings wholeFrames unfinished allFrames
     wholeWanted shownWanted units frameCount skippedCount badCount showing tooLong wrongMagic wrongLink
-    wrongFrameHeader wrongFrame tooManyUnits captureFault captureInside pictureSize pictureCount pictures lumaFault
-    rows band blockSum pixelIn pixel pixelLine pixels third tileAt bin inTileFrom inTile inBin histogram histograms
-    binsApart perMillion tileDifference tileDifferences insert sorted fifth difference leastOfSix cutScore cutScores
-    startsScene isStart startsFrom starts longestFrom sceneOf scenesAt scenesOf same squares spread rootFrom root
-    nearest changeFrom roundsToNearest change repeatsAfter changesAfter repeats changes icOf ipOf valueOf indexOf
+    wrongFrameHeader wrongFrame tooManyUnits formatFault captureFault captureInside pictureSize pictureCount pictures
+    lumaFault rows band blockSum pixelIn pixel pixelLine pixels third tileAt bin inTileFrom inTile inBin histogram
+    histograms binsApart perMillion tileDifference tileDifferences insert sorted fifth difference leastOfSix cutScore
+    cutScores startsScene isStart startsFrom starts longestFrom sceneOf scenesAt scenesOf same squares spread rootFrom
+    root nearest changeFrom roundsToNearest change repeatsAfter changesAfter repeats changes icOf ipOf valueOf indexOf
     indexBits recordLength sceneOffset headerBytes unitBytes sceneBytes recordBytes reduced scenesIn scenes unrepeated
     indexFrom index header sealed sealedLength captureUnfinished noPacket lumaUnfinished noPicture noRoom sealFault
     captureAnswer lumaAnswer sealAnswer over sealedBuffer expected add mul div ofInt toBits

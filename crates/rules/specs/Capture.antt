@@ -102,13 +102,9 @@ formatFault capture =
     (earlier (wrongMagic capture)
     (earlier (wrongLink capture) (wrongFrame (length capture) 24 (allFrames capture))))
 
--- what the capture's joined bytes show first
+-- what the capture's joined bytes show first: one of these, or 9
 unfoldable pub captureFault : Opening → List ℕ → Fault
-captureFault o capture =
-    earlier (tooLong capture)
-    (earlier (wrongMagic capture)
-    (earlier (wrongLink capture)
-    (earlier (wrongFrame (length capture) 24 (allFrames capture)) (tooManyUnits o capture))))
+captureFault o capture = earlier (formatFault capture) (tooManyUnits o capture)
 
 -- the capture ends inside its header or a frame
 unfoldable pub captureInside : List ℕ → Bool

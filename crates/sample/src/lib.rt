@@ -36,10 +36,10 @@ pub fn open(
     kept: &mut Collected,
     numbers: &mut Numbers,
     table: &mut Table,
-    luma: &mut [u64; 1600],
-    sums: &mut [u32; 240],
-    bins: &mut [u32; 720],
-    picture: &mut [u8; 14104],
+    luma: &mut luma::Words,
+    sums: &mut luma::Sums,
+    bins: &mut luma::Bins,
+    picture: &mut luma::Picture,
     o: Opening,
 ) -> Answer
     ensures { λ r. ⌜ OpenPost o r (sampleOf
@@ -77,10 +77,10 @@ pub fn feed_capture(
 
 // Feeds a piece of the luma.
 pub fn feed_luma(
-    luma: &mut [u64; 1600],
-    sums: &mut [u32; 240],
-    bins: &mut [u32; 720],
-    picture: &mut [u8; 14104],
+    luma: &mut luma::Words,
+    sums: &mut luma::Sums,
+    bins: &mut luma::Bins,
+    picture: &mut luma::Picture,
     piece: &[u8],
 ) -> Answer
     ensures { λ r. ⌜ side-luma.FeedPost (now (luma .entry)) (now (sums .entry)) (now (bins .entry))
@@ -139,7 +139,7 @@ fn header_of(o: Opening, c: Summary, pictures: u32, scenes: u32, i: Index) -> He
 fn write(
     buffer: &mut [u8],
     table: &Table,
-    luma: &[u64; 1600],
+    luma: &luma::Words,
     o: Opening,
     c: Summary,
     l: luma::Summary,
@@ -172,7 +172,7 @@ pub fn seal(
     kept: &Collected,
     numbers: &Numbers,
     table: &Table,
-    luma: &[u64; 1600],
+    luma: &luma::Words,
     buffer: &mut [u8],
 ) -> Answer
     ensures { λ r. ⌜ SealPost

@@ -5,7 +5,7 @@ use rules::Answer;
 
 // How many pictures from a up to but without b are repeated, of all whole pictures fed so far; or the opening's
 // number, or 26. No refusal of a feed stops it.
-pub fn repeats(luma: &[u64; 1600], a: u32, b: u32) -> Answer
+pub fn repeats(luma: &luma::Words, a: u32, b: u32) -> Answer
     ensures { λ r. ⌜ RepeatsPost (now (luma .entry)) a b r ⌝ }
 {
     let o = luma::opening_in(luma);

@@ -18,7 +18,7 @@ fn refused_index(number: u64, place: u64) -> IndexAnswer
 
 // The index of all whole pictures and all whole cells fed so far, those of an unfinished record among them; or its
 // refusal.
-pub fn index(numbers: &Numbers, luma: &[u64; 1600]) -> IndexAnswer
+pub fn index(numbers: &Numbers, luma: &luma::Words) -> IndexAnswer
     ensures { λ r. ⌜ IndexPost (now (numbers .entry)) (now (luma .entry)) r ⌝ }
 {
     let c = capture::totals_in(numbers);

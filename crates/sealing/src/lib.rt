@@ -23,7 +23,7 @@ fn write_units(buffer: &mut [u8], table: &Table, n: usize)
 // The rows of the first n scenes of the pictures, behind those of the units: each scene goes up to the next start.
 fn write_scenes(
     buffer: &mut [u8],
-    luma: &[u64; 1600],
+    luma: &luma_state::Words,
     units: usize,
     n: usize,
     pictures: usize,
@@ -46,7 +46,7 @@ fn write_scenes(
 }
 
 // The whole record with the header h, whose counts say how many rows there are.
-pub fn write_record(buffer: &mut [u8], table: &Table, luma: &[u64; 1600], h: Header)
+pub fn write_record(buffer: &mut [u8], table: &Table, luma: &luma_state::Words, h: Header)
     requires { ⌜ (recordLength (h .units) (h .scenes) ≤ length (now buffer))
         × (recordLength (h .units) (h .scenes) < 4294967296) ⌝ }
     ensures { λ _. ⌜ RecordWritten (now (table .entry)) (now (luma .entry)) h (now (buffer .entry))

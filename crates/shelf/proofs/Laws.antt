@@ -12,14 +12,10 @@ use lib.Seq.{take-all, drop-drop, take-add, getD-drop, getD-take}
 use lib.Dec.{leb, ltb, eqb}
 use borrow.Author.Tests.{ltb-true, ltb-false, leb-true, eqb-true, lt-ltb, le-ltb}
 use Rattle.rules.specs.Bytes.{byte, word32, total, table, endToEnd}
-use Rattle.rules.specs.Refusals.{Fault, none, fault}
-use Rattle.rules.specs.Reading.{headerOf, unitPlace, unitAt, readingFault, unitFault, rowFault, orHeader, orUnit}
 use Rattle.rules.specs.Reading.{headerAnswer, unitAnswer}
-use Rattle.record_laws.proofs.Words.{EachByte, word32-fits, word32-drop}
+use Rattle.record_laws.proofs.Words.{EachByte}
 use Rattle.rules.proofs.Laws.Lists.{both}
-use Rattle.record_laws.proofs.Allowed.{record-allowed}
-use Rattle.record_reader.proofs.Answers.{fault-allowed}
-use Rattle.rules.specs.Record.{recordLength}
+use Rattle.record_reader.proofs.Promise.{units-few, lost-fits}
 use Rattle.rules.specs.Shelf.{recordCount, headLength, edge, rising, laidOut, part, records}
 use Rattle.rules.specs.Shelf.{unitsGiven, lostGiven, recordLost, shelfLost, PartsAreTheShelf}
 
@@ -155,45 +151,13 @@ map-table g f (suc n) i = ap (λ (xs : List ℕ). g (f i) ∷ xs) (map-table g f
 
 -- a record's: what the reader promises of units and lost holds every sum
 module _ (r : List ℕ) where
-  pub units-given : readingFault r ≡ none → unitsGiven (headerAnswer r) ≡ word32 r 8
-  unfolding headerAnswer headerOf
-  units-given e = rw e
-
-  -- of a record that the reader accepts: each unit's row is there, and its lost cells are the answer's
-  pub row-inside : readingFault r ≡ none → (i : ℕ) → i < unitsGiven (headerAnswer r) → unitPlace i + 32 ≤ length r
-  unfolding unitPlace recordLength
-  row-inside e i h =
-      let a = record-allowed r (fault-allowed r e) .header in
-      omega (arith, units-given e, a .length, a .whole)
-
-  pub lost-row : readingFault r ≡ none → (i : ℕ) → i < unitsGiven (headerAnswer r) →
-      unitAt r i .lost ≡ lostGiven (unitAnswer r i)
-  unfolding unitAnswer unitFault rowFault
-  lost-row e i h = rw (e, lt-ltb i (word32 r 8) (omega (arith, units-given e)))
-
-  units-few : unitsGiven (headerAnswer r) ≤ 750
-  unfolding headerAnswer headerOf
-  units-few = go (readingFault r) refl
-    where
-      go : (f : Fault) → readingFault r ≡ f → unitsGiven (orHeader f (headerOf r)) ≤ 750
-      go none e = record-allowed r (fault-allowed r e) .header .unitsLess
-      go (fault k p) e = omega arith
-
-  lost-fits : EachByte r → (i : ℕ) → lostGiven (unitAnswer r i) ≤ 4294967295
-  unfolding unitAnswer unitAt
-  lost-fits b i = go (unitFault r i)
-    where
-      go : (f : Fault) → lostGiven (orUnit f (unitAt r i)) ≤ 4294967295
-      go none = rw (word32-drop (unitPlace i) r 24) (omega (arith, word32-fits r (unitPlace i + 24) b))
-      go (fault k p) = omega arith
-
   pub record-fits : EachByte r → recordLost r ≤ 3221225471250
   unfolding recordLost
   record-fits b =
       omega (
         arith,
-        units-few,
-        table-most (λ (i : ℕ). lostGiven (unitAnswer r i)) 4294967295 (unitsGiven (headerAnswer r)) 0 (lost-fits b),
+        units-few r,
+        table-most (λ (i : ℕ). lostGiven (unitAnswer r i)) 4294967295 (unitsGiven (headerAnswer r)) 0 (lost-fits r b),
       )
 
 module _ (s : List ℕ) where

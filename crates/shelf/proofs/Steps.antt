@@ -25,7 +25,8 @@ use Rattle.rules.specs.declared.PartAnswer.the-variants as of-part
 use Rattle.rules.specs.Shelf.{recordCount, headLength, edge, rising, laidOut, part, records, unitsGiven, lostGiven}
 use Rattle.rules.specs.Shelf.{recordLost, shelfLost}
 use Rattle.rules.specs.Shelf.{refusedAt, firstRefused, shelfFault, partFault, orShelf, shelfAnswer, partAnswer}
-use Rattle.shelf.proofs.Laws.{table-next, units-given, shelf-lost}
+use Rattle.record_reader.proofs.Promise.{units-given}
+use Rattle.shelf.proofs.Laws.{table-next, shelf-lost}
 
 -- ---- edges, one by one
 

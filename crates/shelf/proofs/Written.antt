@@ -13,23 +13,14 @@ use lib.Seq.{take-at, drop-at, take-all}
 use borrow.Author.Tests.{lt-ltb, le-leb, eq-eqb}
 use Rattle.rules.specs.Bytes.{word32, bytesOf, total, table, endToEnd, All, empty, and}
 use Rattle.rules.specs.Refusals.{none}
-use Rattle.rules.specs.Record.{recordLength}
 use Rattle.rules.specs.Reading.{readingFault}
 use Rattle.rules.specs.Shelf.{recordCount, headLength, edge, rising, laidOut, part, records, firstRefused, shelfFault}
 use Rattle.rules.specs.Shelf.{offsetsFrom, headBytes, shelfOf, Shelved, EveryShelf, OneList}
 use Rattle.record_laws.proofs.Words.{length-bytes, word32-bytes}
-use Rattle.record_laws.proofs.Allowed.{record-allowed}
-use Rattle.record_reader.proofs.Answers.{fault-allowed}
+use Rattle.record_reader.proofs.Promise.{taken-length}
 use Rattle.shelf.proofs.Laws.{edge-inside, edge-end}
 
 -- ---- records and their lengths
-
--- a record that the reader takes has 64 to 32,064 bytes
-taken-length : (r : List ℕ) → readingFault r ≡ none → (64 ≤ length r) × (length r ≤ 32064)
-unfolding recordLength
-taken-length r e =
-    let h = record-allowed r (fault-allowed r e) .header in
-    (omega (arith, h .length, h .whole), omega (arith, h .length, h .whole))
 
 some-bytes : {rs : List (List ℕ)} → All (λ (r : List ℕ). readingFault r ≡ none) rs →
     All (λ (l : ℕ). 0 < l) (map length rs)

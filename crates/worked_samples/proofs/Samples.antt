@@ -21,7 +21,7 @@ use Rattle.rules.specs.Units.{gapLoss, setApart, lossBetween, arrivalsAfter, ar
 use Rattle.rules.specs.Units.{cellsOf, leastTime, unitOf, unitsOf, beginnings}
 use Rattle.rules.specs.Capture.{wholeFrames, unfinished, allFrames, wholeWanted, shownWanted, units, frameCount}
 use Rattle.rules.specs.Capture.{skippedCount, badCount, showing, tooLong, wrongMagic, wrongLink}
-use Rattle.rules.specs.Capture.{wrongFrameHeader, wrongFrame, tooManyUnits, beginsAt, captureFault}
+use Rattle.rules.specs.Capture.{wrongFrameHeader, wrongFrame, tooManyUnits, beginsAt, formatFault, captureFault}
 use Rattle.rules.specs.Capture.{captureInside}
 use Rattle.rules.specs.Pictures.{pictureSize, pictureCount, pictures, lumaFault, rows, band, blockSum, pixelIn}
 use Rattle.rules.specs.Pictures.{pixel, pixelLine, pixels}
@@ -84,21 +84,21 @@ samples =
 
 -- the theorem: the rules give what the paper says
 pub sampled : map (λ (c : Case). c .rule) samples ≡ map (λ (c : Case). c .paper) samples
-unfolding oneBroken words run marks oneFrame showRecord samples openAnswer unitPlace scenePlace
-    allowedHeader allowedUnit allowedUnits allowedScene allowedScenes allowedRows allowed readingFault rowFault
-    isEdition unitFault sceneFault word32 word64 network16 bytesOf total greatestOf leastOf count only table parts
-    endToEnd goodSize goodTime goodPid openingFault levelUpTo level side area columns lines seconds microseconds
-    storedLength frameTime body frameSize framesUpTo restUpTo frames rest behindHeader ipLength udpLength carries
-    skipped packetsFrom packetsIn packetsOf packets shown whole startsCell damageMark condition identifier isWanted
-    startMark counter wantedOf badOf gapLoss setApart lossBetween heedsSplices knowsDamage spliceMark arrivalsAfter
-    arrivals beforeUnits groups cellsOf leastTime unitOf unitsOf beginnings wholeFrames unfinished allFrames
-    wholeWanted shownWanted units frameCount skippedCount badCount showing tooLong wrongMagic wrongLink
-    wrongFrameHeader wrongFrame tooManyUnits captureFault captureInside pictureSize pictureCount pictures lumaFault
-    rows band blockSum pixelIn pixel pixelLine pixels third tileAt bin inTileFrom inTile inBin histogram histograms
-    binsApart perMillion tileDifference tileDifferences insert sorted fifth difference leastOfSix cutScore cutScores
-    startsScene isStart startsFrom starts longestFrom sceneOf scenesAt scenesOf same squares spread rootFrom root
-    nearest changeFrom roundsToNearest change repeatsAfter changesAfter repeats changes icOf ipOf valueOf indexOf
-    indexBits recordLength sceneOffset headerBytes unitBytes sceneBytes recordBytes reduced scenesIn scenes unrepeated
-    indexFrom index header sealed sealedLength captureUnfinished noPacket lumaUnfinished noPicture noRoom sealFault
-    captureAnswer lumaAnswer sealAnswer over sealedBuffer expected add mul div ofInt toBits
+unfolding oneBroken words run marks oneFrame showRecord samples openAnswer unitPlace scenePlace allowedHeader
+    allowedUnit allowedUnits allowedScene allowedScenes allowedRows allowed readingFault rowFault isEdition unitFault
+    sceneFault word32 word64 network16 bytesOf total greatestOf leastOf count only table parts endToEnd goodSize
+    goodTime goodPid openingFault levelUpTo level side area columns lines seconds microseconds storedLength frameTime
+    body frameSize framesUpTo restUpTo frames rest behindHeader ipLength udpLength carries skipped packetsFrom
+    packetsIn packetsOf packets shown whole startsCell damageMark condition identifier isWanted startMark counter
+    wantedOf badOf gapLoss setApart lossBetween heedsSplices knowsDamage spliceMark arrivalsAfter arrivals beforeUnits
+    groups cellsOf leastTime unitOf unitsOf beginnings wholeFrames unfinished allFrames wholeWanted shownWanted units
+    frameCount skippedCount badCount showing tooLong wrongMagic wrongLink wrongFrameHeader wrongFrame tooManyUnits
+    formatFault captureFault captureInside pictureSize pictureCount pictures lumaFault rows band blockSum pixelIn pixel
+    pixelLine pixels third tileAt bin inTileFrom inTile inBin histogram histograms binsApart perMillion tileDifference
+    tileDifferences insert sorted fifth difference leastOfSix cutScore cutScores startsScene isStart startsFrom starts
+    longestFrom sceneOf scenesAt scenesOf same squares spread rootFrom root nearest changeFrom roundsToNearest change
+    repeatsAfter changesAfter repeats changes icOf ipOf valueOf indexOf indexBits recordLength sceneOffset headerBytes
+    unitBytes sceneBytes recordBytes reduced scenesIn scenes unrepeated indexFrom index header sealed sealedLength
+    captureUnfinished noPacket lumaUnfinished noPicture noRoom sealFault captureAnswer lumaAnswer sealAnswer over
+    sealedBuffer expected add mul div ofInt toBits
 sampled = refl

@@ -128,16 +128,6 @@ of-many : (o : Opening) (c : List ℕ) → Numbered (tooManyUnits o c)
 unfolding tooManyUnits
 of-many o c = of-begins (drop 750 (beginnings (o .edition) (shownWanted o c)))
 
-pub capture : (o : Opening) (c : List ℕ) → Numbered (captureFault o c)
-unfolding captureFault
-capture o c =
-    let frames = wrongFrame (length c) 24 (allFrames c) in
-    let many = tooManyUnits o c in
-    of-earlier (tooLong c) (earlier (wrongMagic c) (earlier (wrongLink c) (earlier frames many))) (of-long c)
-    (of-earlier (wrongMagic c) (earlier (wrongLink c) (earlier frames many)) (of-magic c)
-    (of-earlier (wrongLink c) (earlier frames many) (of-link c)
-    (of-earlier frames many (of-frames (length c) 24 (allFrames c)) (of-many o c))))
-
 -- 4 to 8
 pub format : (c : List ℕ) → Numbered (formatFault c)
 unfolding formatFault
@@ -146,6 +136,11 @@ format c =
     of-earlier (tooLong c) (earlier (wrongMagic c) (earlier (wrongLink c) frames)) (of-long c)
     (of-earlier (wrongMagic c) (earlier (wrongLink c) frames) (of-magic c)
     (of-earlier (wrongLink c) frames (of-link c) (of-frames (length c) 24 (allFrames c))))
+
+-- and 9
+pub capture : (o : Opening) (c : List ℕ) → Numbered (captureFault o c)
+unfolding captureFault
+capture o c = of-earlier (formatFault c) (tooManyUnits o c) (format c) (of-many o c)
 
 -- 4 to 8, 11, 21
 pub survey : (c : List ℕ) (most : ℕ) → Numbered (surveyFault c most)

@@ -7,7 +7,8 @@ use borrow.Author.Needs.{needs}
 use Rattle.rules.specs.Bytes.{total, table}
 use Rattle.rules.specs.Reading.{unitAnswer}
 use Rattle.rules.specs.Shelf.{lostGiven, recordLost}
-use Rattle.shelf.proofs.Laws.{row-inside, lost-row, record-fits}
+use Rattle.record_reader.proofs.Promise.{row-inside, lost-row}
+use Rattle.shelf.proofs.Laws.{record-fits}
 use Rattle.shelf.proofs.Steps.{lost-more, lost-end, lost-units}
 use Rattle.shelf.proofs.lost_in.Statement.{statement}
 use Rattle.shelf.proofs.lost_in.Tie as tie
