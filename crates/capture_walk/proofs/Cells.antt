@@ -1,5 +1,6 @@
 -- Bytes behind a frame's first 58: of a cell, of a run of cells, and behind the cells. What the walk stands for
 -- behind them, and what they bring.
+use Prim.{tt}
 use Prim.Native.Nat.{ℕ, zero, suc, _+_, _-_, _*_, _%_, _^_, _≤_, _<_}
 use native.Mathlib.Omega.{arith}
 use native.Mathlib.Decide.{decLt}
@@ -27,7 +28,7 @@ use Rattle.capture_walk.specs.declared.types.Walk.{Walk}
 use Rattle.capture_walk.specs.declared.types.Event.the-variants.{Nothing, Shown, Whole, Cells}
 use Rattle.capture_walk.specs.Format.{formatFault, headOf, cellsFrom}
 use Rattle.capture_walk.specs.State.{Under, Core, Stands}
-use Rattle.capture_walk.specs.Contract.{Collects, Taken, Settles, Gains, Level, Stood}
+use Rattle.capture_walk.specs.Contract.{Collects, Taken, Settles, Gains, Level, Passed}
 use Rattle.capture_laws.proofs.Format.{Sound, sound-of, fine-now, next-none}
 use Rattle.capture_walk.proofs.Lists.{from-cells, cells-cut, gains-none, gains-shown, gains-same, gains-whole}
 use Rattle.capture_walk.proofs.Lists.{gains-many, level}
@@ -252,9 +253,9 @@ module _ {k : List ℕ} {s : Walk} {joined : List ℕ} (start : 24 ≤ length jo
     pub tail-stood : (n : ℕ) (piece : List ℕ) (w : Walk) → Settles k r w → r .status ≡ s .status →
         r .fed ≡ s .fed + length t → r .at ≡ s .at + length t → r .size ≡ s .size →
         r .left ≡ s .left → r .frames ≡ s .frames → r .skipped ≡ s .skipped →
-        Stood k (record { taken = n; walk = w; event = Nothing }) piece joined (joined ++ t)
+        Passed k (record { taken = n; walk = w; event = Nothing }) piece joined (joined ++ t)
     tail-stood n piece w st rs rf ra rz rl rn rk =
-        record { stands = st joined t (tail-taken rs rf ra rz rl rn rk); tells = tail-gains }
+        record { stands = st joined t (tail-taken rs rf ra rz rl rn rk); tells = tail-gains; calm = tt }
 
   -- ---- a run of cells, none being under way
 
@@ -319,7 +320,7 @@ module _ {k : List ℕ} {s : Walk} {joined : List ℕ} (start : 24 ≤ length jo
         r .status ≡ s .status → r .fed ≡ s .fed + length t → r .at ≡ s .at + length t → r .size ≡ s .size →
         r .got ≡ s .got → r .left ≡ s .left - m → r .frames ≡ s .frames →
         r .skipped ≡ s .skipped →
-        Stood k (record {
+        Passed k (record {
           taken = n;
           walk = w;
           event = Cells (record { at = i; many = m; time = time; place = s .fed });
@@ -333,6 +334,7 @@ module _ {k : List ℕ} {s : Walk} {joined : List ℕ} (start : 24 ≤ length jo
                 (simp length-drop (omega arith)))),
             run-level,
           );
+          calm = tt;
         }
 
   -- ---- bytes that do not pass the end of the cell under way
@@ -410,12 +412,13 @@ module _ {k : List ℕ} {s : Walk} {joined : List ℕ} (start : 24 ≤ length jo
       pub cell-early : (n : ℕ) (piece : List ℕ) → (s .got + length t ≡ 4 → ⊥) → r .status ≡ s .status →
           r .fed ≡ s .fed + length t → r .at ≡ s .at + length t → r .size ≡ s .size →
           r .got ≡ s .got + length t → r .left ≡ s .left → r .frames ≡ s .frames → r .skipped ≡ s .skipped →
-          Stood k′ (record { taken = n; walk = r; event = Nothing }) piece joined (joined ++ t)
+          Passed k′ (record { taken = n; walk = r; event = Nothing }) piece joined (joined ++ t)
       cell-early n piece ne rs rf ra rz rg rl rn rk =
           record {
             stands = goes-t (omega arith) rs rf ra rz rg rl rn rk;
             tells = gains-none clear-t (still 4 (omega arith) (omega arith) (omega (arith, ne)))
                 (still 188 (omega arith) (omega arith) (omega arith));
+            calm = tt;
           }
 
       pub cell-shown : (n : ℕ) (piece : List ℕ) (c : Cell) → s .got + length t ≡ 4 →
@@ -423,7 +426,7 @@ module _ {k : List ℕ} {s : Walk} {joined : List ℕ} (start : 24 ≤ length jo
           r .fed ≡ s .fed + length t → r .at ≡ s .at + length t → r .size ≡ s .size → r .got ≡ s .got + length t →
           r .left ≡ s .left → r .frames ≡ s .frames →
           r .skipped ≡ s .skipped →
-          Stood k′ (record { taken = n; walk = r; event = Shown c }) piece joined (joined ++ t)
+          Passed k′ (record { taken = n; walk = r; event = Shown c }) piece joined (joined ++ t)
       cell-shown n piece c four ce rs rf ra rz rg rl rn rk =
           record {
             stands = goes-t (omega arith) rs rf ra rz rg rl rn rk;
@@ -435,6 +438,7 @@ module _ {k : List ℕ} {s : Walk} {joined : List ℕ} (start : 24 ≤ length jo
               level joined (passed joined b) (passed-d 4 (omega arith) (omega arith))
                   (passed-d 188 (omega arith) (omega arith)),
             );
+            calm = tt;
           }
         where
           shown-now : reached 4 (joined ++ t) ≡ passed joined b ++ q ∷ []
@@ -474,7 +478,7 @@ module _ {k : List ℕ} {s : Walk} {joined : List ℕ} (start : 24 ≤ length jo
       pub cell-on : (n : ℕ) (piece : List ℕ) → s .got + length t < 188 → r .status ≡ s .status →
           r .fed ≡ s .fed + length t → r .at ≡ s .at + length t → r .size ≡ s .size →
           r .got ≡ s .got + length t → r .left ≡ s .left → r .frames ≡ s .frames → r .skipped ≡ s .skipped →
-          Stood k′ (record { taken = n; walk = r; event = Nothing }) piece joined (joined ++ t)
+          Passed k′ (record { taken = n; walk = r; event = Nothing }) piece joined (joined ++ t)
       cell-on n piece less rs rf ra rz rg rl rn rk =
           record {
             stands = goes-t less rs rf ra rz rg rl rn rk;
@@ -482,6 +486,7 @@ module _ {k : List ℕ} {s : Walk} {joined : List ℕ} (start : 24 ≤ length jo
                 gains-same clear-t (passed joined b) (packetAt joined b cur) q head-same shown-old shown-t
                 (more-short 188 (omega arith) (omega arith) joined start b (s .left) (v .split) t fits-on
                 (omega (arith, cur-t)) ∙ sym passed-now);
+            calm = tt;
           }
 
       -- it is whole
@@ -529,11 +534,12 @@ module _ {k : List ℕ} {s : Walk} {joined : List ℕ} (start : 24 ≤ length jo
             place + 188 ≡ s .fed + length t → r .status ≡ s .status → r .fed ≡ s .fed + length t →
             r .at ≡ s .at + length t → r .size ≡ s .size → r .got ≡ 0 →
             r .left ≡ s .left - 1 → r .frames ≡ s .frames → r .skipped ≡ s .skipped →
-            Stood k′ (record { taken = n; walk = w; event = Whole c }) piece joined (joined ++ t)
+            Passed k′ (record { taken = n; walk = w; event = Whole c }) piece joined (joined ++ t)
         cell-whole n piece w c time place st ce te pe rs rf ra rz rg rl rn rk =
             record {
               stands = st joined t (cell-taken rs rf ra rz rg rl rn rk);
               tells = cell-gains c time place ce te pe;
+              calm = tt;
             }
 
 -- a sum that does not wrap

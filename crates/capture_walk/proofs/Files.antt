@@ -1,4 +1,5 @@
 -- Bytes of the file header: what the walk stands for behind them.
+use Prim.{tt}
 use Prim.Native.Nat.{ℕ, _+_, _≤_, _<_}
 use native.Mathlib.Omega.{arith}
 use native.Mathlib.Decide.{decLt}
@@ -22,10 +23,10 @@ use Rattle.capture_walk.specs.declared.types.Walk.{Walk}
 use Rattle.capture_walk.specs.declared.types.Event.the-variants.{Nothing, Refused}
 use Rattle.capture_walk.specs.Format.{formatFault}
 use Rattle.capture_walk.specs.State.{Head, Core, Stands, head, live}
-use Rattle.capture_walk.specs.Contract.{silent, Stood}
+use Rattle.capture_walk.specs.Contract.{Passed}
 use Rattle.capture_walk.proofs.Lists.{shown-same, gains-none}
 use Rattle.capture_walk.proofs.Front.{Placed, Held, held-agree, held-more}
-use Rattle.capture_walk.proofs.Pieces.{refuse}
+use Rattle.capture_walk.proofs.Pieces.{refuse-now}
 
 none-skipped : skipped [] ≡ 0
 unfolding skipped count
@@ -68,7 +69,7 @@ module _ {k : List ℕ} {s : Walk} {joined : List ℕ} (u : Head k s joined) (k�
   module _ (rs : r .status ≡ s .status) (rf : r .fed ≡ s .fed + length t) (ra : r .at ≡ s .at)
       (rn : r .frames ≡ s .frames) (rk : r .skipped ≡ s .skipped) where
     head-on : formatFault a ≡ none → s .fed + length t < 24 →
-        Stood k′ (record { taken = n; walk = r; event = Nothing }) piece joined a
+        Passed k′ (record { taken = n; walk = r; event = Nothing }) piece joined a
     head-on c l =
         record {
           stands =
@@ -85,11 +86,12 @@ module _ {k : List ℕ} {s : Walk} {joined : List ℕ} (u : Head k s joined) (k�
                 bytes = λ i h. held .held i h (omega (arith, size));
               });
           tells = gains-none c (nothing 4 (omega arith) (omega arith)) (nothing 188 (omega arith) (omega arith));
+          calm = tt;
         }
 
     -- the header is whole
     head-done : formatFault a ≡ none → s .fed + length t ≡ 24 →
-        Stood k′ (record { taken = n; walk = r; event = Nothing }) piece joined a
+        Passed k′ (record { taken = n; walk = r; event = Nothing }) piece joined a
     head-done c l =
         record {
           stands =
@@ -108,22 +110,23 @@ module _ {k : List ℕ} {s : Walk} {joined : List ℕ} (u : Head k s joined) (k�
                 under = λ x. absurd (omega arith);
               }));
           tells = gains-none c (nothing 4 (omega arith) (omega arith)) (nothing 188 (omega arith) (omega arith));
+          calm = tt;
         }
 
     pub file-plain : (s .fed + length t ≡ 4 → ⊥) → (s .fed + length t ≡ 24 → ⊥) →
-        Stood k′ (record { taken = n; walk = r; event = Nothing }) piece joined (joined ++ t)
+        Passed k′ (record { taken = n; walk = r; event = Nothing }) piece joined (joined ++ t)
     unfolding a
     file-plain x y = go (decLt (s .fed) 4)
       where
         l : s .fed + length t < 24
         l = omega (arith, y)
 
-        go : Dec (s .fed < 4) → Stood k′ (record { taken = n; walk = r; event = Nothing }) piece joined a
+        go : Dec (s .fed < 4) → Passed k′ (record { taken = n; walk = r; event = Nothing }) piece joined a
         go (yes d) = let f = upto d in head-on (shows ∙ rw (magic-early a (omega (arith, size, x)), no-link l)) l
         go (no d) = head-on (shows ∙ rw (magic-kept (omega arith), no-link l)) l
 
     pub file-magic : {b : Bool} → s .fed + length t ≡ 4 → b ≡ isMagic k′ → b ≡ true →
-        Stood k′ (record { taken = n; walk = r; event = Nothing }) piece joined (joined ++ t)
+        Passed k′ (record { taken = n; walk = r; event = Nothing }) piece joined (joined ++ t)
     unfolding a
     file-magic l e f =
         let m : isMagic a ≡ true =
@@ -131,7 +134,7 @@ module _ {k : List ℕ} {s : Walk} {joined : List ℕ} (u : Head k s joined) (k�
         head-on (shows ∙ rw (magic-shown a (omega (arith, size)), m, no-link (omega arith))) (omega arith)
 
     pub file-link : s .fed + length t ≡ 24 → word32 k′ 20 ≡ 1 →
-        Stood k′ (record { taken = n; walk = r; event = Nothing }) piece joined (joined ++ t)
+        Passed k′ (record { taken = n; walk = r; event = Nothing }) piece joined (joined ++ t)
     unfolding a
     file-link l e =
         let g = link-agree (held-agree 24 held (omega (arith, size)) (omega arith)) (omega arith) in
@@ -146,22 +149,23 @@ module _ {k : List ℕ} {s : Walk} {joined : List ℕ} (u : Head k s joined) (k�
             go (no d) = omega arith
 
   pub file-bad-magic : {b : Bool} → s .fed + length t ≡ 4 → b ≡ isMagic k′ → b ≡ false → r .status ≡ 5 → r .place ≡ 3 →
-      Stood k′ (record { taken = n; walk = r; event = Refused }) piece joined (joined ++ t)
+      Passed k′ (record { taken = n; walk = r; event = Refused }) piece joined (joined ++ t)
   unfolding a
   file-bad-magic l e f rs rp =
       let m : isMagic a ≡ false =
       sym (magic-agree (held-agree 4 held (omega (arith, size)) (omega arith)) (omega arith)) ∙ sym e ∙ f in
-      refuse n 5 3 stood (shows ∙ rw (magic-shown a (omega (arith, size)), m, no-link (omega arith)))
-      (omega arith) rs rp (silent (shown-same joined a (nothing 4 (omega arith) (omega arith))))
+      refuse-now n 5 3 stood (shows ∙ rw (magic-shown a (omega (arith, size)), m, no-link (omega arith)))
+      (omega arith) rs rp (shown-same joined a (nothing 4 (omega arith) (omega arith)))
 
   pub file-bad-link : s .fed + length t ≡ 24 → (word32 k′ 20 ≡ 1 → ⊥) → r .status ≡ 6 → r .place ≡ 23 →
-      Stood k′ (record { taken = n; walk = r; event = Refused }) piece joined (joined ++ t)
+      Passed k′ (record { taken = n; walk = r; event = Refused }) piece joined (joined ++ t)
   unfolding a
   file-bad-link l e rs rp =
       let g = link-agree (held-agree 24 held (omega (arith, size)) (omega arith)) (omega arith) in
       let m = ne-eqb (word32 a 20) 1 (λ x. e (g ∙ x)) in
-      refuse n 6 23 stood (shows ∙ rw (magic-kept later, link-shown a (omega (arith, size)), m)) (omega arith) rs rp
-      (silent (shown-same joined a (nothing 4 (omega arith) (omega arith))))
+      refuse-now n 6 23 stood (shows ∙ rw (magic-kept later, link-shown a (omega (arith, size)), m))
+      (omega arith) rs rp
+      (shown-same joined a (nothing 4 (omega arith) (omega arith)))
     where
       later : 4 ≤ s .fed
       later = go (decLt (s .fed) 4)

@@ -1,4 +1,5 @@
 -- Bytes of a frame's header or of the first 42 behind it: what the walk stands for behind them.
+use Prim.{tt}
 use Prim.Native.Nat.{ℕ, zero, suc, _+_, _-_, _*_, _≤_, _<_}
 use native.Mathlib.Omega.{arith}
 use native.Mathlib.Decide.{decLe, decLt}
@@ -17,12 +18,13 @@ use Rattle.capture_cells.specs.Cells.{Agree}
 use Rattle.capture_cells.proofs.Agree.{micro-agree, stored-agree, count-agree}
 use Rattle.capture_walk.specs.declared.types.Walk.{Walk}
 use Rattle.capture_walk.specs.declared.types.Event.the-variants.{Nothing, Refused}
+use Rattle.capture_walk.specs.Format.{shownCells}
 use Rattle.capture_walk.specs.State.{Under, Core, Stands}
-use Rattle.capture_walk.specs.Contract.{Carried, Within, Taken, Settles, Gains, Halts, silent, Stood}
+use Rattle.capture_walk.specs.Contract.{Carried, Within, Taken, Settles, Gains, Passed}
 use Rattle.capture_laws.proofs.Format.{Sound, sound-of, fine-now, next-none, next-seven, next-eight}
 use Rattle.capture_walk.proofs.Lists.{shown-same, gains-none}
 use Rattle.capture_walk.proofs.Fits.{stored-more, fine-run, time-behind, fits-run}
-use Rattle.capture_walk.proofs.Pieces.{refuse}
+use Rattle.capture_walk.proofs.Pieces.{refuse-now}
 
 -- ---- collected bytes: those of t, from the place at on; those before stay
 
@@ -124,7 +126,7 @@ module _ {k : List ℕ} {s : Walk} {joined : List ℕ} (start : 24 ≤ length jo
 
     -- these bytes bring no cell
     abbrev Here : Type 0
-    Here = Stood k′ (record { taken = n; walk = w; event = Nothing }) piece joined (joined ++ t)
+    Here = Passed k′ (record { taken = n; walk = w; event = Nothing }) piece joined (joined ++ t)
 
     done : Taken k′ r joined t → Here
     done x =
@@ -132,6 +134,7 @@ module _ {k : List ℕ} {s : Walk} {joined : List ℕ} (start : 24 ≤ length jo
           stands = st joined t x;
           tells = gains-none (x .core .clear) (quiet 4 (omega arith) (omega arith))
               (quiet 188 (omega arith) (omega arith));
+          calm = tt;
         }
 
     -- L is not there yet, or is there already
@@ -187,23 +190,24 @@ module _ {k : List ℕ} {s : Walk} {joined : List ℕ} (start : 24 ≤ length jo
         }))
 
   -- 7 and 8
-  hushed : Halts r joined (joined ++ t)
-  hushed = silent (shown-same joined (joined ++ t) (quiet 4 (omega arith) (omega arith)))
+  hushed : shownCells (joined ++ t) ≡ shownCells joined
+  hushed = shown-same joined (joined ++ t) (quiet 4 (omega arith) (omega arith))
 
   pub front-bad-time : (n : ℕ) (piece : List ℕ) → s .at + length t ≡ 8 → 999999 < microseconds k′ → r .status ≡ 7 →
       r .place ≡ s .fed + (length t - 1) →
-      Stood k′ (record { taken = n; walk = r; event = Refused }) piece joined (joined ++ t)
+      Passed k′ (record { taken = n; walk = r; event = Refused }) piece joined (joined ++ t)
   front-bad-time n piece e h rs rp =
       let g = micro-agree (held-agree 8 held (omega (arith, many)) (omega arith)) (omega arith) in
-      refuse n 7 (base joined + 7) stood (next-seven joined t start fits few sound (omega (arith, many)) (omega arith))
+      refuse-now n 7 (base joined + 7) stood (next-seven joined t start fits few sound (omega (arith, many))
+      (omega arith))
       (omega arith) rs (rp ∙ omega (arith, place-now, u .many)) hushed
 
   pub front-bad-size : (n : ℕ) (piece : List ℕ) → s .at + length t ≡ 12 → 65535 < storedLength k′ → r .status ≡ 8 →
       r .place ≡ s .fed + (length t - 1) →
-      Stood k′ (record { taken = n; walk = r; event = Refused }) piece joined (joined ++ t)
+      Passed k′ (record { taken = n; walk = r; event = Refused }) piece joined (joined ++ t)
   front-bad-size n piece e h rs rp =
       let g = stored-agree (held-agree 12 held (omega (arith, many)) (omega arith)) (omega arith) in
-      refuse n 8 (base joined + 11) stood
+      refuse-now n 8 (base joined + 11) stood
       (next-eight joined t start fits few sound (omega (arith, many))
       (time-behind (unfinished joined) t (s .size) fine field (many ∙ e) some) (omega arith))
       (omega arith)

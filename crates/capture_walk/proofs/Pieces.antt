@@ -15,9 +15,9 @@ use Rattle.capture_laws.proofs.Format.{header-shows}
 use Rattle.capture_walk.specs.declared.types.Walk.{Walk}
 use Rattle.capture_walk.specs.declared.types.Step.{Step}
 use Rattle.capture_walk.specs.declared.types.Event.the-variants.{Refused}
-use Rattle.capture_walk.specs.Format.{formatFault}
+use Rattle.capture_walk.specs.Format.{formatFault, shownCells}
 use Rattle.capture_walk.specs.State.{loaded, Core, Head, Stands, refused, head, live, Means}
-use Rattle.capture_walk.specs.Contract.{Opened, Halts, again, surplus, Stood, Goes, Stepped}
+use Rattle.capture_walk.specs.Contract.{Opened, Halts, again, surplus, silent, Stood, Passed, Goes, Turned}
 
 -- ---- a state that has refused nothing
 
@@ -38,6 +38,13 @@ pub refuse : {kept : List ℕ} {r : Walk} {piece joined a : List ℕ} (n k p : �
     formatFault a ≡ fault k p → 0 < k → r .status ≡ k → r .place ≡ p →
     Halts r joined a → Stood kept (record { taken = n; walk = r; event = Refused }) piece joined a
 refuse n k p l e h a b g = record { stands = refused l (rw (e, a, b)) (omega arith); tells = (rw (e, a, b), g) }
+
+-- one that a turn's bytes show: they show no cell
+pub refuse-now : {kept : List ℕ} {r : Walk} {piece joined a : List ℕ} (n k p : ℕ) → length kept ≡ 64 →
+    formatFault a ≡ fault k p → 0 < k → r .status ≡ k → r .place ≡ p →
+    shownCells a ≡ shownCells joined → Passed kept (record { taken = n; walk = r; event = Refused }) piece joined a
+refuse-now n k p l e h a b g =
+    record { stands = refused l (rw (e, a, b)) (omega arith); tells = (rw (e, a, b), silent g); calm = g }
 
 -- one that stands already
 pub refuse-again : {kept : List ℕ} {s : Walk} {piece joined : List ℕ} (n : ℕ) (t : List ℕ) → (s .status ≡ 0 → ⊥) →
@@ -81,15 +88,13 @@ many-taken piece i n h = length-take-le n (drop i piece) (simp length-drop (omeg
 pub part-rest : (piece : List ℕ) (i n : ℕ) → length piece ≤ i + n → take n (drop i piece) ≡ drop i piece
 part-rest piece i n h = take-all n (drop i piece) (simp length-drop (omega arith))
 
-pub stepped : {k : List ℕ} {s : Walk} {piece : List ℕ} {i n : ℕ} {k′ : List ℕ} {r : Step} → 0 < n →
-    i + n ≤ length piece → Goes k s piece i n k′ r → Stepped k s piece i k′ r
-stepped {k} {s} {piece} {i} {n} {k′} {r} p q g =
+pub turned : {k : List ℕ} {s : Walk} {piece : List ℕ} {i n : ℕ} {k′ : List ℕ} {r : Step} → 0 < n →
+    i + n ≤ length piece → Goes k s piece i n k′ r → Turned k s piece i k′ r
+turned {k} {s} {piece} {i} {n} {k′} {r} p q g =
     record {
       some = rw (g .taken) p;
       most = rw (g .taken) q;
-      fits = g .fits;
-      goes = λ joined st. subst (λ (m : ℕ). Stood k′ r piece joined (joined ++ take m (drop i piece))) (sym (g .taken))
-          (g .goes joined st);
+      goes = subst (λ (m : ℕ). Goes k s piece i m k′ r) (sym (g .taken)) g;
     }
 
 pub nonzero : {n : ℕ} → (n ≡ 0 → ⊥) → 0 < n

@@ -74,11 +74,25 @@ pub record Stood (kept : List ℕ) (r : Step) (piece before after : List ℕ) : 
   pub stands : Stands kept (r .walk) after
   pub tells : Tells (r .event) (r .walk) piece before after
 
+-- bytes that are refused in a turn show no cell
+abbrev pub Calm : Event → List ℕ → List ℕ → Type 0
+Calm Nothing before after = Unit {0}
+Calm (Shown c) before after = Unit {0}
+Calm (Whole c) before after = Unit {0}
+Calm (Cells r) before after = Unit {0}
+Calm Refused before after = shownCells after ≡ shownCells before
+
+-- the same of a turn
+pub record Passed (kept : List ℕ) (r : Step) (piece before after : List ℕ) : Type 0 where
+  pub stands : Stands kept (r .walk) after
+  pub tells : Tells (r .event) (r .walk) piece before after
+  pub calm : Calm (r .event) before after
+
 -- kept and s, by n bytes of the piece from i on, become kept′ and r
 pub record Goes (kept : List ℕ) (s : Walk) (piece : List ℕ) (i n : ℕ) (kept′ : List ℕ) (r : Step) : Type 0 where
   pub taken : r .taken ≡ n
   pub fits : Fits (r .event) piece
-  pub goes : (joined : List ℕ) → Stands kept s joined → Stood kept′ r piece joined (joined ++ take n (drop i piece))
+  pub goes : (joined : List ℕ) → Stands kept s joined → Passed kept′ r piece joined (joined ++ take n (drop i piece))
 
 -- `inside`: the capture ends inside its header or a frame
 abbrev pub Asks : Walk → Bool → Type 0
@@ -93,6 +107,12 @@ pub record Stepped (kept : List ℕ) (s : Walk) (piece : List ℕ) (i : ℕ) (ke
       Stood kept′ r piece joined (joined ++ take (r .taken) (drop i piece))
 
 -- ---- of the functions within
+
+-- `turn`
+pub record Turned (kept : List ℕ) (s : Walk) (piece : List ℕ) (i : ℕ) (kept′ : List ℕ) (r : Step) : Type 0 where
+  pub some : 0 < r .taken
+  pub most : i + r .taken ≤ length piece
+  pub goes : Goes kept s piece i (r .taken) kept′ r
 
 -- n bytes of the piece, from its byte `from` on, stand at the place `at`; all others are as they were
 pub record Carried (w : List ℕ) (at : ℕ) (piece : List ℕ) (from n : ℕ) (w′ : List ℕ) : Type 0 where

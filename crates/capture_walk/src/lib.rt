@@ -2,10 +2,13 @@
 // their cells, counts the frames, and gives refusals 4 to 8. It knows no PID, no unit and no edition: whoever counts
 // cells takes them from the steps. Of a frame the first 58 bytes are collected, of a cell the first six; a frame, or
 // a cell, that lies whole in a piece is read where it lies.
+ghost use mathlib.Core.Path.{_≡_};
+ghost use mathlib.Core.Bool.{false};
 ghost use Prim.Native.Nat.{_<_};
 ghost use lib.ListN.{length};
 ghost use Rattle.capture_walk.specs.State.{Means};
-ghost use Rattle.capture_walk.specs.Contract.{Opened, Asks, Stepped};
+ghost use Rattle.capture_walk.specs.declared.types.Event.the-variants.{Nothing};
+ghost use Rattle.capture_walk.specs.Contract.{Opened, Asks, Turned, Stepped};
 
 mod collected;
 mod numbers;
@@ -35,6 +38,16 @@ pub use types::WALK_WORDS;
 pub use types::Walk;
 pub use types::WalkWords;
 
+fn step(taken: usize, walk: Walk, event: Event) -> Step
+    ensures { λ r. ⌜ r ≡ record { taken = taken; walk = walk; event = event } ⌝ }
+{
+    Step {
+        taken: taken,
+        walk: walk,
+        event: event,
+    }
+}
+
 // A fresh walk.
 pub fn open(words: &mut WalkWords, kept: &mut Collected)
     ensures { λ _. ⌜ Opened (now (words .exit)) (now (kept .exit)) ⌝ }
@@ -53,32 +66,16 @@ pub fn inside(s: Walk) -> bool
     0 < s.at
 }
 
-// The next bytes of a piece, from byte i on: as many as go together.
-pub fn next(kept: &mut Collected, s: Walk, piece: &[u8], i: usize) -> Step
-    requires { ⌜ i < length (now piece) ⌝ }
-    ensures { λ r. ⌜ Stepped (now (kept .entry)) s (now (piece .entry)) i (now (kept .exit)) r ⌝ }
+// The bytes of a piece from byte i on, up to the next place where something is decided.
+fn turn(kept: &mut Collected, s: Walk, piece: &[u8], i: usize) -> Step
+    requires { ⌜ (s .status ≡ 0) × (s .fed < 268435456) × (i < length (now piece)) ⌝ }
+    ensures { λ r. ⌜ Turned (now (kept .entry)) s (now (piece .entry)) i (now (kept .exit)) r ⌝ }
 {
-    let left = piece.len() - i;
-    if s.status != 0 {
-        return Step {
-            taken: left,
-            walk: s,
-            event: Event::Refused,
-        };
-    }
-    if 268435456 <= s.fed {
-        let t = refused(s, 4, 268435456);
-        return Step {
-            taken: left,
-            walk: t,
-            event: Event::Refused,
-        };
-    }
     let whole = whole_size(s, &piece[i..]);
     if 0 < whole {
         return on_frame(s, piece, i, whole);
     }
-    let n = span(s, left as u64);
+    let n = span(s, (piece.len() - i) as u64);
     if s.fed < 24 {
         return on_file(kept, s, piece, i, n);
     }
@@ -96,4 +93,47 @@ pub fn next(kept: &mut Collected, s: Walk, piece: &[u8], i: usize) -> Step
         return on_first(kept, s, piece, i, n);
     }
     on_rest(kept, s, piece, i, n)
+}
+
+fn is_news(e: Event) -> bool
+    ensures { λ r. ⌜ (r ≡ false → e ≡ Nothing) ⌝ }
+{
+    match e {
+        Event::Nothing => false,
+        Event::Shown(_) => true,
+        Event::Whole(_) => true,
+        Event::Cells(_) => true,
+        Event::Refused => true,
+    }
+}
+
+// The next bytes of a piece, from byte i on: up to those that bring something, or all of them. Turns that bring
+// nothing are taken here, so that the walk's numbers need not be handed over between them.
+pub fn next(kept: &mut Collected, s: Walk, piece: &[u8], i: usize) -> Step
+    requires { ⌜ i < length (now piece) ⌝ }
+    ensures { λ r. ⌜ Stepped (now (kept .entry)) s (now (piece .entry)) i (now (kept .exit)) r ⌝ }
+{
+    let mut w = s;
+    let mut at = i;
+    while at < piece.len() {
+        if w.status != 0 {
+            return step(piece.len() - i, w, Event::Refused);
+        }
+        if 268435456 <= w.fed {
+            if i < at {
+                return step(at - i, w, Event::Nothing);
+            }
+            let t = refused(w, 4, 268435456);
+            return step(piece.len() - i, t, Event::Refused);
+        }
+        let r = turn(kept, w, piece, at);
+        let e = r.event;
+        let v = r.walk;
+        w = v;
+        at += r.taken;
+        if is_news(e) {
+            return step(at - i, w, e);
+        }
+    }
+    step(at - i, w, Event::Nothing)
 }

@@ -1,0 +1,210 @@
+use Prim.Native.Nat.{_-_}
+use native.Mathlib.Omega.{arith}
+use lib.ListN.{length, length-drop}
+use Rattle.capture_walk.proofs.Pieces.{part-rest, turned, nonzero}
+use borrow.Author.Needs.{needs}
+use Rattle.capture_walk.proofs.turn.Statement.{statement}
+use Rattle.capture_walk.proofs.turn.Tie as tie
+
+sub-whole-size : tie.Need-sub-whole-size
+sub-whole-size c = search needs
+
+part-whole-size-start : tie.Need-part-whole-size-start
+part-whole-size-start c = search needs
+
+part-whole-size-end : tie.Need-part-whole-size-end
+part-whole-size-end c = search needs
+
+whole-size-requires : tie.Need-whole-size-requires
+whole-size-requires c κs = search needs
+
+on-frame-requires : tie.Need-on-frame-requires
+on-frame-requires c κs =
+    let a = c .before .before .before .before .args in (
+      c .before .before .before .before .pre .0,
+      omega arith,
+      rw (part-rest (a .piece .now) (a .i) (length (a .piece .now) - a .i) (omega arith)) at
+          (c .before .whole-size .ensures (c .if1 .taken)),
+    )
+
+returns : tie.Need-returns
+returns c =
+    let a = c .before .before .before .before .before .args in
+    let h = rw (part-rest (a .piece .now) (a .i) (length (a .piece .now) - a .i) (omega arith)) at
+    (c .before .before .whole-size .ensures (c .before .if1 .taken)) in
+    let l = length-drop (a .i) (a .piece .now) in
+    turned (c .before .if1 .taken) (omega (arith, h .there)) (c .on-frame .ensures _)
+
+sub-span : tie.Need-sub-span
+sub-span c = search needs
+
+span-requires : tie.Need-span-requires
+span-requires c κs = search needs
+
+on-file-requires : tie.Need-on-file-requires
+on-file-requires c κs =
+    let p = c .before .before .before .span .ensures in (
+      c .before .before .before .before .before .before .before .before .pre .0,
+      p .some,
+      p .magic,
+      p .file
+          (c .before .if2 .taken),
+      omega (arith, p .fits),
+    )
+
+returns-2 : tie.Need-returns-2
+returns-2 c =
+    let p = c .before .before .before .before .span .ensures in
+    turned (p .some) (omega (arith, p .fits)) (c .on-file .ensures)
+
+on-front-requires : tie.Need-on-front-requires
+on-front-requires c κs =
+    let p = c .before .before .before .before .before .span .ensures in (
+      c .before .before .before .before .before .before .before .before .before .before .pre .0,
+      c .before .before .before .if2 .left,
+      p .limit,
+      p .some,
+      p .front (c .before .before .before .if2 .left)
+          (c .before .if3 .taken),
+      omega (arith, p .fits),
+    )
+
+returns-3 : tie.Need-returns-3
+returns-3 c =
+    let p = c .before .before .before .before .before .before .span .ensures in
+    turned (p .some) (omega (arith, p .fits)) (c .on-front .ensures)
+
+on-tail-requires : tie.Need-on-tail-requires
+on-tail-requires c κs =
+    let p = c .before .before .before .before .before .before .before .span .ensures in (
+      c .before .before .before .before .before .before .before .before .before .before .before .before .pre .0,
+      c .before .before .before .before .before .if2 .left,
+      p .limit,
+      c .before .before .before .if3 .left,
+      c .before .if4 .taken,
+      p .body (c .before .before .before .before .before .if2 .left)
+          (c .before .before .before .if3 .left) (c .before .if4 .taken),
+      omega (arith, p .fits),
+    )
+
+returns-4 : tie.Need-returns-4
+returns-4 c =
+    let p = c .before .before .before .before .before .before .before .before .span .ensures in
+    turned (p .some) (omega (arith, p .fits)) (c .on-tail .ensures)
+
+sub-run-size : tie.Need-sub-run-size
+sub-run-size c = search needs
+
+part-run-size-start : tie.Need-part-run-size-start
+part-run-size-start c = search needs
+
+part-run-size-end : tie.Need-part-run-size-end
+part-run-size-end c = search needs
+
+run-size-requires : tie.Need-run-size-requires
+run-size-requires c κs = (
+  c .before .before .before .before .before .before .before .before .before .before .before .before .pre .1,
+  c .before .before .before .before .before .if2 .left,
+  c .before .before .before .if3 .left,
+  nonzero
+      (c .before .if4 .left),
+)
+
+on-run-requires : tie.Need-on-run-requires
+on-run-requires c κs =
+    let p = c .before .before .run-size .ensures (c .before .if5 .taken) in (
+      c .before .before .before .before .before .before .before .before .before .before .before .before .before .before
+          .before .pre .0,
+      c .before .before .before .before .before .before .before .before .if2 .left,
+      c .before .before .before .before .before .before .if3 .left,
+      p .next,
+      c .before .if5 .taken,
+      p .most,
+      p .limit,
+      omega (arith, p .there),
+    )
+
+returns-5 : tie.Need-returns-5
+returns-5 c =
+    let p = c .before .before .before .run-size .ensures (c .before .before .if5 .taken) in
+    turned (omega (arith, c .before .before .if5 .taken)) (omega (arith, p .there)) (c .on-run .ensures)
+
+on-first-requires : tie.Need-on-first-requires
+on-first-requires c κs =
+    let p = c .before .before .before .before .before .before .before .before .before .before .before .before .span
+    .ensures in
+    let l = nonzero (c .before .before .before .before .before .before .if4 .left) in (
+      c .before .before .before .before .before .before .before .before .before .before .before .before .before .before
+          .before .before .before .pre .0,
+      c .before .before .before .before .before .before .before .before .before
+          .before .if2 .left,
+      p .limit,
+      p .some,
+      c .before .before .before .before .before .before .before .before .if3
+          .left,
+      l,
+      p .early (c .before .before .before .before .before .before .before .before .before .before .if2
+          .left) (c .before .before .before .before .before .before .before .before .if3 .left) l
+          (c .before .if6 .taken),
+      omega (arith, p .fits),
+    )
+
+returns-6 : tie.Need-returns-6
+returns-6 c =
+    let p = c .before .before .before .before .before .before .before .before .before .before .before .before .before
+    .span .ensures in
+    turned (p .some) (omega (arith, p .fits)) (c .on-first .ensures)
+
+on-rest-requires : tie.Need-on-rest-requires
+on-rest-requires c κs =
+    let p = c .before .before .before .before .before .before .before .before .before .before .before .before .span
+    .ensures in
+    let l = nonzero (c .before .before .before .before .before .before .if4 .left) in (
+      c .before .before .before .before .before .before .before .before .before .before .before .before .before .before
+          .before .before .before .pre .0,
+      c .before .before .before .before .before .before .before .before .before
+          .before .if2 .left,
+      p .limit,
+      c .before .before .before .before .before .before .before .before .if3 .left,
+      l,
+      c .before .if6 .left,
+      p .cell (c .before .before .before .before .before .before .before .before .before
+          .before .if2 .left) (c .before .before .before .before .before .before .before .before .if3 .left) l
+          (c .before .if6 .left),
+      omega (arith, p .fits),
+    )
+
+returns-7 : tie.Need-returns-7
+returns-7 c =
+    let p = c .before .before .before .before .before .before .before .before .before .before .before .before .before
+    .span .ensures in
+    turned (p .some) (omega (arith, p .fits)) (c .on-rest .ensures)
+
+pub turn-spec : {M : Type 1} → statement M
+turn-spec =
+    tie.close
+    (tie.spec
+    sub-whole-size
+    part-whole-size-start
+    part-whole-size-end
+    whole-size-requires
+    on-frame-requires
+    returns
+    sub-span
+    span-requires
+    on-file-requires
+    returns-2
+    on-front-requires
+    returns-3
+    on-tail-requires
+    returns-4
+    sub-run-size
+    part-run-size-start
+    part-run-size-end
+    run-size-requires
+    on-run-requires
+    returns-5
+    on-first-requires
+    returns-6
+    on-rest-requires
+    returns-7)
