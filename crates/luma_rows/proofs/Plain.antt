@@ -1,40 +1,36 @@
--- A whole row of blocks of one byte. Its block sums are made by nobody: they are written down here, as the code for
--- wider blocks would have made them. No code.
+-- Whole rows of blocks of one byte: their bytes are the pixels, and the sums stand for nothing before them and behind
+-- them. No code.
 use Prim.Native.Nat.{ℕ, _+_, _-_, _*_, _/_, _%_, _^_, _≤_, _<_}
 use native.Mathlib.Omega.{arith}
-use native.Mathlib.Nat.{add-mul, mul-one, one-mul, zero-mul, add-zero, mul-le-mul-right}
+use native.Mathlib.Nat.{add-mul, mul-one, zero-mul, add-zero, mul-pos, lt-of-not-le, mul-le-mul-right, div-add-mod'}
+use native.Mathlib.Decide.{decLe, ℕ-discrete}
 use mathlib.Core.Path.{_≡_, refl, sym, ap, _∙_}
-use mathlib.Core.Bool.{Bool, true, false}
-use mathlib.Core.List.{List, _++_, append-nil}
-use lib.ListN.{length, getD, take, drop, set, length-set, length-drop}
-use lib.Seq.{getD-set-same, getD-set-other, getD-take, getD-drop, drop-cons, length-take-le, ext-getD}
+use mathlib.Core.List.{List, [], _++_, append-nil, append-assoc}
+use lib.ListN.{length, getD, take, drop, set, length-set, length-drop, length-append, List·getD-append}
+use lib.Seq.{getD-set-same, getD-set-other, getD-take, getD-drop, getD-append-add, drop-cons, drop-drop, take-add}
+use lib.Seq.{length-take-le, ext-getD}
 use borrow.Author.Count.{below-more}
+use borrow.Author.Tests.{eq-eqb, ne-eqb}
 use Rattle.rules.specs.declared.Opening.{Opening}
-use Rattle.rules.specs.Bytes.{tally, table}
-use Rattle.luma_laws.proofs.Pictures.{bytes-take}
-use Rattle.rules.proofs.Laws.Lists.{length-table}
-use Rattle.luma_laws.proofs.Tables.{getD-table}
-use Rattle.luma_laws.proofs.Tally.{tally-append, tally-cut}
+use Rattle.rules.specs.Bytes.{tally, Bytes}
+use Rattle.luma_laws.specs.Past.{previous}
 use Rattle.luma_laws.specs.Tallies.{inBlock, blockTally}
-use Rattle.luma_laws.proofs.Blocks.{earlier, settled}
-use Rattle.luma_blocks.specs.Sums.{inColumn}
-use Rattle.luma_blocks.specs.Rows.{SumsOf, FedRows}
-use Rattle.luma_blocks.specs.Pixels.{RowDone}
-use Rattle.luma_blocks.proofs.Rows.{bridge}
-use Rattle.luma_blocks.proofs.Pixels.{pixel-small}
-use Rattle.luma_tiles.specs.Bins.{CountedRow}
+use Rattle.luma_laws.proofs.Pictures.{bytes-append, bytes-take}
+use Rattle.luma_laws.proofs.Tally.{tally-cut, tally-shift}
+use Rattle.luma_laws.proofs.Blocks.{earlier, row-of, column-of}
+use Rattle.luma_blocks.specs.Sums.{run, inColumn}
+use Rattle.luma_blocks.specs.Rows.{SumsOf}
+use Rattle.luma_blocks.specs.Pixels.{RowsOf}
+use Rattle.luma_tiles.specs.Bins.{Kept, CountedRow}
 use Rattle.luma_changes.specs.declared.sums.Moves.{Moves}
 use Rattle.luma_changes.specs.Figures.{Compared}
 use Rattle.luma_state.specs.declared.Grid.{Grid}
 use Rattle.luma_state.specs.declared.Progress.{Progress}
-use Rattle.luma_state.specs.State.{slot, Live}
-use Rattle.luma_rows.specs.Contract.{Keeps, movedTo, nextRow, Puts, AtPlainRow, PlainRow, Taking, Took}
-use Rattle.luma_rows.proofs.Rows.{at-drawing, bytes-of, row-room, drew-live, row-live}
+use Rattle.luma_state.specs.State.{slot, Drawn, Place, drawing, passing, Live}
+use Rattle.luma_rows.specs.Contract.{movedTo, nextRow, Puts, AtPlainRows, CountedRows, PlainRows, Taking, Took}
+use Rattle.luma_rows.proofs.Rows.{at-drawing, bytes-of, elsewhere, apart, figures-in}
 
-pub never : _≡_ {A = Bool} false true → ⊥
-never e = let z : _≡_ {A = ℕ} 0 1 = cc in omega arith
-
--- ---- the loop
+-- ---- the loops
 
 pub puts-none : (base : ℕ) (rest a : List ℕ) → Puts base 0 rest a a
 puts-none base rest a =
@@ -54,205 +50,321 @@ puts-more {base} {j} {v} {rest} {a} {b} f h e =
       high = λ q l. getD-set-other b (base + j) q v 0 (λ m. omega arith) ∙ f .high q (omega arith);
     }
 
--- ---- the sums of a row
+-- t pixels more, behind the first c
+pub compared-on : {kept rest : List ℕ} {base c t : ℕ} {m n r : Moves} → Compared kept base rest 0 c m n →
+    Compared kept (base + c) rest c t n r → c ≤ length rest → Compared kept base rest 0 (c + t) m r
+compared-on {kept} {rest} {base} {c} {t} f g h =
+    record {
+      more = λ old p e s.
+          let first = take c (drop 0 rest) in
+          let q = p ++ first in
+          let size : length first ≡ c = length-take-le c (drop 0 rest) (simp length-drop (omega arith)) in
+          let here : length q ≡ length p + c = omega (arith, length-append p first) in
+          let next : (j : ℕ) → j < t → getD old (length q + j) 0 ≡ getD kept (base + c + j) 0 =
+          λ j l.
+          let a : length q + j ≡ length p + (c + j) = omega arith in
+          let b : base + c + j ≡ base + (c + j) = omega arith in
+          rw (a, b) (e (c + j) (omega arith)) in
+          let z : 0 + c ≡ c = omega arith in
+          rw (take-add c t (drop 0 rest), drop-drop c 0 rest, z, ← append-assoc p first (take t (drop c rest)))
+          (g .more old q next (f .more old p (λ j l. e j (omega arith)) s));
+    }
+
+pub counted-none : (w h r base : ℕ) (pixels a : List ℕ) → CountedRows w h r 0 base pixels a a
+counted-none w h r base pixels a =
+    record {
+      kept = record { size = refl; low = λ i l. refl; high = λ i l. refl };
+      more = λ size p e c. rw (zero-mul w, append-nil p) c;
+    }
+
+pub counted-more : {w h r i base : ℕ} {pixels a b z : List ℕ} → CountedRows w h r i base pixels a b →
+    CountedRow w h (r + i) base pixels b z → (r + i) * w + w ≤ 14104 → CountedRows w h r (i + 1) base pixels a z
+counted-more {w} {h} {r} {i} {base} {pixels} {a} {b} {z} f g k =
+    record {
+      kept = record {
+        size = g .kept .size ∙ f .kept .size;
+        low = λ j l. g .kept .low j l ∙ f .kept .low j l;
+        high = λ j l. g .kept .high j l ∙ f .kept .high j l;
+      };
+      more = λ size p e c.
+          let first = run pixels (r * w) (i * w) in
+          let up : (i + 1) * w ≡ i * w + w = omega (arith, add-mul i 1 w) in
+          let at : r * w + i * w ≡ (r + i) * w = sym (add-mul r i w) in
+          let long : length first ≡ i * w =
+          length-take-le (i * w) (drop (r * w) pixels) (simp length-drop (omega arith)) in
+          rw (
+            up,
+            take-add (i * w) w (drop (r * w) pixels),
+            drop-drop (i * w) (r * w) pixels,
+            at,
+            ← append-assoc p first (run pixels ((r + i) * w) w),
+          )
+          (g .more (p ++ first) (omega (arith, length-append p first)) (f .more size p e c));
+    }
+
+-- ---- blocks of one byte
 
 one-byte : (c : ℕ) (t : List ℕ) → c < length t → tally (inColumn 1 c) 0 t ≡ getD t c 0
 unfolding tally
 one-byte c t h =
     tally-cut 1 c (λ b. b) t (omega arith) ∙ rw (mul-one c, drop-cons t c 0 h) (omega arith)
 
-abbrev made : List ℕ → List ℕ → List ℕ
-made sums rest = table 240 0 (λ c. getD sums c 0 + getD rest c 0)
-
-made-at : (sums rest : List ℕ) (c : ℕ) → c < 240 → getD (made sums rest) c 0 ≡ getD sums c 0 + getD rest c 0
-made-at sums rest c h = getD-table 240 0 (λ c. getD sums c 0 + getD rest c 0) c 0 h
-    ∙ ap (λ (i : ℕ). getD sums i 0 + getD rest i 0) (zero-plus c)
+-- the block in row r and column c is the byte at place r × W + c
+alone : (W r c q b : ℕ) → c < W → inBlock W 1 r c q b ≡ inColumn 1 (r * W + c) q b
+alone W r c q b h = go (ℕ-discrete q (r * W + c))
   where
-    zero-plus : (c : ℕ) → 0 + c ≡ c
-    zero-plus c = omega arith
+    go : Dec (q ≡ r * W + c) → inBlock W 1 r c q b ≡ inColumn 1 (r * W + c) q b
+    go (yes e) =
+        let row : q / W ≡ r = ap (λ (x : ℕ). x / W) e ∙ row-of W r c h in
+        let col : q % W ≡ c = ap (λ (x : ℕ). x % W) e ∙ column-of W r c h in
+        rw (
+          eq-eqb (q / W / 1) r (omega arith),
+          eq-eqb (q % W / 1) c (omega arith),
+          eq-eqb (q / 1) (r * W + c) (omega arith),
+        )
+    go (no n) = rw (ne-eqb (q / 1) (r * W + c) (λ e. n (omega arith))) (other (ℕ-discrete (q / W) r))
+      where
+        other : Dec (q / W ≡ r) → inBlock W 1 r c q b ≡ 0
+        other (no k) = rw (ne-eqb (q / W / 1) r (λ e. k (omega arith)))
+        other (yes k) =
+            let whole : q / W * W + q % W ≡ q = div-add-mod' q W in
+            rw (
+              eq-eqb (q / W / 1) r (omega arith),
+              ne-eqb (q % W / 1) c (λ e. n (omega (arith, rw k at whole))),
+            )
 
-module _ (W w : ℕ) (sums rest : List ℕ) (some : 0 < W) (narrow : w ≤ W) (few : w ≤ 240) (there : W ≤ length rest) where
-  long : length (take W rest) ≡ W
-  long = length-take-le W rest there
+block-byte : (W r c : ℕ) (p : List ℕ) → c < W → r * W + c < length p → blockTally W 1 r c p ≡ getD p (r * W + c) 0
+block-byte W r c p h k =
+    tally-shift (inBlock W 1 r c) (inColumn 1 (r * W + c)) 0 0 p (λ j b l. alone W r c (0 + j) b h)
+    ∙ one-byte (r * W + c) p k
 
-  -- they stand for the row, where the sums stood for what lies before it
-  row-sums : (b : ℕ) (p : List ℕ) → length p ≡ (b * 1 + 0) * W + 0 → SumsOf W 1 w b p sums →
-      SumsOf W 1 w b (p ++ take W rest) (made sums rest)
-  row-sums b p e s =
+-- sums of nothing stand for every row that is to come
+sums-on : {w b b′ : ℕ} {p q sums : List ℕ} → 0 < w → length p ≤ b * 1 * w → length q ≤ b′ * 1 * w →
+    SumsOf w 1 w b p sums → SumsOf w 1 w b′ q sums
+sums-on {w} {b} {b′} {p} {q} some h k s =
+    record {
+      size = s .size;
+      each = λ c l. s .each c l
+          ∙ ap (λ (x : ℕ). x % 2 ^ 32)
+          (earlier w 1 b c p (omega arith) some h ∙ sym (earlier w 1 b′ c q (omega arith) some k));
+    }
+
+-- ---- the pixels
+
+module _ (w b j : ℕ) (cur rest : List ℕ) {picture picture′ : List ℕ} (long : length cur ≡ b * w)
+    (there : j * w ≤ length rest) (fill : (b + j) * w ≤ 14104)
+    (puts : Puts (b * w) (j * w) rest picture picture′) where
+  up : (b + j) * w ≡ b * w + j * w
+  up = add-mul b j w
+
+  new-pixel : (i c : ℕ) (t : List ℕ) → c < w → i < j →
+      blockTally w 1 (b + i) c ((cur ++ take (j * w) rest) ++ t) ≡ getD rest (i * w + c) 0
+  new-pixel i c t hc hi =
+      let chunk = take (j * w) rest in
+      let size : length chunk ≡ j * w = length-take-le (j * w) rest there in
+      let next : i + 1 ≤ j = omega arith in
+      let k : i * w + c < j * w = omega (arith, add-mul i 1 w, mul-le-mul-right w next) in
+      let at : (b + i) * w + c ≡ length cur + (i * w + c) = omega (arith, add-mul b i w) in
+      let low : (b + i) * w + c < length (cur ++ chunk) = omega (arith, length-append cur chunk) in
+      block-byte w (b + i) c ((cur ++ chunk) ++ t) hc (omega (arith, length-append (cur ++ chunk) t))
+      ∙ List·getD-append (cur ++ chunk) t 0 ((b + i) * w + c) low
+      ∙ ap (λ (z : ℕ). getD (cur ++ chunk) z 0) at
+      ∙ getD-append-add cur chunk (i * w + c) 0
+      ∙ getD-take (j * w) rest (i * w + c) 0 k
+
+  rows-put : RowsOf w 1 w b cur picture → RowsOf w 1 w (b + j) (cur ++ take (j * w) rest) picture′
+  rows-put rows =
       record {
-        size = length-table 240 0 (λ c. getD sums c 0 + getD rest c 0);
-        each = λ c h.
-            let l = long in
-            let one : tally (inColumn 1 c) 0 (take W rest) ≡ getD rest c 0 =
-            one-byte c (take W rest) (omega arith) ∙ getD-take W rest c 0 (omega arith) in
-            omega (
-              arith,
-              tally-append (inBlock W 1 b c) 0 p (take W rest),
-              bridge W 1 b 0 0 c (0 + length p) (take W rest) (omega arith) (omega arith) (omega arith),
-              one,
-              made-at sums rest c (omega arith),
-              s .each c h,
-            );
-      }
-
-  pub row-fed : FedRows W 1 w 0 0 rest sums (record { row = 1; col = 0; used = W }) (made sums rest)
-  row-fed =
-      record {
-        going = record {
-          used = there;
-          place = omega (arith, one-mul W, zero-mul W);
-          left = some;
-          below = omega arith;
-          stops = λ e. refl;
-          sums = row-sums;
-        };
-        all = λ h. refl;
-      }
-
-  -- the row's bytes are the pixels of that block row, and sums of nothing stand for the next
-  pub row-made : (b : ℕ) (small : (i : ℕ) → getD rest i 0 < 256)
-      (nothing : (c : ℕ) → c < w → getD sums c 0 % 2 ^ 32 ≡ 0) (full : length sums ≡ 240) {pixels out : List ℕ} →
-      Puts (b * w) w rest pixels out → RowDone 1 w b pixels (made sums rest) out sums
-  row-made b small nothing full {pixels} {out} f =
-      record {
-        drawn = λ y q hv e k sum rows.
-            record {
-              size = f .size ∙ rows .size;
-              each = λ r c hr hc t.
-                  below-more (λ (r : ℕ). getD out (r * w + c) 0 ≡ blockTally y 1 r c (q ++ t) / (1 * 1)) b
-                  (λ r l.
-                  let up : r + 1 ≤ b = omega arith in
-                  f .low (r * w + c) (omega (arith, add-mul r 1 w, mul-le-mul-right w up)) ∙ rows .each r c l hc t)
-                  (
-                  f .same (rows .size) c hc
-                  ∙ pixel (blockTally y 1 b c q) (getD rest c 0) (getD sums c 0) (getD (made sums rest) c 0)
-                  (pixel-small y 1 b c q (omega arith) hv e k) (small c) (nothing c hc)
-                  (made-at sums rest c (omega arith)) (sum .each c hc)
-                  ∙ ap (λ (z : ℕ). z / (1 * 1)) (sym (settled y 1 b c q t (omega arith) hv (omega arith)))
-                  ) r hr;
-            };
-        next = λ y q hv e sum.
-            let up : (b + 1) * 1 ≡ b * 1 + 1 = omega arith in
-            record {
-              size = full;
-              each = λ c hc. nothing c hc
-                  ∙ sym (ap (λ (z : ℕ). z % 2 ^ 32) (earlier y 1 (b + 1) c q (omega arith) hv (rw up (omega arith))));
-            };
-        rest = f .high;
+        size = puts .size ∙ rows .size;
+        each = λ r c hr hc t. go r c hr hc t (decLe b r);
       }
     where
-      pixel : (sum v s x : ℕ) → sum ≤ 255 * (1 * 1) → v < 256 → s % 2 ^ 32 ≡ 0 → x ≡ s + v →
-          x % 2 ^ 32 ≡ sum % 2 ^ 32 → v ≡ sum / (1 * 1)
-      pixel sum v s x h l z e m = omega arith
+      go : (r c : ℕ) → r < b + j → c < w → (t : List ℕ) → Dec (b ≤ r) →
+          getD picture′ (r * w + c) 0 ≡ blockTally w 1 r c ((cur ++ take (j * w) rest) ++ t) / (1 * 1)
+      go r c hr hc t (no k) =
+          let less : r < b = lt-of-not-le k in
+          let next : r + 1 ≤ b = omega arith in
+          puts .low (r * w + c) (omega (arith, add-mul r 1 w, mul-le-mul-right w next))
+          ∙ rw (append-assoc cur (take (j * w) rest) t) (rows .each r c less hc (take (j * w) rest ++ t))
+      go r c hr hc t (yes k) =
+          let i = r - b in
+          let e : r ≡ b + i = omega arith in
+          let hi : i < j = omega arith in
+          let next : i + 1 ≤ j = omega arith in
+          let low : i * w + c < j * w = omega (arith, add-mul i 1 w, mul-le-mul-right w next) in
+          let at : (b + i) * w + c ≡ b * w + (i * w + c) = omega (arith, add-mul b i w) in
+          let pixel = new-pixel i c t hc hi in
+          rw (e, at) (puts .same (rows .size) (i * w + c) low ∙ omega (arith, pixel))
 
--- ---- the old pixels, which are compared where they stand
-
-abbrev kept : List ℕ → ℕ → List ℕ
-kept picture base = table 240 0 (λ j. getD picture (base + j) 0)
-
-module _ (base w : ℕ) (picture : List ℕ) (few : w ≤ 240) where
-  kept-at : (j : ℕ) → j < w → getD (kept picture base) j 0 ≡ getD picture (base + j) 0
-  kept-at j h = getD-table 240 0 (λ j. getD picture (base + j) 0) j 0 (omega arith)
-      ∙ ap (λ (i : ℕ). getD picture (base + i) 0) (zero-plus j)
-    where
-      zero-plus : (c : ℕ) → 0 + c ≡ c
-      zero-plus c = omega arith
-
-  old-kept : Keeps base w picture (kept picture base) (kept picture base)
-  old-kept = record { size = refl; same = λ e j h. kept-at j h }
-
-  -- the row that is put is the row that was compared
-  row-put : (rest : List ℕ) {picture′ : List ℕ} {m₀ m : Moves} → Puts base w rest picture picture′ →
-      length picture ≡ 14104 → base + w ≤ 14104 → w ≤ length rest →
-      Compared picture base rest 0 w m₀ m → Compared (kept picture base) 0 picture′ base w m₀ m
-  row-put rest {picture′} {m₀} {m} f size room there c =
-      let e : length picture′ ≡ 14104 = f .size ∙ size in
-      let a : length (take w (drop base picture′)) ≡ w =
-      length-take-le w (drop base picture′) (simp length-drop (omega arith)) in
-      let b : length (take w (drop 0 rest)) ≡ w = length-take-le w (drop 0 rest) (simp length-drop (omega arith)) in
-      let same : take w (drop base picture′) ≡ take w (drop 0 rest) =
-      ext-getD 0 (take w (drop base picture′)) (take w (drop 0 rest)) (a ∙ sym b)
+  same-bytes : length picture ≡ 14104 → take (j * w) (drop (b * w) picture′) ≡ take (j * w) (drop 0 rest)
+  same-bytes full =
+      let size : length picture′ ≡ 14104 = puts .size ∙ full in
+      let a : length (take (j * w) (drop (b * w) picture′)) ≡ j * w =
+      length-take-le (j * w) (drop (b * w) picture′) (simp length-drop (omega arith)) in
+      let z : length (take (j * w) (drop 0 rest)) ≡ j * w =
+      length-take-le (j * w) (drop 0 rest) (simp length-drop (omega arith)) in
+      ext-getD 0 (take (j * w) (drop (b * w) picture′)) (take (j * w) (drop 0 rest)) (a ∙ sym z)
       (λ i l.
-      let low : i < w = omega arith in
-      let z : 0 + i ≡ i = omega arith in
+      let low : i < j * w = omega arith in
+      let e : 0 + i ≡ i = omega arith in
       rw (
-        getD-take w (drop base picture′) i 0 low,
-        getD-take w (drop 0 rest) i 0 low,
-        getD-drop base picture′ i 0,
+        getD-take (j * w) (drop (b * w) picture′) i 0 low,
+        getD-take (j * w) (drop 0 rest) i 0 low,
+        getD-drop (b * w) picture′ i 0,
         getD-drop 0 rest i 0,
-        z,
-      ) (f .same size i low)) in
-      record {
-        more = λ old p k g.
-            rw same
-            (c .more old p (λ j l. let z : 0 + j ≡ j = omega arith in rw z at (k j l) ∙ kept-at j l) g);
-      }
+        e,
+      ) (puts .same full i low))
+
+  rows-more : length picture ≡ 14104 →
+      take ((b + j) * w) picture′ ≡ take (b * w) picture ++ take (j * w) (drop (b * w) picture′)
+  rows-more full =
+      let size : length picture′ ≡ 14104 = puts .size ∙ full in
+      let a : length (take (b * w) picture′) ≡ b * w = length-take-le (b * w) picture′ (omega arith) in
+      let z : length (take (b * w) picture) ≡ b * w = length-take-le (b * w) picture (omega arith) in
+      let same : take (b * w) picture′ ≡ take (b * w) picture =
+      ext-getD 0 (take (b * w) picture′) (take (b * w) picture) (a ∙ sym z)
+      (λ i l.
+      let low : i < b * w = omega arith in
+      rw (getD-take (b * w) picture′ i 0 low, getD-take (b * w) picture i 0 low) (puts .low i low)) in
+      rw (up, take-add (b * w) (j * w) picture′, same)
 
 -- ---- the state
 
-module _ (g : Grid) (s : Progress) {bins picture rest bins′ picture′ : List ℕ} {m₀ m : Moves}
-    (at : AtPlainRow g s rest) (small : (i : ℕ) → getD rest i 0 < 256)
-    (start : (m₀ .up ≡ s .ups % 2 ^ 32) × (m₀ .down ≡ s .downs % 2 ^ 32) × (m₀ .squares ≡ s .squares % 2 ^ 32))
-    (compared : Compared picture (s .line * g .columns) rest 0 (g .columns) m₀ m)
-    (puts : Puts (s .line * g .columns) (g .columns) rest picture picture′)
-    (counted : CountedRow (g .columns) (g .lines) (s .line) (slot (s .pictures)) picture′ bins bins′) where
-  wide : 0 < g .width
-  wide = omega (arith, at .fits .least)
+pub rows-room : (g : Grid) (s : Progress) (rest : List ℕ) (j : ℕ) → AtPlainRows g s rest j →
+    s .line * g .columns + j * g .columns ≤ 14101
+rows-room g s rest j at =
+    omega (arith, add-mul (s .line) j (g .columns), mul-le-mul-right (g .columns) (at .lines), at .fits .room)
 
-  few : g .columns ≤ 240
-  few = omega (arith, at .fits .narrow)
+module _ (g : Grid) (s : Progress) {j : ℕ} {bins picture rest bins′ picture′ : List ℕ} {m₀ m : Moves}
+    (at : AtPlainRows g s rest j) (small : (i : ℕ) → getD rest i 0 < 256)
+    (start : (m₀ .up ≡ s .ups % 2 ^ 32) × (m₀ .down ≡ s .downs % 2 ^ 32) × (m₀ .squares ≡ s .squares % 2 ^ 32))
+    (compared : Compared picture (s .line * g .columns) rest 0 (j * g .columns) m₀ m)
+    (puts : Puts (s .line * g .columns) (j * g .columns) rest picture picture′)
+    (counted : CountedRows (g .columns) (g .lines) (s .line) j (slot (s .pictures)) picture′ bins bins′) where
+  some : 0 < g .columns
+  some = omega (arith, at .fits .wide)
+
+  inside : (s .line + j) * g .columns ≤ g .lines * g .columns
+  inside = mul-le-mul-right (g .columns) (at .lines)
+
+  -- the columns are the rows' bytes
+  wide : (n : ℕ) → n * g .side * g .width ≡ n * g .columns
+  wide n = rw (at .side, at .same, mul-one n)
+
+  plain-drawn : (pxs : List (List ℕ)) (cur : List ℕ) → s .pictures ≡ length pxs →
+      length cur ≡ s .line * g .columns → Drawn g s pxs cur bins picture →
+      Drawn g (nextRow g (movedTo s 0 0 (j * g .columns)) j m) pxs (cur ++ take (j * g .columns) rest) bins′ picture′
+  plain-drawn pxs cur number long d =
+      let b = s .line in
+      let w = g .columns in
+      let both : (b + j) * w ≡ b * w + j * w = add-mul b j w in
+      let full = d .rows .size in
+      let fill : (b + j) * w ≤ 14104 = omega (arith, inside, at .fits .room) in
+      let size : length (take (b * w) picture) ≡ b * w = length-take-le (b * w) picture (omega (arith, full)) in
+      let more = rows-more w b j cur rest long (at .there) fill puts full in
+      let same = same-bytes w b j cur rest long (at .there) fill puts full in
+      record {
+        rows = rw (at .same, at .side)
+            (rows-put w b j cur rest long (at .there) fill puts (rw (at .same, at .side) at (d .rows)));
+        rest = λ q l k. puts .high q (omega arith) ∙ d .rest q (omega arith) k;
+        counts = rw (more, ← number)
+            (counted .more (puts .size ∙ full) (take (b * w) picture) size (rw number (d .counts)));
+        moves = rw (more, same)
+            (compared .more (previous pxs) (take (b * w) picture)
+            (λ i l.
+            let to : b * w + i < g .lines * w = omega (arith, inside) in
+            rw size (sym (d .rest (b * w + i) (omega arith) to)))
+            (figures-in s start (d .moves)));
+      }
+
+  plain-place : (cur sums : List ℕ) → length cur ≡ s .line * g .columns →
+      SumsOf (g .width) (g .side) (g .columns) (s .line) cur sums →
+      Place g (nextRow g (movedTo s 0 0 (j * g .columns)) j m) (cur ++ take (j * g .columns) rest) sums
+  plain-place cur sums long sum = go (decLe (g .lines) (s .line + j))
+    where
+      chunk : List ℕ
+      chunk = take (j * g .columns) rest
+
+      all : length (cur ++ take (j * g .columns) rest) ≡ (s .line + j) * g .columns
+      all = omega (
+        arith,
+        length-append cur (take (j * g .columns) rest),
+        length-take-le (j * g .columns) rest (at .there),
+        add-mul (s .line) j (g .columns),
+      )
+
+      nothing : (b : ℕ) (q : List ℕ) → length q ≤ b * g .columns →
+          SumsOf (g .width) (g .side) (g .columns) b q sums
+      nothing b q h =
+          let own : length cur ≤ s .line * 1 * g .columns = rw (mul-one (s .line)) (omega arith) in
+          rw (at .same, at .side)
+          (sums-on some own (rw (mul-one b) h) (rw (at .same, at .side) at sum))
+
+      go : Dec (g .lines ≤ s .line + j) →
+          Place g (nextRow g (movedTo s 0 0 (j * g .columns)) j m) (cur ++ take (j * g .columns) rest) sums
+      go (no k) =
+          drawing (lt-of-not-le k) (omega (arith, all, wide (s .line + j), place (s .line + j)))
+          (nothing (s .line + j) (cur ++ take (j * g .columns) rest) (omega (arith, all)))
+        where
+          place : (n : ℕ) → (n * g .side + 0) * g .width + 0 ≡ n * g .columns
+          place n = rw (add-zero (n * g .side), add-zero (n * g .side * g .width)) (wide n)
+      go (yes k) =
+          let last : s .line + j ≡ g .lines = omega (arith, at .lines) in
+          let full : length (cur ++ take (j * g .columns) rest) ≡ g .lines * g .columns = rw last at all in
+          let low : 0 < g .lines = omega (arith, at .fits .high) in
+          passing last (omega (arith, full, wide (g .lines), at .fits .rows)) (rw full (mul-pos low some))
+          (nothing 0 [] (omega arith))
 
   plain-live : (o : Opening) (luma sums joined : List ℕ) → Live g o s luma sums bins picture joined →
-      Live g o (nextRow g (movedTo s 1 0 (g .width)) m) luma sums bins′ picture′ (joined ++ take (g .width) rest)
+      Live g o (nextRow g (movedTo s 0 0 (j * g .columns)) j m) luma sums bins′ picture′
+      (joined ++ take (j * g .columns) rest)
   plain-live o luma sums joined v =
-      let base = s .line * g .columns in
-      let p = at-drawing (at .line) (v .place) in
-      let sum : SumsOf (g .width) 1 (g .columns) (s .line) (v .cur) sums = rw (at .side) at (p .1) in
-      let long : length (v .cur) ≡ (s .line * 1 + 0) * g .width + 0 = rw (at .side, at .row, at .col) at (p .0) in
-      let start-of : length (v .cur) ≡ s .line * 1 * g .width + 0 = rw (add-zero (s .line * 1)) at long in
-      let low : length (v .cur) ≤ s .line * 1 * g .width = omega arith in
-      let nothing : (c : ℕ) → c < g .columns → getD sums c 0 % 2 ^ 32 ≡ 0 =
-      λ c h. sum .each c h
-      ∙ ap (λ (z : ℕ). z % 2 ^ 32) (earlier (g .width) 1 (s .line) c (v .cur) (omega arith) wide low) in
-      let fed = row-fed (g .width) (g .columns) sums rest wide (at .narrow) few (at .there) in
-      let done = row-made (g .width) (g .columns) sums rest wide (at .narrow) few (at .there) (s .line) small nothing
-      (sum .size) puts in
-      let bytes = bytes-take (g .width) rest (bytes-of rest small) in
-      let drew = drew-live {rest = rest} {sums′ = made sums rest} {p = record { row = 1; col = 0; used = g .width }}
-      (at .line) (at .more) bytes (rw (at .side, at .row, at .col) fed) v in
-      let fill : base + g .columns ≤ 14104 = omega (arith, row-room g s (at .line), at .fits .room) in
-      let there : g .columns ≤ length rest = omega (arith, at .narrow, at .there) in
-      let beside = row-put base (g .columns) picture few rest puts (v .drawn .rows .size) fill there compared in
-      rw append-nil at
-      (row-live g (movedTo s 1 0 (g .width)) {sums = made sums rest} {sums′ = sums} (at .fits) (at .line)
-      (sym (at .side)) refl
-      (length-table 240 0 (λ j. getD picture (base + j) 0))
-      (old-kept base (g .columns) picture few)
-      (rw (at .side) done)
-      counted
-      start
-      beside
-      o
-      luma
-      (joined ++ take (g .width) rest)
-      drew)
+      let chunk = take (j * g .columns) rest in
+      let size : length chunk ≡ j * g .columns = length-take-le (j * g .columns) rest (at .there) in
+      let line : s .line < g .lines = omega (arith, at .some, at .lines) in
+      let p = at-drawing line (v .place) in
+      let first : s .line * 1 + 0 ≡ s .line = omega arith in
+      let long : length (v .cur) ≡ s .line * g .columns + 0 =
+      rw (at .side, at .row, at .col, at .same, first) at (p .0) in
+      record {
+        whole = v .whole;
+        cur = v .cur ++ chunk;
+        pxs = v .pxs;
+        grid = v .grid;
+        split = rw (v .split) (append-assoc (v .whole) (v .cur) chunk);
+        full = v .full;
+        reduced = v .reduced;
+        few = v .few;
+        room = λ e. absurd (omega (arith, v .pictures, at .more));
+        bytes = bytes-append joined chunk (v .bytes) (bytes-take (j * g .columns) rest (bytes-of rest small));
+        status = v .status;
+        fed = omega (arith, v .fed, length-append joined chunk, size);
+        pictures = v .pictures;
+        fresh = v .fresh;
+        words = v .words;
+        ring = λ i a b.
+            elsewhere (rw (v .pictures) at (counted .kept)) (apart i (length (v .pxs)) a b) (v .ring i a b);
+        drawn = plain-drawn (v .pxs) (v .cur) (v .pictures) (omega arith) (v .drawn);
+        place = plain-place (v .cur) sums (omega arith) (p .1);
+      }
 
-  pub plain-row : (r : Progress) → r ≡ nextRow g (movedTo s 1 0 (g .width)) m →
-      PlainRow g s bins picture rest r bins′ picture′
-  plain-row r e = record { state = m; is = e; goes = λ luma sums o joined v. rw e (plain-live o luma sums joined v) }
+  pub plain-rows : (r : Progress) → r ≡ nextRow g (movedTo s 0 0 (j * g .columns)) j m →
+      PlainRows g s j bins picture rest r bins′ picture′
+  plain-rows r e = record { state = m; is = e; goes = λ luma sums o joined v. rw e (plain-live o luma sums joined v) }
 
 -- what `draw` promises
-pub took-plain : (g : Grid) (s : Progress) {sums bins picture rest bins′ picture′ : List ℕ} {r : Progress} →
-    Taking g s rest → AtPlainRow g s rest → PlainRow g s bins picture rest r bins′ picture′ →
-    Took g s sums bins picture rest (record { used = g .width; state = r }) sums bins′ picture′
-took-plain g s {sums} {bins} {picture} {rest} {bins′} {picture′} {r} taking at f =
+pub took-plain : (g : Grid) (s : Progress) {j : ℕ} {sums bins picture rest bins′ picture′ : List ℕ} {r : Progress} →
+    Taking g s rest → AtPlainRows g s rest j → PlainRows g s j bins picture rest r bins′ picture′ →
+    Took g s sums bins picture rest (record { used = j * g .columns; state = r }) sums bins′ picture′
+took-plain g s {j} {sums} {bins} {picture} {rest} {bins′} {picture′} {r} taking at f =
+    let wide : 0 < g .columns = omega (arith, at .fits .wide) in
     record {
-      some = omega (arith, at .fits .least);
+      some = mul-pos (at .some) wide;
       most = at .there;
       loose = rw (f .is)
           (record {
             few = taking .sane .few;
-            line = let l = at .line in omega arith;
+            line = at .lines;
             row = λ h. at .fits .some;
             col = λ h. omega (arith, at .fits .least);
           });

@@ -121,7 +121,7 @@ apart i j h k = go (decLe (i % 5) (j % 5))
 
 -- ---- the end of a block row
 
-figures-in : {old p : List ℕ} (s : Progress) {m : Moves} →
+pub figures-in : {old p : List ℕ} (s : Progress) {m : Moves} →
     (m .up ≡ s .ups % 2 ^ 32) × (m .down ≡ s .downs % 2 ^ 32) × (m .squares ≡ s .squares % 2 ^ 32) →
     Figures old p (movesIn s) → Figures old p m
 figures-in s e f = record {
@@ -130,11 +130,14 @@ figures-in s e f = record {
   both = omega (arith, e .2, f .both);
 }
 
+pub line-room : (g : Grid) (r : ℕ) → r < g .lines → r * g .columns + g .columns ≤ g .lines * g .columns
+line-room g r h =
+    let up : r + 1 ≤ g .lines = omega arith in
+    omega (arith, add-mul r 1 (g .columns), mul-le-mul-right (g .columns) up)
+
 pub row-room : (g : Grid) (s : Progress) → s .line < g .lines →
     s .line * g .columns + g .columns ≤ g .lines * g .columns
-row-room g s h =
-    let up : s .line + 1 ≤ g .lines = omega arith in
-    omega (arith, add-mul (s .line) 1 (g .columns), mul-le-mul-right (g .columns) up)
+row-room g s h = line-room g (s .line) h
 
 module _ (g : Grid) (s : Progress) {sums bins picture before kept sums′ bins′ picture′ : List ℕ} {m₀ m : Moves}
     (fits : Fits g) (line : s .line < g .lines)
@@ -147,7 +150,7 @@ module _ (g : Grid) (s : Progress) {sums bins picture before kept sums′ bins�
   row-drawn : (pxs : List (List ℕ)) (cur : List ℕ) → s .pictures ≡ length pxs → Bytes cur →
       length cur ≡ (s .line * g .side + s .row) * g .width + s .col →
       SumsOf (g .width) (g .side) (g .columns) (s .line) cur sums → Drawn g s pxs cur bins picture →
-      Drawn g (nextRow g s m) pxs cur bins′ picture′
+      Drawn g (nextRow g s 1 m) pxs cur bins′ picture′
   row-drawn pxs cur number small long sum d =
       let b = s .line in
       let n = g .columns in
@@ -177,7 +180,7 @@ module _ (g : Grid) (s : Progress) {sums bins picture before kept sums′ bins�
 
   row-place : (cur : List ℕ) → length cur ≡ (s .line * g .side + s .row) * g .width + s .col →
       SumsOf (g .width) (g .side) (g .columns) (s .line) cur sums →
-      Place g (nextRow g s m) cur sums′
+      Place g (nextRow g s 1 m) cur sums′
   row-place cur long sum = go (decLe (g .lines) (s .line + 1))
     where
       wide : 0 < g .width
@@ -192,7 +195,7 @@ module _ (g : Grid) (s : Progress) {sums bins picture before kept sums′ bins�
       rows : (s .line + 1) * g .side ≡ s .line * g .side + g .side
       rows = omega (arith, add-mul (s .line) 1 (g .side))
 
-      go : Dec (g .lines ≤ s .line + 1) → Place g (nextRow g s m) cur sums′
+      go : Dec (g .lines ≤ s .line + 1) → Place g (nextRow g s 1 m) cur sums′
       go (no k) = drawing (lt-of-not-le k) (rw (rows, add-zero) (omega (arith, whole))) next
       go (yes k) =
           let last : s .line + 1 ≡ g .lines = omega arith in
@@ -211,7 +214,7 @@ module _ (g : Grid) (s : Progress) {sums bins picture before kept sums′ bins�
           })
 
   pub row-live : (o : Opening) (luma joined : List ℕ) → Live g o s luma sums bins picture joined →
-      Live g o (nextRow g s m) luma sums′ bins′ picture′ (joined ++ [])
+      Live g o (nextRow g s 1 m) luma sums′ bins′ picture′ (joined ++ [])
   row-live o luma joined v =
       let p = at-drawing line (v .place) in
       let small : Bytes (v .cur) = bytes-right (v .whole) (v .cur) (rw (v .split) at (v .bytes)) in
@@ -238,7 +241,7 @@ module _ (g : Grid) (s : Progress) {sums bins picture before kept sums′ bins�
         place = row-place (v .cur) (p .0) (p .1);
       })
 
-  pub row-ended : (r : Progress) → r ≡ nextRow g s m → RowEnded g s sums bins picture r sums′ bins′ picture′
+  pub row-ended : (r : Progress) → r ≡ nextRow g s 1 m → RowEnded g s sums bins picture r sums′ bins′ picture′
   row-ended r e = record { state = m; is = e; goes = λ luma o joined v. rw e (row-live o luma joined v) }
 
 -- ---- bytes of a block row
@@ -350,8 +353,8 @@ module _ (g : Grid) (s : Progress) {sums bins picture rest sums′ : List ℕ} {
       Took g s sums bins picture rest (record { used = p .used; state = r }) sums″ bins′ picture′
   to-row-end t {r} {bins′} {picture′} {sums″} e ended =
       let fed = bytes-take (p .used) rest (bytes-of rest small) in
-      let at : r ≡ nextRow g (movedTo s (p .row) (p .col) (p .used)) (ended .state) =
-      ended .is ∙ ap (λ (x : Progress). nextRow g x (ended .state)) e in
+      let at : r ≡ nextRow g (movedTo s (p .row) (p .col) (p .used)) 1 (ended .state) =
+      ended .is ∙ ap (λ (x : Progress). nextRow g x 1 (ended .state)) e in
       record {
         some = some-used f (taking .sane .row line) (taking .sane .col line) (taking .some);
         most = f .going .used;

@@ -1,8 +1,10 @@
 -- What each function promises.
 use Prim.Native.Nat.{ℕ, _+_, _-_, _*_, _%_, _^_, _≤_, _<_}
 use mathlib.Core.Path.{_≡_}
-use mathlib.Core.List.{List, []}
+use mathlib.Core.List.{List, [], _++_}
 use lib.ListN.{length, getD, take}
+use Rattle.luma_blocks.specs.Sums.{run}
+use Rattle.luma_tiles.specs.Bins.{Counts, Kept}
 use Rattle.luma_changes.specs.declared.sums.Moves.{Moves}
 use Rattle.luma_state.specs.declared.Grid.{Grid}
 use Rattle.luma_state.specs.declared.Progress.{Progress}
@@ -19,9 +21,9 @@ pub record Keeps (base w : ℕ) (picture before kept : List ℕ) : Type 0 where
 abbrev pub movedTo : Progress → ℕ → ℕ → ℕ → Progress
 movedTo s row col used = placedAt s ((s .fed + used) % 2 ^ 64) (s .line) row col (s .left) (movesIn s)
 
--- the start of the next block row, or of the surplus rows
-abbrev pub nextRow : Grid → Progress → Moves → Progress
-nextRow g s m = placedAt s (s .fed) (s .line + 1) 0 0 (g .bytes - g .lines * g .side * g .width) m
+-- the start of the block row j on, or of the surplus rows
+abbrev pub nextRow : Grid → Progress → ℕ → Moves → Progress
+nextRow g s j m = placedAt s (s .fed) (s .line + j) 0 0 (g .bytes - g .lines * g .side * g .width) m
 
 -- the end of a block row: asked for and promised
 pub record AtRowEnd (g : Grid) (s : Progress) : Type 0 where
@@ -34,7 +36,7 @@ pub record AtRowEnd (g : Grid) (s : Progress) : Type 0 where
 pub record RowEnded (g : Grid) (s : Progress) (sums bins picture : List ℕ) (r : Progress)
     (sums′ bins′ picture′ : List ℕ) : Type 0 where
   pub state : Moves
-  pub is : r ≡ nextRow g s state
+  pub is : r ≡ nextRow g s 1 state
   pub goes : (luma : List ℕ) → Goes g s luma sums bins picture [] r luma sums′ bins′ picture′
 
 -- the w pixels from `base` on are the first w bytes of the string
@@ -44,22 +46,30 @@ pub record Puts (base w : ℕ) (rest before after : List ℕ) : Type 0 where
   pub low : (q : ℕ) → q < base → getD after q 0 ≡ getD before q 0
   pub high : (q : ℕ) → base + w ≤ q → getD after q 0 ≡ getD before q 0
 
--- a whole row of blocks of one byte: asked for and promised
-pub record AtPlainRow (g : Grid) (s : Progress) (rest : List ℕ) : Type 0 where
+-- j whole rows of blocks of one byte: asked for and promised
+pub record AtPlainRows (g : Grid) (s : Progress) (rest : List ℕ) (j : ℕ) : Type 0 where
   pub fits : Fits g
   pub more : s .pictures < 750
-  pub line : s .line < g .lines
+  pub some : 0 < j
+  pub lines : s .line + j ≤ g .lines
   pub row : s .row ≡ 0
   pub col : s .col ≡ 0
   pub side : g .side ≡ 1
-  pub narrow : g .columns ≤ g .width
-  pub there : g .width ≤ length rest
+  pub same : g .width ≡ g .columns
+  pub there : j * g .columns ≤ length rest
 
-pub record PlainRow (g : Grid) (s : Progress) (bins picture rest : List ℕ) (r : Progress)
+-- rows r to r + j of pixels more
+pub record CountedRows (w h r j base : ℕ) (pixels before after : List ℕ) : Type 0 where
+  pub kept : Kept base before after
+  pub more : length pixels ≡ 14104 → (p : List ℕ) → length p ≡ r * w → Counts w h base p before →
+      Counts w h base (p ++ run pixels (r * w) (j * w)) after
+
+pub record PlainRows (g : Grid) (s : Progress) (j : ℕ) (bins picture rest : List ℕ) (r : Progress)
     (bins′ picture′ : List ℕ) : Type 0 where
   pub state : Moves
-  pub is : r ≡ nextRow g (movedTo s 1 0 (g .width)) state
-  pub goes : (luma sums : List ℕ) → Goes g s luma sums bins picture (take (g .width) rest) r luma sums bins′ picture′
+  pub is : r ≡ nextRow g (movedTo s 0 0 (j * g .columns)) j state
+  pub goes : (luma sums : List ℕ) →
+      Goes g s luma sums bins picture (take (j * g .columns) rest) r luma sums bins′ picture′
 
 -- Before a picture's end is looked at
 pub record Loose (g : Grid) (s : Progress) : Type 0 where

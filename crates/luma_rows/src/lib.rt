@@ -1,12 +1,12 @@
 // The current picture of the luma side: bytes of its block rows are taken in, and at the end of each its pixels are
 // made, counted and compared.
 ghost use mathlib.Core.Path.{_≡_};
-ghost use mathlib.Core.Bool.{true};
 ghost use lib.ListN.{length};
 ghost use Prim.Native.Nat.{_+_, _%_, _^_, _≤_, _<_};
-ghost use Rattle.luma_state.specs.State.{Fits};
-ghost use Rattle.luma_rows.specs.Contract.{Keeps, movedTo, nextRow, AtRowEnd, RowEnded, Puts, AtPlainRow};
-ghost use Rattle.luma_rows.specs.Contract.{PlainRow, Took, Taking};
+ghost use Rattle.luma_changes.specs.Figures.{Compared};
+ghost use Rattle.luma_state.specs.State.{Fits, slot};
+ghost use Rattle.luma_rows.specs.Contract.{Keeps, movedTo, nextRow, AtRowEnd, RowEnded, Puts, AtPlainRows};
+ghost use Rattle.luma_rows.specs.Contract.{CountedRows, PlainRows, Took, Taking};
 use luma_blocks::Picture;
 use luma_blocks::Sums;
 use luma_changes::Moves;
@@ -35,13 +35,13 @@ fn moved_to(s: Progress, row: usize, col: usize, used: usize) -> Progress
     r
 }
 
-// The place behind a block row, whose pixels have moved so.
-fn next_row(g: Grid, s: Progress, m: Moves) -> Progress
-    requires { ⌜ (Fits g) × (s .line < g .lines) ⌝ }
-    ensures { λ r. ⌜ r ≡ nextRow g s m ⌝ }
+// The place behind j block rows, whose pixels have moved so.
+fn next_row(g: Grid, s: Progress, j: usize, m: Moves) -> Progress
+    requires { ⌜ (Fits g) × (s .line + j ≤ g .lines) ⌝ }
+    ensures { λ r. ⌜ r ≡ nextRow g s j m ⌝ }
 {
     let mut r = s;
-    r.line = s.line + 1;
+    r.line = s.line + j;
     r.row = 0;
     r.col = 0;
     r.left = g.bytes - g.lines * g.side * g.width;
@@ -83,7 +83,7 @@ fn end_row(
     let slot = luma_state::slot_of(s.pictures);
     luma_tiles::count_row(bins, slot, picture, w, g.lines, s.line, g.second, g.third);
     let m = luma_changes::compare_run(luma_state::moves_in(s), &kept, 0, picture, base, w);
-    next_row(g, s, m)
+    next_row(g, s, 1, m)
 }
 
 // The first w bytes of the string become the pixels from `base` on.
@@ -98,37 +98,89 @@ fn put(picture: &mut Picture, base: usize, rest: &[u8], w: usize)
     }
 }
 
-// Whether a whole row comes next, of blocks of one byte.
-fn is_plain(g: Grid, s: Progress, rest: &[u8]) -> bool
-    requires { ⌜ (Taking g s (now rest)) × (s .line < g .lines) ⌝ }
-    ensures { λ r. ⌜ (r ≡ true → AtPlainRow g s (now (rest .entry))) ⌝ }
+// The smaller of two numbers.
+fn fewer(a: usize, b: usize) -> usize
+    ensures { λ r. ⌜ (r ≤ a) × (r ≤ b) × (0 < a → 0 < b → 0 < r) ⌝ }
 {
-    if g.side != 1 {
-        return false;
-    }
-    if s.col != 0 {
-        return false;
-    }
-    if g.width < g.columns {
-        return false;
-    }
-    g.width <= rest.len()
+    if b < a { b } else { a }
 }
 
-// Such a row: its bytes are the pixels. No sum is made, and the sums stay what they were, none.
-fn plain_row(bins: &mut Bins, picture: &mut Picture, g: Grid, s: Progress, rest: &[u8]) -> Progress
-    requires { ⌜ AtPlainRow g s (now rest) ⌝ }
-    ensures { λ r. ⌜ PlainRow g s (now (bins .entry)) (now (picture .entry)) (now (rest .entry)) r (now (bins .exit))
-        (now (picture .exit)) ⌝ }
+// How many whole rows of blocks of one byte come next in the picture.
+fn plain_rows(g: Grid, s: Progress, rest: &[u8]) -> usize
+    requires { ⌜ (Taking g s (now rest)) × (s .line < g .lines) ⌝ }
+    ensures { λ r. ⌜ (0 < r → AtPlainRows g s (now (rest .entry)) r) ⌝ }
 {
-    let w = g.columns;
-    let base = s.line * w;
-    let m = luma_changes::compare_run(luma_state::moves_in(s), picture, base, rest, 0, w);
-    put(picture, base, rest, w);
+    if g.side != 1 {
+        return 0;
+    }
+    if s.col != 0 {
+        return 0;
+    }
+    if g.width != g.columns {
+        return 0;
+    }
+    fewer(rest.len() / g.width, g.lines - s.line)
+}
+
+// The k pixels from `base` on, before they change, and the first k bytes of the string: as many at a time as
+// `compare_run` takes.
+fn compare(m: Moves, picture: &Picture, base: usize, rest: &[u8], k: usize) -> Moves
+    requires { ⌜ (base + k ≤ 14104) × (k ≤ length (now rest)) ⌝ }
+    ensures { λ r. ⌜ Compared (now (picture .entry)) base (now (rest .entry)) 0 k m r ⌝ }
+{
+    let mut sums = m;
+    let mut c: usize = 0;
+    while c < k {
+        let t = fewer(luma_blocks::COLUMNS, k - c);
+        sums = luma_changes::compare_run(sums, picture, base + c, rest, c, t);
+        c += t;
+    }
+    sums
+}
+
+// Counts j rows of the picture, from its current one on.
+fn count_rows(bins: &mut Bins, picture: &Picture, g: Grid, s: Progress, j: usize)
+    requires { ⌜ (Fits g) × (s .line + j ≤ g .lines) ⌝ }
+    ensures { λ _. ⌜ CountedRows (g .columns) (g .lines) (s .line) j (slot (s .pictures)) (now (picture .entry))
+        (now (bins .entry)) (now (bins .exit)) ⌝ }
+{
     let own = luma_state::slot_of(s.pictures);
-    luma_tiles::count_row(bins, own, picture, w, g.lines, s.line, g.second, g.third);
-    let t = moved_to(s, 1, 0, g.width);
-    next_row(g, t, m)
+    let mut i: usize = 0;
+    while i < j {
+        luma_tiles::count_row(
+            bins,
+            own,
+            picture,
+            g.columns,
+            g.lines,
+            s.line + i,
+            g.second,
+            g.third,
+        );
+        i += 1;
+    }
+}
+
+// j such rows: their bytes are the pixels. No sum is made, and the sums stay what they were, none.
+fn take_plain(
+    bins: &mut Bins,
+    picture: &mut Picture,
+    g: Grid,
+    s: Progress,
+    rest: &[u8],
+    j: usize,
+) -> Progress
+    requires { ⌜ AtPlainRows g s (now rest) j ⌝ }
+    ensures { λ r. ⌜ PlainRows g s j (now (bins .entry)) (now (picture .entry)) (now (rest .entry)) r
+        (now (bins .exit)) (now (picture .exit)) ⌝ }
+{
+    let base = s.line * g.columns;
+    let k = j * g.columns;
+    let m = compare(luma_state::moves_in(s), picture, base, rest, k);
+    put(picture, base, rest, k);
+    count_rows(bins, picture, g, s, j);
+    let t = moved_to(s, 0, 0, k);
+    next_row(g, t, j, m)
 }
 
 // Bytes of a block row, up to its end or that of the piece.
@@ -144,10 +196,12 @@ pub fn draw(
     ensures { λ r. ⌜ Took g s (now (sums .entry)) (now (bins .entry)) (now (picture .entry)) (now (rest .entry)) r
         (now (sums .exit)) (now (bins .exit)) (now (picture .exit)) ⌝ }
 {
-    if is_plain(g, s, rest) {
-        let e = plain_row(bins, picture, g, s, rest);
+    let j = plain_rows(g, s, rest);
+    if 0 < j {
+        let used = j * g.columns;
+        let e = take_plain(bins, picture, g, s, rest, j);
         return Taken {
-            used: g.width,
+            used: used,
             state: e,
         };
     }

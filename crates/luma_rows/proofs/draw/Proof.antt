@@ -1,21 +1,28 @@
-use Rattle.luma_rows.proofs.Plain.{took-plain}
+use Rattle.luma_rows.proofs.Plain.{rows-room, took-plain}
 use Rattle.luma_rows.proofs.Rows.{at-row-end, within-row, to-row-end}
 use native.Mathlib.Omega.{arith}
 use borrow.Author.Needs.{needs}
 use Rattle.luma_rows.proofs.draw.Statement.{statement}
 use Rattle.luma_rows.proofs.draw.Tie as tie
 
-is-plain-requires : tie.Need-is-plain-requires
-is-plain-requires c κs = c .before .pre
+plain-rows-requires : tie.Need-plain-rows-requires
+plain-rows-requires c κs = c .before .pre
 
-plain-row-requires : tie.Need-plain-row-requires
-plain-row-requires c κs = c .before .before .before .is-plain .ensures (c .before .before .if1 .taken)
+mul-used : tie.Need-mul-used
+mul-used c =
+    let at = c .before .before .plain-rows .ensures (c .before .if1 .taken) in
+    let a = c .before .before .before .before .args in
+    omega (arith, rows-room (a .g) (a .s) (a .rest .now) _ at)
+
+take-plain-requires : tie.Need-take-plain-requires
+take-plain-requires c κs = c .before .before .before .before .plain-rows .ensures
+    (c .before .before .before .if1 .taken)
 
 returns : tie.Need-returns
 returns c =
-    let p = c .before .before .before .before .before .before .pre in
-    took-plain _ _ (p .0) (c .before .before .before .before .is-plain .ensures
-    (c .before .before .before .if1 .taken)) (c .plain-row .ensures)
+    let p = c .before .before .before .before .before .before .before .pre in
+    took-plain _ _ (p .0) (c .before .before .before .before .before .plain-rows .ensures
+    (c .before .before .before .before .if1 .taken)) (c .take-plain .ensures)
 
 feed-rows-requires : tie.Need-feed-rows-requires
 feed-rows-requires c κs =
@@ -71,8 +78,9 @@ pub draw-spec : {M : Type 1} → statement M
 draw-spec =
     tie.close
     (tie.spec
-    is-plain-requires
-    plain-row-requires
+    plain-rows-requires
+    mul-used
+    take-plain-requires
     returns
     feed-rows-requires
     moved-to-requires

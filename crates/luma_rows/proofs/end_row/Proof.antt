@@ -66,7 +66,7 @@ next-row-requires : tie.Need-next-row-requires
 next-row-requires c κs =
     let p = c .before .before .before .before .before .before .before .before .before .before .before .before .before
     .before .before .before .before .pre in
-    (p .fits, p .line)
+    (p .fits, let l = p .line in omega arith)
 
 returns : tie.Need-returns
 returns c =
