@@ -25,11 +25,12 @@ use Rattle.luma_tiles.specs.Bins.{Counts, Cleared}
 use Rattle.luma_changes.specs.Figures.{Figures}
 use Rattle.luma_state.specs.declared.Grid.{Grid}
 use Rattle.luma_state.specs.declared.Progress.{Progress}
+use Rattle.luma_picture.specs.declared.Settled.{Settled}
 use Rattle.luma_state.specs.State.{slot, openingIn, movesIn, Words, Ring, Drawn, drawing, Live}
 use Rattle.luma_rows.proofs.Rows.{bytes-right, at-passing, elsewhere, apart}
 use Rattle.luma_picture.specs.Contract.{againOf, ChangeOf, ScoreOf, noted, nextPicture, AtPictureEnd}
 use Rattle.luma_picture.specs.Contract.{PictureEnded}
-use Rattle.luma_picture.proofs.Notes.{Whole, each-px, score-is, change-is, again-is, words-more}
+use Rattle.luma_picture.proofs.Notes.{Whole, each-px, score-is, kept-is, change-is, again-is, words-more}
 use Rattle.luma_state.proofs.Opens.{still}
 
 pub bytes-left : (s t : List ℕ) → Bytes (s ++ t) → Bytes s
@@ -99,18 +100,24 @@ module _ (g : Grid) (s : Progress) {o : Opening} {luma sums bins picture joined 
   edition-is : openingIn luma .edition ≡ o .edition
   edition-is = ap (λ (x : Opening). x .edition) (v .words .opening)
 
-  noted-words : {q score : ℕ} → ChangeOf g s (roundsToNearest (openingIn luma .edition)) q →
-      ScoreOf bins (s .pictures) score →
-      Words o (v .pxs ++ pixels o (v .cur) ∷ []) (noted luma (s .pictures) q (againOf s) score)
+  noted-words : {q : ℕ} {t : Settled} → ChangeOf g s (roundsToNearest (openingIn luma .edition)) q →
+      ScoreOf bins (s .pictures) (getD luma 17 0) t →
+      Words o (v .pxs ++ pixels o (v .cur) ∷ []) (noted luma (s .pictures) q (againOf s) (t .score) (t .kept))
   noted-words c t =
-      let few : length (pixels o (v .cur)) < 2 ^ 32 = omega (arith, size-is, at .fits .room) in
+      let last : length (pixels o (v .cur)) < 2 ^ 32 = omega (arith, size-is, at .fits .room) in
+      let few : (j : ℕ) → j < length (v .pxs) → length (getD (v .pxs) j []) < 2 ^ 32 =
+      λ j h. omega (arith, each j h .size, pixels-length o (v .cur)) in
+      let ring : (j : ℕ) → j < length (v .pxs) → length (v .pxs) ≤ j + 4 →
+      Counts (columns o) (lines o) (slot j) (getD (v .pxs) j []) bins =
+      λ j h k. rw (wide, high) at (v .ring j h k) in
+      let here : Counts (columns o) (lines o) (slot (s .pictures)) (pixels o (v .cur)) bins =
+      rw (v .pictures) counted in
       words-more o (v .pxs) (pixels o (v .cur)) (v .pictures) (at .more) (v .words)
       (change-is o g s (pixels o (v .cur)) size-is some-pixels (at .fits .room) (pixels-small o (v .cur) small-cur)
       (roundsToNearest (o .edition)) (v .pxs) _ (v .pictures) (rw edition-is at c) moved before)
       again-as
-      (score-is o (v .pxs) (pixels o (v .cur)) t (v .pictures) (λ j h k. rw (wide, high) at (v .ring j h k))
-      (rw (v .pictures) counted)
-      (λ j h. omega (arith, each j h .size, pixels-length o (v .cur))) few)
+      (score-is o (v .pxs) (pixels o (v .cur)) t (v .pictures) ring here few last (v .words .kept))
+      (kept-is o (v .pxs) (pixels o (v .cur)) t (v .pictures) ring here few last)
 
   next-drawn : {bins′ : List ℕ} → Cleared (slot (s .pictures + 1)) bins bins′ →
       Drawn g (nextPicture s (againOf s)) (v .pxs ++ pixels o (v .cur) ∷ []) [] bins′ picture
@@ -149,11 +156,13 @@ module _ (g : Grid) (s : Progress) {o : Opening} {luma sums bins picture joined 
           (rw (getD-other (v .pxs) (pixels o (v .cur)) [] j e)
           (v .ring j (omega (arith, long, v .pictures, e)) (omega (arith, long, v .pictures))))
 
-  pub next-live : {luma′ bins′ : List ℕ} {q score : ℕ} → ChangeOf g s (roundsToNearest (openingIn luma .edition)) q →
-      ScoreOf bins (s .pictures) score → luma′ ≡ noted luma (s .pictures) q (againOf s) score →
+  pub next-live : {luma′ bins′ : List ℕ} {q : ℕ} {t : Settled} →
+      ChangeOf g s (roundsToNearest (openingIn luma .edition)) q →
+      ScoreOf bins (s .pictures) (getD luma 17 0) t →
+      luma′ ≡ noted luma (s .pictures) q (againOf s) (t .score) (t .kept) →
       Cleared (slot (s .pictures + 1)) bins bins′ →
       Live g o (nextPicture s (againOf s)) luma′ sums bins′ picture (joined ++ [])
-  next-live {luma′} {bins′} {q} {score} change scored words cleared =
+  next-live {luma′} {bins′} {q} {t} change scored words cleared =
       let px = pixels o (v .cur) in
       let long : length (v .pxs ++ px ∷ []) ≡ length (v .pxs) + 1 = length-append (v .pxs) (px ∷ []) in
       let p = at-passing (at .line) (v .place) in
@@ -195,9 +204,10 @@ module _ (g : Grid) (s : Progress) {o : Opening} {luma sums bins picture joined 
       unrepeated true old new a x e f h = omega arith
       unrepeated false old new a x e f h = omega arith
 
-pub picture-ended : (g : Grid) (s : Progress) {luma bins luma′ bins′ : List ℕ} {r : Progress} {q score : ℕ} →
-    AtPictureEnd g s → ChangeOf g s (roundsToNearest (openingIn luma .edition)) q → ScoreOf bins (s .pictures) score →
-    luma′ ≡ noted luma (s .pictures) q (againOf s) score → Cleared (slot (s .pictures + 1)) bins bins′ →
+pub picture-ended : (g : Grid) (s : Progress) {luma bins luma′ bins′ : List ℕ} {r : Progress} {q : ℕ} {t : Settled} →
+    AtPictureEnd g s → ChangeOf g s (roundsToNearest (openingIn luma .edition)) q →
+    ScoreOf bins (s .pictures) (getD luma 17 0) t →
+    luma′ ≡ noted luma (s .pictures) q (againOf s) (t .score) (t .kept) → Cleared (slot (s .pictures + 1)) bins bins′ →
     r ≡ nextPicture s (againOf s) →
     PictureEnded g s luma bins r luma′ bins′
 picture-ended g s at change scored words cleared e =

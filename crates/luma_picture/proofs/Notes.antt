@@ -6,7 +6,7 @@ use native.Mathlib.Decide.{decLe, ℕ-discrete}
 use mathlib.Core.Path.{_≡_, sym, ap, _∙_}
 use mathlib.Core.List.{List, [], _∷_, _++_, map}
 use mathlib.Core.Bool.{Bool}
-use lib.ListN.{length, getD, drop, set, length-set, length-map}
+use lib.ListN.{length, getD, drop, set, length-set, length-map, length-append}
 use lib.Seq.{getD-set-same, getD-set-other}
 use borrow.Author.Tests.{eq-eqb, ne-eqb}
 use Rattle.rules.specs.declared.Opening.{Opening}
@@ -32,7 +32,8 @@ use Rattle.luma_changes.specs.Figures.{Figures}
 use Rattle.luma_changes.proofs.Whole.{Exact, exact, spread-of, same-of}
 use Rattle.luma_state.specs.declared.Grid.{Grid}
 use Rattle.luma_state.specs.declared.Progress.{Progress}
-use Rattle.luma_state.specs.State.{slot, movesIn, Words}
+use Rattle.luma_picture.specs.declared.Settled.{Settled}
+use Rattle.luma_state.specs.State.{slot, movesIn, keptOf, Words}
 use Rattle.luma_picture.specs.Contract.{againOf, ChangeOf, ScoreOf, bitOf, withBit, noted}
 
 -- ---- the whole pictures
@@ -61,32 +62,66 @@ pub tiles-are : (o : Opening) (base : ℕ) (px : List ℕ) {counts : List ℕ} �
 unfolding tilesAt binsAt
 tiles-are o base px c few small = counts-are o base px c few small
 
-pub score-is : (o : Opening) (pxs : List (List ℕ)) (px : List ℕ) {bins : List ℕ} {i r : ℕ} → ScoreOf bins i r →
-    i ≡ length pxs →
-    ((j : ℕ) → j < length pxs → length pxs ≤ j + 4 → Counts (columns o) (lines o) (slot j) (getD pxs j []) bins) →
-    Counts (columns o) (lines o) (slot i) px bins →
-    ((j : ℕ) → j < length pxs → length (getD pxs j []) < 2 ^ 32) → length px < 2 ^ 32 →
-    r ≡ nextScore (map (histograms o) pxs) (histograms o px)
-score-is o pxs px {bins} {i} {r} s e ring here few last = go (decLe 4 i)
-  where
-    long : length (map (histograms o) pxs) ≡ length pxs
-    long = length-map pxs (histograms o)
+module _ (o : Opening) (pxs : List (List ℕ)) (px : List ℕ) {bins : List ℕ} {i kept : ℕ} {r : Settled}
+    (s : ScoreOf bins i kept r) (number : i ≡ length pxs)
+    (ring : (j : ℕ) → j < length pxs → length pxs ≤ j + 4 →
+    Counts (columns o) (lines o) (slot j) (getD pxs j []) bins)
+    (here : Counts (columns o) (lines o) (slot i) px bins)
+    (few : (j : ℕ) → j < length pxs → length (getD pxs j []) < 2 ^ 32) (last : length px < 2 ^ 32) where
+  long : length (map (histograms o) pxs) ≡ i
+  long = length-map pxs (histograms o) ∙ sym number
 
-    tile : (j : ℕ) → j < length pxs → length pxs ≤ j + 4 → tilesAt bins (slot j) ≡ at (map (histograms o) pxs) j
-    tile j h k = tiles-are o (slot j) (getD pxs j []) (ring j h k) (few j h) (s .small)
-        ∙ sym (getD-mapped (histograms o) pxs j [] [] h)
+  tile : (j : ℕ) → j < i → i ≤ j + 4 → tilesAt bins (slot j) ≡ at (map (histograms o) pxs) j
+  tile j h k = tiles-are o (slot j) (getD pxs j []) (ring j (omega arith) (omega arith)) (few j (omega arith))
+      (s .small)
+      ∙ sym (getD-mapped (histograms o) pxs j [] [] (omega arith))
 
-    go : Dec (4 ≤ i) → r ≡ nextScore (map (histograms o) pxs) (histograms o px)
-    go (no h) = s .early (lt-of-not-le h)
-        ∙ sym (next-none (map (histograms o) pxs) (histograms o px) (omega (arith, long, lt-of-not-le h)))
-    go (yes h) =
-        let n : length (map (histograms o) pxs) ≡ i = omega (arith, long) in
-        let a = tile (i - 4) (omega arith) (omega arith) in
-        let b = tile (i - 3) (omega arith) (omega arith) in
-        let c = tile (i - 2) (omega arith) (omega arith) in
-        let d = tile (i - 1) (omega arith) (omega arith) in
-        let z = tiles-are o (slot i) px here last (s .small) in
-        s .later h ∙ rw (next-some (map (histograms o) pxs) (histograms o px) (omega arith), n, a, b, c, d, z)
+  own : tilesAt bins (slot i) ≡ histograms o px
+  own = tiles-are o (slot i) px here last (s .small)
+
+  pub score-is : (4 ≤ length pxs → kept ≡ keptOf (map (histograms o) pxs)) →
+      r .score ≡ nextScore (map (histograms o) pxs) (histograms o px)
+  unfolding keptOf
+  score-is keeps = go (decLe 4 i)
+    where
+      go : Dec (4 ≤ i) → r .score ≡ nextScore (map (histograms o) pxs) (histograms o px)
+      go (no h) = s .early (lt-of-not-le h)
+          ∙ sym (next-none (map (histograms o) pxs) (histograms o px) (omega (arith, long, lt-of-not-le h)))
+      go (yes h) =
+          let n = long in
+          let a = tile (i - 4) (omega arith) (omega arith) in
+          let b = tile (i - 3) (omega arith) (omega arith) in
+          let c = tile (i - 2) (omega arith) (omega arith) in
+          let d = tile (i - 1) (omega arith) (omega arith) in
+          s .later h (keeps (omega arith) ∙ rw (n, a, c, d))
+          ∙ rw (next-some (map (histograms o) pxs) (histograms o px) (omega arith), n, a, b, c, d, own)
+
+  -- what it keeps is what the next one needs
+  pub kept-is : 3 ≤ length pxs → r .kept ≡ keptOf (map (histograms o) pxs ++ histograms o px ∷ [])
+  unfolding keptOf
+  kept-is h =
+      let hs = map (histograms o) pxs in
+      let x = histograms o px in
+      let n = long in
+      let all : length (hs ++ x ∷ []) ≡ i + 1 = omega (arith, length-append hs (x ∷ [])) in
+      let first : i + 1 - 4 ≡ i - 3 = omega arith in
+      let second : i + 1 - 2 ≡ i - 1 = omega arith in
+      let third : i + 1 - 1 ≡ i = omega arith in
+      let b = tile (i - 3) (omega arith) (omega arith) in
+      let d = tile (i - 1) (omega arith) (omega arith) in
+      s .next (omega arith)
+      ∙ rw (
+        all,
+        first,
+        second,
+        third,
+        getD-other hs x [] (i - 3) (λ e. omega arith),
+        getD-other hs x [] (i - 1) (λ e. omega arith),
+        rw n at (getD-last hs x []),
+        b,
+        d,
+        own,
+      )
 
 -- ---- the change and the repeat
 
@@ -121,10 +156,11 @@ module _ (o : Opening) (g : Grid) (s : Progress) (px : List ℕ) (size : length 
 
 -- ---- the words
 
-module _ (o : Opening) (pxs : List (List ℕ)) (px : List ℕ) {luma : List ℕ} {i q again score : ℕ}
+module _ (o : Opening) (pxs : List (List ℕ)) (px : List ℕ) {luma : List ℕ} {i q again score kept : ℕ}
     (number : i ≡ length pxs) (few : i < 750) (w : Words o pxs luma)
     (is-q : q ≡ nextChange (roundsToNearest (o .edition)) pxs px) (is-again : again ≡ pick (nextRepeat pxs px) 1 0)
-    (is-score : score ≡ nextScore (map (histograms o) pxs) (histograms o px)) where
+    (is-score : score ≡ nextScore (map (histograms o) pxs) (histograms o px))
+    (is-kept : 3 ≤ length pxs → kept ≡ keptOf (map (histograms o) pxs ++ histograms o px ∷ [])) where
   abbrev rounded : Bool
   rounded = roundsToNearest (o .edition)
 
@@ -150,8 +186,12 @@ module _ (o : Opening) (pxs : List (List ℕ)) (px : List ℕ) {luma : List ℕ}
       ∙ getD-set-other one (64 + i / 64) k ((getD one (64 + i / 64) 0 + bitOf i again) % 2 ^ 64) 0 b
       ∙ getD-set-other luma (850 + i) k q 0 a
 
-  scalar : (k : ℕ) → k < 64 → getD (set two (98 + i) score) k 0 ≡ getD luma k 0
-  scalar k h = stays k (λ z. omega arith) (λ z. omega arith) (λ z. omega arith)
+  -- the word that is kept stands apart from all others
+  apart : (k : ℕ) → (k ≡ 17 → ⊥) → getD (set (set two (98 + i) score) 17 kept) k 0 ≡ getD (set two (98 + i) score) k 0
+  apart k h = getD-set-other (set two (98 + i) score) 17 k kept 0 h
+
+  scalar : (k : ℕ) → k < 17 → getD (set (set two (98 + i) score) 17 kept) k 0 ≡ getD luma k 0
+  scalar k h = apart k (λ z. omega arith) ∙ stays k (λ z. omega arith) (λ z. omega arith) (λ z. omega arith)
 
   score-word : (k : ℕ) → k < 750 →
       getD (set two (98 + i) score) (100 + k) 0 ≡ cutScore (map (histograms o) (pxs ++ px ∷ [])) k
@@ -226,11 +266,11 @@ module _ (o : Opening) (pxs : List (List ℕ)) (px : List ℕ) {luma : List ℕ}
           ∙ w .repeats j h
           ∙ sym (word-other (repeats pxs) (nextRepeat pxs px) j (λ z. e (z ∙ ap (λ (k : ℕ). k / 64) bits)))
 
-  pub words-more : Words o (pxs ++ px ∷ []) (noted luma i q again score)
+  pub words-more : Words o (pxs ++ px ∷ []) (noted luma i q again score kept)
   unfolding one two
   words-more =
       record {
-        size = length-set two (98 + i) score ∙ two-size;
+        size = all-size;
         opening = rw (
           scalar 12 (omega arith),
           scalar 13 (omega arith),
@@ -238,7 +278,16 @@ module _ (o : Opening) (pxs : List (List ℕ)) (px : List ℕ) {luma : List ℕ}
           scalar 15 (omega arith),
           scalar 16 (omega arith),
         ) (w .opening);
-        scores = score-word;
-        changes = change-word;
-        repeats = repeat-word;
+        scores = λ k h. apart (100 + k) (λ z. omega arith) ∙ score-word k h;
+        changes = λ k h. apart (850 + k) (λ z. omega arith) ∙ change-word k h;
+        repeats = λ j h. apart (64 + j) (λ z. omega arith) ∙ repeat-word j h;
+        kept = λ h. rw (map-append (histograms o) pxs (px ∷ []))
+            (getD-set-same (set two (98 + i) score) 17 kept 0 (omega (arith, three-size))
+            ∙ is-kept (omega (arith, length-append pxs (px ∷ []))));
       }
+    where
+      three-size : length (set two (98 + i) score) ≡ 1600
+      three-size = length-set two (98 + i) score ∙ two-size
+
+      all-size : length (set (set two (98 + i) score) 17 kept) ≡ 1600
+      all-size = length-set (set two (98 + i) score) 17 kept ∙ three-size

@@ -48,32 +48,50 @@ fn first(counts: &[u32]) -> u32
     counts[0]
 }
 
-// The cut score that picture i settles: that of picture i - 2.
-fn score_of(bins: &Bins, i: usize) -> u64
-    ensures { λ r. ⌜ ScoreOf (now (bins .entry)) i r ⌝ }
-{
-    first(bins);
-    if i < 4 {
-        return 0;
-    }
-    let a = slot_of(i - 4);
-    let b = slot_of(i - 3);
-    let x = slot_of(i - 2);
-    let y = slot_of(i - 1);
-    let z = slot_of(i);
-    luma_cuts::least_of_six(bins, a, b, x, y, z)
+// A cut score, and what the next one needs again: the smaller of two differences.
+struct Settled {
+    score: u64,
+    kept: u64,
 }
 
-// Picture i's change, its bit in the map of repeats, and the cut score of picture i - 2.
-fn note(luma: &mut Words, i: usize, q: u64, again: u64, score: u64)
+// The cut score that picture i settles, that of picture i - 2: four differences, and what the last one kept.
+fn score_of(bins: &Bins, i: usize, kept: u64) -> Settled
+    ensures { λ r. ⌜ ScoreOf (now (bins .entry)) i kept r ⌝ }
+{
+    first(bins);
+    if i < 3 {
+        return Settled { score: 0, kept: 0 };
+    }
+    let b = slot_of(i - 3);
+    let y = slot_of(i - 1);
+    let z = slot_of(i);
+    let next = luma_cuts::least_of_two(bins, b, y, z);
+    if i < 4 {
+        return Settled {
+            score: 0,
+            kept: next,
+        };
+    }
+    let a = slot_of(i - 4);
+    let x = slot_of(i - 2);
+    let score = luma_cuts::least_of_six(bins, kept, next, a, b, x, z);
+    Settled {
+        score: score,
+        kept: next,
+    }
+}
+
+// Picture i's change, its bit in the map of repeats, the cut score of picture i - 2, and what the next one needs.
+fn note(luma: &mut Words, i: usize, q: u64, again: u64, score: u64, kept: u64)
     requires { ⌜ i < 750 ⌝ }
-    ensures { λ _. ⌜ now (luma .exit) ≡ noted (now (luma .entry)) i q again score ⌝ }
+    ensures { λ _. ⌜ now (luma .exit) ≡ noted (now (luma .entry)) i q again score kept ⌝ }
 {
     luma[layout::CHANGES + i] = q;
     let j = layout::REPEATS + i / layout::MAP_BITS;
     let bit = again << (i % layout::MAP_BITS);
     luma[j] = std::num::wrapping_add_u64(luma[j], bit);
     luma[layout::SETTLED + i] = score;
+    luma[layout::KEPT] = kept;
 }
 
 fn next_picture(s: Progress, again: u64) -> Progress
@@ -102,11 +120,11 @@ pub fn end_picture(luma: &mut Words, bins: &mut Bins, g: Grid, s: Progress) -> P
 {
     let i = s.pictures;
     let again = again_of(s);
-    let score = score_of(bins, i);
+    let settled = score_of(bins, i, luma[layout::KEPT]);
     let opening = luma_state::opening_in(luma);
     let rounds = figures::rounds_to_nearest(opening.edition);
     let q = change_of(g, s, rounds);
-    note(luma, i, q, again, score);
+    note(luma, i, q, again, settled.score, settled.kept);
     let next = slot_of(i + 1);
     luma_tiles::clear(bins, next);
     next_picture(s, again)

@@ -102,6 +102,7 @@ words-kept {o} {pxs} {w} {z} n k h =
       scores = λ i l. k (100 + i) (omega arith) ∙ h .scores i l;
       changes = λ i l. k (850 + i) (omega arith) ∙ h .changes i l;
       repeats = λ j l. k (64 + j) (omega arith) ∙ h .repeats j l;
+      kept = λ l. k 17 (omega arith) ∙ h .kept l;
     }
 
 live-kept : {g : Grid} {o : Opening} {s : Progress} {w z sums bins picture joined : List ℕ} → length z ≡ length w →

@@ -67,6 +67,7 @@ no-words o luma n e z =
       scores = λ i h. z (100 + i) (omega arith) ∙ sym (none-yet i);
       changes = λ i h. z (850 + i) (omega arith);
       repeats = λ j h. z (64 + j) (omega arith) ∙ sym (no-bits j);
+      kept = λ h. absurd (omega arith);
     }
   where
     none-yet : (i : ℕ) → cutScore (map (histograms o) []) i ≡ 0

@@ -5,6 +5,10 @@ use Prim.Native.Nat.{ℕ}
 abbrev pub wordCount : ℕ
 wordCount = 1600
 
+-- the smaller of two differences that the next cut score needs again
+abbrev pub keptAt : ℕ
+keptAt = 17
+
 -- the map of repeats, a bit a picture
 abbrev pub repeatsAt : ℕ
 repeatsAt = 64

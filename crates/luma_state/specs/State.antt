@@ -2,20 +2,20 @@
 -- words hold what is known of the whole pictures. `sums` are the block sums of the current block row, `bins` a ring of
 -- five pictures' histograms, `picture` the pixels: those of the block rows that are done are the current picture's,
 -- the others the previous one's.
-use Prim.Native.Nat.{ℕ, _+_, _*_, _/_, _%_, _^_, _≤_, _<_}
+use Prim.Native.Nat.{ℕ, _+_, _-_, _*_, _/_, _%_, _^_, _≤_, _<_}
 use mathlib.Core.Path.{_≡_}
 use mathlib.Core.List.{List, [], _++_, map}
 use mathlib.Core.Bool.{not}
 use lib.ListN.{length, getD, take}
 use Rattle.rules.specs.declared.Opening.{Opening}
-use Rattle.rules.specs.Bytes.{count, parts, Bytes}
+use Rattle.rules.specs.Bytes.{smaller, count, parts, Bytes}
 use Rattle.rules.specs.Refusals.{none, fault, _orElse_}
 use Rattle.rules.specs.Editions.{roundsToNearest}
 use Rattle.rules.specs.Opening.{openingFault, side, columns, lines}
 use Rattle.rules.specs.Pictures.{pictureSize, lumaFault, pixels}
 use Rattle.rules.specs.Histograms.{histograms}
 use Rattle.rules.specs.Columns.{Boundary}
-use Rattle.rules.specs.Cuts.{cutScore}
+use Rattle.rules.specs.Cuts.{at, difference, cutScore}
 use Rattle.rules.specs.Changes.{repeats, changes}
 use Rattle.rules.specs.Seal.{reduced}
 use Rattle.luma_laws.specs.Past.{previous, mapWord}
@@ -26,7 +26,7 @@ use Rattle.luma_changes.specs.declared.sums.Moves.{Moves}
 use Rattle.luma_changes.specs.Figures.{Figures}
 use Rattle.luma_state.specs.declared.Grid.{Grid}
 use Rattle.luma_state.specs.declared.Progress.{Progress}
-use Rattle.luma_state.specs.Layout.{wordCount, repeatsAt, scoresAt, changesAt}
+use Rattle.luma_state.specs.Layout.{wordCount, keptAt, repeatsAt, scoresAt, changesAt}
 
 -- ---- the scalars
 
@@ -100,14 +100,21 @@ pub record Fits (g : Grid) : Type 0 where
 
 -- ---- whole pictures, with the pixels pxs
 
+-- of all pictures' histograms, the smaller of the differences of the last but three and the last two
+unfoldable pub keptOf : List (List (List ℕ)) → ℕ
+keptOf hs =
+    smaller (difference (at hs (length hs - 4)) (at hs (length hs - 2)))
+    (difference (at hs (length hs - 4)) (at hs (length hs - 1)))
+
 -- what the words hold: the opening, and of the pictures every cut score that is settled and every change, 0 elsewhere,
--- and the map of repeats
+-- the map of repeats, and from the fourth picture on what the next cut score needs of the earlier ones
 pub record Words (o : Opening) (pxs : List (List ℕ)) (luma : List ℕ) : Type 0 where
   pub size : length luma ≡ wordCount
   pub opening : openingIn luma ≡ o
   pub scores : (i : ℕ) → i < 750 → getD luma (scoresAt + i) 0 ≡ cutScore (map (histograms o) pxs) i
   pub changes : (i : ℕ) → i < 750 → getD luma (changesAt + i) 0 ≡ getD (changes (roundsToNearest (o .edition)) pxs) i 0
   pub repeats : (j : ℕ) → j < 12 → getD luma (repeatsAt + j) 0 ≡ mapWord (repeats pxs) j
+  pub kept : 4 ≤ length pxs → getD luma keptAt 0 ≡ keptOf (map (histograms o) pxs)
 
 -- the first place of picture i's histograms in the ring
 abbrev pub slot : ℕ → ℕ

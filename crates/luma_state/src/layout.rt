@@ -33,6 +33,8 @@ pub const PID: usize = 15;
 
 pub const EDITION: usize = 16;
 
+pub const KEPT: usize = 17; // the smaller of two differences that the next cut score needs again
+
 pub const REPEATS: usize = 64; // the map of repeats, a bit a picture
 
 pub const SCORES: usize = 100; // the cut scores, a word a picture

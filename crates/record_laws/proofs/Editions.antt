@@ -112,7 +112,7 @@ changes-four pxs = refl
 -- ---- readers
 
 -- what a reader of document 01 answers, which knows edition 1 alone
-firstReader : List ℕ → Fault
+pub firstReader : List ℕ → Fault
 firstReader r = unless (leb 64 (length r)) 16 orElse unless (eqb (word32 r 0) 1) 17 orElse unless (allowed r) 18
 
 -- it gives 17 to every record of another edition

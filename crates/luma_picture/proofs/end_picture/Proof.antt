@@ -6,6 +6,9 @@ use Rattle.luma_picture.proofs.end_picture.Tie as tie
 again-of-requires : tie.Need-again-of-requires
 again-of-requires c κs = search needs
 
+element-copy-out-score-of : tie.Need-element-copy-out-score-of
+element-copy-out-score-of c = search needs
+
 score-of-requires : tie.Need-score-of-requires
 score-of-requires c κs = search needs
 
@@ -32,12 +35,14 @@ clear-requires c κs = search needs
 
 next-picture-requires : tie.Need-next-picture-requires
 next-picture-requires c κs =
-    let from = c .before .before .before .before .before .before .before .before .before .before .before in
+    let from = c .before .before .before .before .before .before .before .before .before .before .before .before in
     (from .before .pre .more, rw (from .again-of .ensures) (again-small (from .before .args .s)))
 
 returns : tie.Need-returns
 returns c =
-    let from = c .before .before .before .before .before .before .before .before .before .before .before .before in
+    let from = c .before .before .before .before .before .before .before .before .before .before .before .before
+    .before
+    in
     let a = from .before .args in
     let again = from .again-of .ensures in
     let q = c .before .before .before .before .before .before in
@@ -53,6 +58,7 @@ end-picture-spec =
     tie.close
     (tie.spec
     again-of-requires
+    element-copy-out-score-of
     score-of-requires
     opening-in-requires
     rounds-to-nearest-requires

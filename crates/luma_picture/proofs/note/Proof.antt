@@ -41,6 +41,9 @@ mul-luma-3 c = search needs
 element-write-luma-3 : tie.Need-element-write-luma-3
 element-write-luma-3 c = search needs
 
+element-write-luma-4 : tie.Need-element-write-luma-4
+element-write-luma-4 c = search needs
+
 returns : tie.Need-returns
 returns c = rw (c .wrapping-add-u64 .ensures)
 
@@ -61,4 +64,5 @@ note-spec =
     add-luma-2
     mul-luma-3
     element-write-luma-3
+    element-write-luma-4
     returns)
