@@ -73,6 +73,12 @@ impl Input {
         }
     }
 
+    /// Puts the bytes that still come behind the others, but no more than `most`.
+    pub fn append(&mut self, bytes: &mut Vec<u8>, most: u64) -> Result<(), Stop> {
+        let read = (&self.file).take(most).read_to_end(bytes);
+        read.map(|_| ()).map_err(|error| Stop::file(&self.name, &error))
+    }
+
     /// All bytes, but no more than `most`.
     pub fn up_to(&mut self, most: usize) -> Result<Vec<u8>, Stop> {
         let mut bytes = vec![0; most];

@@ -6,7 +6,7 @@ use crate::show;
 use crate::stop::Stop;
 use crate::words::{number, Words};
 use crate::Subcommand;
-use carolsedge::{shelf_of, shelf_part, Header, Record, Refusal, Shelf, RECORD_MOST, SHELF_RECORDS_MOST};
+use carolsedge::{shelf_of, shelf_part, Header, Record, Refusal, Shelf, RECORD_MOST};
 use std::ffi::{OsStr, OsString};
 
 pub const SUBCOMMAND: Subcommand =
@@ -35,9 +35,6 @@ of these tests the whole shelf and every record of it. FILE, or a RECORD, may be
 
 Exit status: 0 done, 1 refused, 2 wrong words or a file's error.
 ";
-
-/// No shelf is longer.
-const SHELF_MOST: usize = 8 + SHELF_RECORDS_MOST * (4 + RECORD_MOST);
 
 fn run(words: Vec<OsString>) -> Result<(), Stop> {
     let words = Words::part(words, &[], &[])?;
@@ -185,23 +182,15 @@ fn read_word(words: &[Option<OsString>]) -> Result<Vec<u8>, Stop> {
     read(&mut Input::open(words[1].as_deref().unwrap_or(OsStr::new("")))?)
 }
 
-/// All bytes, but no more than it takes to see that they are too many for a shelf.
+/// All bytes, but no more than it takes to see that they are too many: a shelf has as many as its word at 4 says, and a
+/// record at most so many. One more than both is refused by either reader with the number that all of them would get.
 pub fn read(input: &mut Input) -> Result<Vec<u8>, Stop> {
-    let known = input.length().unwrap_or(0).min(SHELF_MOST as u64) as usize;
-    let mut bytes = vec![0; known + 1];
-    let mut length = 0;
-    loop {
-        match input.read(&mut bytes[length..])? {
-            0 => break,
-            n => length += n,
-        }
-        if length == bytes.len() {
-            if length > SHELF_MOST {
-                break;
-            }
-            bytes.resize((2 * length).min(SHELF_MOST + 1), 0);
-        }
-    }
-    bytes.truncate(length);
+    let mut bytes = input.up_to(8)?;
+    let said = match bytes[..] {
+        [_, _, _, _, a, b, c, d] => u32::from_le_bytes([a, b, c, d]),
+        _ => 0,
+    };
+    let most = u64::from(said).max(RECORD_MOST as u64) + 1;
+    input.append(&mut bytes, most - 8)?;
     Ok(bytes)
 }

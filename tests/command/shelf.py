@@ -80,6 +80,33 @@ def refused(records):
     expect("4,096 records", 0, lost, [], "shelf", "check", "shelf")
 
 
+def long():
+    """Files of zeros behind the head of a shelf of one record. One that is as long as its head says is laid out as a
+    shelf, however long it is: its record is refused. A byte more or less is no shelf; past 32 bits nothing is."""
+    most = 8 + 4096 * (4 + 32064)  # the longest shelf that is accepted
+    for said, length, line in (
+        (most, most, b"refused 28 0\n"),
+        (most + 1, most + 1, b"refused 28 0\n"),
+        (most + 1, most + 2, b"refused 27 0\n"),
+        (200000000, 199999999, b"refused 27 0\n"),
+        (200000000, 200000000, b"refused 28 0\n"),
+        (200000000, 200000001, b"refused 27 0\n"),
+        (12, 2**32 + 12, b"refused 27 0\n"),
+        (0, 2**32, b"refused 27 0\n"),
+    ):
+        write("long", struct.pack("<3I", 1, said, 12))
+        os.truncate("long", length)
+        name = "%d bytes, %d by the head" % (length, said)
+        expect(name, 1, line, None, "shelf", "check", "long")
+        expect(name + ", page", 1, line if b"28" in line else b"refused 18 0\n", None, "page", "long")
+        if length == said:
+            expect(name + ", take", 1, line, None, "shelf", "take", "long", "1")
+    os.remove("long")
+    piped = struct.pack("<3I", 1, most + 1, 12) + bytes(most + 1 - 12)
+    expect("a pipe", 1, b"refused 28 0\n", None, "shelf", "check", "-", stdin=piped)
+    expect("an endless file", 1, b"refused 27 0\n", None, "shelf", "check", "/dev/zero")
+
+
 def added(records):
     """Records behind those of a shelf; where that is refused the shelf stays, and nothing else is left."""
     names = [write("%d.record" % i, record) for i, record in enumerate(records)]
@@ -166,6 +193,7 @@ def test():
     whole([])
     added(records)
     refused(records)
+    long()
     wrong_words()
     expect("from standard input", 0, None, [], "shelf", "make", "new", "-", "good", stdin=records[1])
     check(read("new") == laid_out([records[1], records[0]]), "a record from standard input")
