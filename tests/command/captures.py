@@ -67,6 +67,17 @@ def named():
     most = "8191 (28 packets), 0 (21 packets), 300 (14 packets)"
     said = ["No packet in 10 frames has identifier 256", most, "Most likely: --pid 300"]
     expect("another identifier", 1, b"refused 12 0\n", said, *words)
+    write("capture.pcap", capture([carrying(packets(5, pid=300, damaged=True))] * 2 + [carrying(packets(5))]))
+    said = ["No packet in 3 frames has identifier 99. There are: 256 (5 packets).", "marked 10 packets as damaged"]
+    other = [*words[:-1], "99"]
+    expect("more damaged packets than good ones", 1, b"refused 12 0\n", [*said, "Most likely: --pid 256"], *other)
+    expect("as the survey has it", 0, b"survey 256 5\n", None, "survey", "capture.pcap")
+    said = "The receiver marked 10 packets of identifier 300 as damaged, and there is no other of it."
+    expect("damaged packets beside good ones", 1, b"refused 12 0\n", [said], *words[:-1], "300")
+    write("capture.pcap", capture([carrying(packets(2, pid=300, damaged=True) + packets(1, sync=0x48))]))
+    said = ["No packet in 1 frame is good: 1 packet without 0x47.", "marked 2 packets as damaged"]
+    got = expect("no good packet", 1, b"refused 12 0\n", said, *other)
+    check("--pid" not in got[2], "no good packet: a hint about the identifier")
     write("capture.pcap", capture(good(1) + [carrying(packets(2, sync=0))]))
     expect("bad packets", 0, b"sealed 128\n", ["2 bad packets", "warning: 2 packets without 0x47"], *words)
     broken = carrying(packets(3, damaged=True))

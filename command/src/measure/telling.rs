@@ -94,22 +94,39 @@ fn no_packet(pid: u32, walk: &Walk) -> Vec<String> {
         return lines;
     }
     let frames = count(walk.carrying(), "frame");
-    if identifiers.is_empty() {
-        let bad = count(walk.bad(), "packet");
+    let marked = walk.damaged_of(pid);
+    if marked > 0 {
+        let all = count(marked, "packet");
         return vec![format!(
-            "All {bad} in {frames} are bad: none begins with 0x47, so this is no transport stream."
+            "The receiver marked {all} of identifier {pid} as damaged, and there is no other of it."
         )];
     }
-    if let Some((_, all)) = identifiers.iter().find(|(of, _)| *of == pid as usize) {
-        let all = count(*all, "packet");
-        return vec![format!("The receiver marked {all} of identifier {pid} as damaged, and there is no other of it.")];
+    let damaged = (walk.damaged() > 0).then(|| {
+        let all = count(walk.damaged(), "packet");
+        format!("The receiver marked {all} as damaged, whose identifiers may be wrong.")
+    });
+    if identifiers.is_empty() {
+        return no_good(&frames, walk.bad(), damaged);
     }
     let most = identifiers.iter().take(6).map(|(of, n)| format!("{of} ({})", count(*n, "packet")));
     let most = most.collect::<Vec<_>>().join(", ");
     let mut lines = vec![format!("No packet in {frames} has identifier {pid}. There are: {most}.")];
+    lines.extend(damaged);
     // Identifiers below 32 are tables, and 8191 fills gaps.
     if let Some((likely, _)) = identifiers.iter().find(|(of, _)| (32..8191).contains(of)) {
         lines.push(format!("Most likely: --pid {likely}"));
     }
     lines
+}
+
+/// What there is where no packet is good.
+fn no_good(frames: &str, bad: u64, damaged: Option<String>) -> Vec<String> {
+    let bads = count(bad, "packet");
+    match damaged {
+        None => {
+            vec![format!("All {bads} in {frames} are bad: none begins with 0x47, so this is no transport stream.")]
+        }
+        Some(damaged) if bad == 0 => vec![format!("No packet in {frames} is good."), damaged],
+        Some(damaged) => vec![format!("No packet in {frames} is good: {bads} without 0x47."), damaged],
+    }
 }

@@ -7,12 +7,18 @@ pub struct Walk {
     skipped: Skipped,
     carrying: u64,
     bad: u64,
-    of: Vec<u64>,
+    /// Of each identifier, the good packets, and those marked as damaged.
+    good: Vec<u64>,
+    damaged: Vec<u64>,
 }
+
+/// Identifiers have 13 bits.
+const IDENTIFIERS: usize = 8192;
 
 impl Walk {
     pub fn new() -> Walk {
-        Walk { frames: Frames::default(), skipped: Skipped::default(), carrying: 0, bad: 0, of: vec![0; 8192] }
+        let (good, damaged) = (vec![0; IDENTIFIERS], vec![0; IDENTIFIERS]);
+        Walk { frames: Frames::default(), skipped: Skipped::default(), carrying: 0, bad: 0, good, damaged }
     }
 
     /// Takes a piece of the capture, and hands on the transport packets of each frame that has come whole.
@@ -32,7 +38,8 @@ impl Walk {
                         self.bad += 1;
                         continue;
                     }
-                    self.of[usize::from(packet[1] & 0x1F) * 256 + usize::from(packet[2])] += 1;
+                    let of = if packet[1] & 0x80 == 0 { &mut self.good } else { &mut self.damaged };
+                    of[usize::from(packet[1] & 0x1F) * 256 + usize::from(packet[2])] += 1;
                     packets(packet);
                 }
             }
@@ -54,9 +61,19 @@ impl Walk {
         &self.skipped
     }
 
-    /// The identifiers that there are, with their packets, most first.
+    /// Packets that the receiver marked as damaged, of all identifiers.
+    pub fn damaged(&self) -> u64 {
+        self.damaged.iter().sum()
+    }
+
+    /// Packets of an identifier that the receiver marked as damaged.
+    pub fn damaged_of(&self, pid: u32) -> u64 {
+        self.damaged.get(pid as usize).copied().unwrap_or(0)
+    }
+
+    /// The identifiers of good packets, with how many each has, most first and the lowest among equals.
     pub fn identifiers(&self) -> Vec<(usize, u64)> {
-        let mut all: Vec<_> = self.of.iter().copied().enumerate().filter(|&(_, packets)| packets > 0).collect();
+        let mut all: Vec<_> = self.good.iter().copied().enumerate().filter(|&(_, packets)| packets > 0).collect();
         all.sort_by_key(|&(_, packets)| std::cmp::Reverse(packets));
         all
     }
