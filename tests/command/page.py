@@ -28,7 +28,7 @@ class Page(HTMLParser):
     def __init__(self, name, text):
         super().__init__()
         self.name, self.open, self.ids, self.rows, self.quotes, self.drawn = name, [], {}, {}, [], {}
-        self.texts, self.drawing = [], None
+        self.texts, self.drawing, self.term, self.rules = [], None, None, {}
         self.feed(text)
         self.close()
         check(self.open == [], "%s: not closed: %s" % (name, self.open))
@@ -70,6 +70,9 @@ class Page(HTMLParser):
             self.table[-1].append(text)
         elif tag == "q":
             self.quotes.append([text.strip("“”"), None])
+            self.rules.setdefault(self.term, []).append(self.quotes[-1][0])
+        elif tag == "dt":
+            self.term = text
         elif tag == "cite":
             self.quotes[-1][1] = text
         elif tag == "title" and self.open[-1][0] == "g":
@@ -178,6 +181,20 @@ def of_drawings(name, page, record):
         check(told == damaged and len(bars) == sum(map(bool, damaged)), name + ": other damaged packets")
 
 
+def of_damage(name, page, edition):
+    """What edition 4 does with damaged packets is quoted by it, and by no other."""
+    for term, end in (
+        ("Bad packets", "it is in no unit and counts as a bad packet."),
+        ("Unit", "the gap of the next packet that is not damaged is measured from the last one that is not."),
+        ("Lost", "the gap of the next packet that is not damaged is measured from the last one that is not."),
+    ):
+        behind = "From edition 4 on a damaged wanted packet is set apart."
+        quoted = page.rules[term][-2:]
+        told = quoted[0] == behind and quoted[-1].endswith(end)
+        check(told == (edition >= DAMAGED), "%s: %s: quoted last: %s" % (name, term, quoted))
+        check(told or behind not in page.rules[term], "%s: %s: a rule of edition 4" % (name, term))
+
+
 def whole(name, record, sealed=True):
     """A record's page, on standard output and in a file. The parts of a sealed record's index give it."""
     write("record", record)
@@ -189,6 +206,7 @@ def whole(name, record, sealed=True):
     page = opened(name, text.decode())
     of_show(name, page, record)
     of_drawings(name, page, record)
+    of_damage(name, page, record[0])
     check(of_parts(name, page, record) or not sealed, name + ": the parts do not give the index")
     return text.decode()
 

@@ -63,11 +63,31 @@ pub const SKIPPED: &[Rule] = &[always(
     "Every other frame is skipped; skipped frames are counted over the whole frames, as all frames are.",
 )];
 
-pub const BAD: &[Rule] = &[always(
-    4,
-    "A packet is one of three: bad if its byte 0 is not 0x47, whatever byte 1 says; otherwise damaged if its byte \
-     1 has 0x80, the transport error indicator, and otherwise good.",
-)];
+pub const BAD: &[Rule] = &[
+    always(
+        4,
+        "A packet is one of three: bad if its byte 0 is not 0x47, whatever byte 1 says; otherwise damaged if its byte \
+         1 has 0x80, the transport error indicator, and otherwise good.",
+    ),
+    SET_APART,
+    by(
+        4..=u32::MAX,
+        5,
+        "Before the first unit, that is before the first wanted packet that is not damaged, it is in no unit and \
+         counts as a bad packet.",
+    ),
+];
+
+/// What is said of `it` in the sentences behind this one.
+const SET_APART: Rule = by(4..=u32::MAX, 5, "From edition 4 on a damaged wanted packet is set apart.");
+
+const NO_PART: Rule = by(
+    4..=u32::MAX,
+    5,
+    "It begins no unit, start mark or not, and nothing is lost before it; it is none of its unit's packets, so that \
+     packets, size and times take no notice of it; and no gap is measured from its counter, nor is its splice mark \
+     heeded: the gap of the next packet that is not damaged is measured from the last one that is not.",
+);
 
 pub const INDEX: &[Rule] = &[always(
     11,
@@ -76,11 +96,15 @@ pub const INDEX: &[Rule] = &[always(
      index = 1 + (Ic × Ip), where / is binary64's.",
 )];
 
-pub const UNIT: &[Rule] = &[always(
-    5,
-    "The first begins a unit, with or without a start mark; each later one begins a unit if it has a start mark, \
-     and otherwise belongs to the unit of the packet before it.",
-)];
+pub const UNIT: &[Rule] = &[
+    always(
+        5,
+        "The first begins a unit, with or without a start mark; each later one begins a unit if it has a start mark, \
+         and otherwise belongs to the unit of the packet before it.",
+    ),
+    SET_APART,
+    NO_PART,
+];
 
 pub const TIMES: &[Rule] = &[
     always(2, "The frame's time is seconds × 1,000,000 + microseconds."),
@@ -106,12 +130,12 @@ pub const LOST: &[Rule] = &[
          before it.",
     ),
     by(2..=u32::MAX, 5, "From edition 2 on nothing is lost before a packet with a splice mark."),
+    SET_APART,
+    NO_PART,
 ];
 
-pub const DAMAGED: &[Rule] = &[
-    always(5, "From edition 4 on a damaged wanted packet is set apart."),
-    always(5, "It adds one to damaged of the unit that stands last."),
-];
+pub const DAMAGED: &[Rule] =
+    &[SET_APART, by(4..=u32::MAX, 5, "It adds one to damaged of the unit that stands last.")];
 
 pub const SCENE: &[Rule] = &[
     always(10, "Picture 0 starts a scene."),
