@@ -1,7 +1,7 @@
 //! carolsedge gaps: how many runs of the counter's gaps have one lost total.
 use crate::output;
 use crate::stop::Stop;
-use crate::words::{number, Words};
+use crate::words::{number_or_most, Words};
 use crate::Subcommand;
 use std::ffi::OsString;
 
@@ -32,7 +32,7 @@ fn run(words: Vec<OsString>) -> Result<(), Stop> {
 fn asked(words: Vec<OsString>) -> Result<u32, Stop> {
     let plain = Words::part(words, &[], &[])?.plain(&["N"], 0)?;
     let word = plain[0].as_deref().unwrap_or_default();
-    match word.to_str().and_then(number) {
+    match word.to_str().and_then(number_or_most) {
         Some(gaps) => Ok(gaps),
         None => Err(Stop::Usage(format!("{}: not a number of gaps", word.to_string_lossy()))),
     }
@@ -56,11 +56,12 @@ mod tests {
         assert_eq!(given(&["0"]), Some(0));
         assert_eq!(given(&["0xF"]), Some(15));
         assert_eq!(given(&["4294967295"]), Some(u32::MAX));
+        assert_eq!(given(&["4294967296"]), Some(u32::MAX));
     }
 
     #[test]
     fn anything_else() {
-        for words in [&[][..], &[""], &["x"], &["-1"], &["--all"], &["1", "2"], &["4294967296"]] {
+        for words in [&[][..], &[""], &["x"], &["-1"], &["--all"], &["1", "2"], &["4294967296x"]] {
             assert_eq!(given(words), None, "{words:?}");
         }
     }

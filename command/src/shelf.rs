@@ -4,7 +4,7 @@ use crate::output;
 use crate::record_file::RecordFile;
 use crate::show;
 use crate::stop::Stop;
-use crate::words::{number, Words};
+use crate::words::{number_or_most, Words};
 use crate::Subcommand;
 use carolsedge::{shelf_of, shelf_part, Header, Record, Refusal, Shelf, RECORD_MOST};
 use std::ffi::{OsStr, OsString};
@@ -58,7 +58,7 @@ fn check(words: &[Option<OsString>]) -> Result<(), Stop> {
 
 fn take(words: &[Option<OsString>]) -> Result<(), Stop> {
     let word = words[2].as_deref().unwrap_or_default();
-    let Some(j) = word.to_str().and_then(number) else {
+    let Some(j) = word.to_str().and_then(number_or_most) else {
         return Err(Stop::Usage(format!("{}: not the number of a record", word.to_string_lossy())));
     };
     let bytes = read_word(words)?;
@@ -182,8 +182,8 @@ fn read_word(words: &[Option<OsString>]) -> Result<Vec<u8>, Stop> {
     read(&mut Input::open(words[1].as_deref().unwrap_or(OsStr::new("")))?)
 }
 
-/// All bytes, but no more than it takes to see that they are too many: a shelf has as many as its word at 4 says, and a
-/// record at most so many. One more than both is refused by either reader with the number that all of them would get.
+/// All bytes, but no more than it takes to see that they are too many: a shelf has as many as its word at 4 says, and no
+/// record has more than `RECORD_MOST`. With one more than both, each reader gives the refusal that all of them get.
 pub fn read(input: &mut Input) -> Result<Vec<u8>, Stop> {
     let mut bytes = input.up_to(8)?;
     let said = match bytes[..] {

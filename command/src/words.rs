@@ -1,6 +1,7 @@
 //! The words of a command line: options, and the words that are none.
 use crate::stop::Stop;
 use std::ffi::{OsStr, OsString};
+use std::num::{IntErrorKind, ParseIntError};
 
 /// Words, parted.
 pub struct Words {
@@ -101,10 +102,41 @@ impl Words {
 
 /// A 32-bit number: decimal digits alone, or hexadecimal ones behind 0x.
 pub fn number(text: &str) -> Option<u32> {
+    digits(text)?.ok()
+}
+
+/// Such a number; one that 32 bits do not hold is the greatest that they do, for where the rule refuses both alike.
+pub fn number_or_most(text: &str) -> Option<u32> {
+    match digits(text)? {
+        Err(error) if *error.kind() == IntErrorKind::PosOverflow => Some(u32::MAX),
+        read => read.ok(),
+    }
+}
+
+/// What the digits come to, where there is nothing but digits.
+fn digits(text: &str) -> Option<Result<u32, ParseIntError>> {
     let (digits, base) = match text.strip_prefix("0x").or(text.strip_prefix("0X")) {
         Some(digits) => (digits, 16),
         None => (text, 10),
     };
     let all = digits.chars().all(|digit| digit.is_digit(base));
-    all.then(|| u32::from_str_radix(digits, base).ok())?
+    all.then(|| u32::from_str_radix(digits, base))
+}
+
+#[cfg(test)]
+mod tests {
+    use super::*;
+
+    #[test]
+    fn numbers() {
+        for (text, read) in [("0", 0), ("4294967295", u32::MAX), ("0xfF", 255), ("0XFFFFFFFF", u32::MAX)] {
+            assert_eq!((number(text), number_or_most(text)), (Some(read), Some(read)), "{text}");
+        }
+        for text in ["4294967296", "18446744073709551616", "0x100000000", "99999999999999999999999999"] {
+            assert_eq!((number(text), number_or_most(text)), (None, Some(u32::MAX)), "{text}");
+        }
+        for text in ["", "0x", "x", "-1", "+1", "1.0", " 1", "4294967296 ", "12_345", "0x0x1", "٣"] {
+            assert_eq!((number(text), number_or_most(text)), (None, None), "{text}");
+        }
+    }
 }

@@ -9,9 +9,9 @@ def test():
         entries = [int(line) for line in expect("%d gaps" % n, 0, None, [], "gaps", str(n))[1].split()]
         check(len(entries) == 14 * n + 1 and sum(entries) == 16**n, "the entries of %d gaps" % n)
     expect("hexadecimal", 0, b"1\n", [], "gaps", "0x0")
-    for n in ("16", "4294967295"):
+    for n in ("16", "4294967295", "4294967296", "0x100000000", "18446744073709551616", "9" * 30):
         expect(n + " gaps", 1, b"refused 24 0\n", ["carolsedge gaps: refused 24: "], "gaps", n)
-    for word in ("", "x", "1.0", "4294967296"):
+    for word in ("", "x", "1.0", "4294967296x"):
         expect("gaps " + word, 2, b"", ["%s: not a number of gaps" % word], "gaps", word)
     expect("no number", 2, b"", ["N is missing"], "gaps")
     expect("two numbers", 2, b"", ["2: a word too many"], "gaps", "1", "2")

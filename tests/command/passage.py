@@ -19,13 +19,14 @@ def test():
         expect("passage", 0, printed, None, *words, "--passage", "%d-%d" % (a, b))
         check(read("record") == record, "a passage made another record")
     expect("hexadecimal", 0, sealed + b"repeats %d\n" % (COUNT - len(RUNS)), None, *words, "--passage=0x0-0x4B")
-    for a, b in ((0, COUNT + 1), (1, 0), (COUNT + 1, COUNT + 1), (0, 4294967295)):
+    for a, b in ((0, COUNT + 1), (1, 0), (COUNT + 1, COUNT + 1), (0, 4294967295), (0, 2**32), (2**32, 2**32),
+                 (2**32 + 1, 2**32), (2**32, 0), (0, 10**30)):
         os.remove("record")
         printed = sealed + b"repeats refused 26 0\n"
         said = ["carolsedge measure: refused 26: ", "Name a passage"]
         expect("passage", 1, printed, said, *words, "--passage", "%d-%d" % (a, b))
         check(read("record") == record, "a refused passage undid the record")
-    for value in ("", "-", "1", "1-", "-1", "1-2-3", "a-b", "1..2", "0-4294967296"):
+    for value in ("", "-", "1", "1-", "-1", "1-2-3", "a-b", "1..2", "0-4294967296x"):
         said = "--passage %s: not two picture numbers" % value
         expect("passage " + value, 2, b"", [said], *words, "--passage", value)
     expect("no luma", 1, b"refused 14 0\n", None, *words[:2], "/dev/null", *words[3:], "--passage", "0-0")

@@ -35,7 +35,8 @@ def whole(records):
     expect("check", 0, totals, [], "shelf", "check", "-", stdin=shelf)
     for i, record in enumerate(records):
         expect("take", 0, record, [], "shelf", "take", "shelf", str(i))
-    expect("past the last", 1, b"refused 19 0\n", ["refused 19: "], "shelf", "take", "shelf", str(len(records)))
+    for j in (len(records), 4294967295, 4294967296, 2**64, 10**30):
+        expect("past the last", 1, b"refused 19 0\n", ["refused 19: "], "shelf", "take", "shelf", str(j))
     lines = expect("list", 0, None, [], "shelf", "list", "shelf")[1].decode().splitlines()
     check(len(lines) == 1 + len(records), "list: %s" % lines)
     place = 8 + 4 * len(records)

@@ -2,7 +2,7 @@
 use super::y4m::Heading;
 use crate::output;
 use crate::stop::Stop;
-use crate::words::{number, Words};
+use crate::words::{number, number_or_most, Words};
 use carolsedge::{Opening, NEWEST_EDITION};
 use std::ffi::OsString;
 use std::ops::Range;
@@ -103,7 +103,7 @@ fn size(text: &str) -> Option<(u32, u32)> {
 /// `A-B`: the pictures from A up to but without B.
 fn passage(text: &str) -> Option<Range<u32>> {
     let (start, end) = text.split_once('-')?;
-    Some(number(start)?..number(end)?)
+    Some(number_or_most(start)?..number_or_most(end)?)
 }
 
 /// `N` or `N/D`, both above 0.
