@@ -45,13 +45,14 @@ enum {
     CAROLSEDGE_REFUSED_MICROSECONDS = 7,    /* a frame's microseconds above 999,999; place: their last byte */
     CAROLSEDGE_REFUSED_FRAME_LENGTH = 8,    /* a frame's stored length above 65,535; place: its last byte */
     CAROLSEDGE_REFUSED_UNITS = 9,           /* a 751st unit begins; place: byte 3 of the packet that begins it */
-    CAROLSEDGE_REFUSED_LUMA_LENGTH = 10,    /* a byte of the luma past 750 pictures; place: that byte */
+    CAROLSEDGE_REFUSED_LUMA_LENGTH = 10,    /* a byte of the luma past 750 pictures; place: that byte. Busiest sample:
+                                               more than 750 pictures; place: 0 */
     CAROLSEDGE_REFUSED_CAPTURE_INSIDE = 11, /* seal, survey: it ends inside its header or a frame; place: its bytes
                                                fed */
     CAROLSEDGE_REFUSED_NO_PACKET = 12,      /* seal, index: no whole packet of PID; by edition 4 also damaged ones
                                                alone */
     CAROLSEDGE_REFUSED_LUMA_INSIDE = 13,    /* seal: the luma ends inside a picture; place: its bytes fed */
-    CAROLSEDGE_REFUSED_NO_PICTURE = 14,     /* seal, index: no picture */
+    CAROLSEDGE_REFUSED_NO_PICTURE = 14,     /* seal, index, busiest sample: no picture */
     CAROLSEDGE_REFUSED_BUFFER = 15,         /* what is lent to be written is too short; place: the length needed */
     CAROLSEDGE_REFUSED_SHORT = 16,          /* reading: under 64 bytes */
     CAROLSEDGE_REFUSED_EDITION = 17,        /* reading: an edition that there is not */

@@ -16,9 +16,10 @@ Says what the refusal with that number means and what usually mends it; without
 NUMBER, of all refusals.
 
 A refused run prints `refused NUMBER PLACE` on standard output. The place counts
-bytes from 0: of 4 to 10 it is where the refusal shows, of 11 and 13 how many
-bytes that side has, of 15 how long the buffer has to be, of 28 it is the number
-of a record; otherwise 0.
+bytes from 0: of 4 to 10 it is where the refusal shows (0 where 10 is about the
+number of pictures of the busiest sample), of 11 and 13 how many bytes that side
+has, of 15 how long the buffer has to be, of 28 it is the number of a record;
+otherwise 0.
 
 Exit status: 0 done, 2 wrong words, or standard output cannot be written.
 ";

@@ -3,9 +3,9 @@ use std::fmt;
 
 /// A call that was refused: the number of documents 01 and 02, 1 to 28, and the place.
 ///
-/// The place counts bytes from 0. Of 4 to 10 it is where the refusal shows, of 11 and 13 how many bytes that side was
-/// fed, of 15 how long the lent buffer or table has to be (of a table in entries), of 28 the number of the record that
-/// is refused, and of all others 0.
+/// The place counts bytes from 0. Of 4 to 10 it is where the refusal shows (0 where 10 is about the busiest sample), of
+/// 11 and 13 how many bytes that side was fed, of 15 how long the lent buffer or table has to be (of a table in
+/// entries), of 28 the number of the record that is refused, and of all others 0.
 #[derive(Debug, Clone, Copy, PartialEq, Eq, Hash)]
 pub struct Refusal {
     /// 1 to 3 and 20: opening; 4 to 9: the capture; 10: the luma; 11 to 15: sealing (11: a survey too, 12 and 14: the
@@ -59,6 +59,8 @@ impl fmt::Display for Refusal {
     fn fmt(&self, f: &mut fmt::Formatter<'_>) -> fmt::Result {
         write!(f, "refused {}: {}", self.number, self.meaning())?;
         match self.number {
+            // The busiest sample's 10 is about a number; a feed's stands behind 750 pictures.
+            10 if self.place == 0 => Ok(()),
             4..=10 => write!(f, " (at byte {})", self.place),
             11 | 13 => write!(f, " ({} bytes fed)", self.place),
             15 => write!(f, " ({} needed)", self.place),

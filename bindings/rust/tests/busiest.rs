@@ -39,6 +39,17 @@ fn refused() {
     assert_eq!(piece, [7; 9]);
 }
 
+/// No byte is to blame where there is only a number of pictures.
+#[test]
+fn told() {
+    let text = most_scenes(40_000, 751).unwrap_err().to_string();
+    assert_eq!(text, "refused 10: the luma is longer than 750 pictures");
+    let mut sample = Sample::open(Opening { width: 16, height: 31, time: 40_000, pid: 256, edition: 1 }).unwrap();
+    sample.feed_luma(&[0; 750 * 16 * 31]).unwrap();
+    let text = sample.feed_luma(&[0]).unwrap_err().to_string();
+    assert_eq!(text, "refused 10: the luma is longer than 750 pictures (at byte 372000)");
+}
+
 /// W and H differ; pieces of every length, also none, from every kind of place; bytes behind the luma's end stand.
 #[test]
 fn in_pieces() {
