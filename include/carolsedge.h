@@ -164,7 +164,7 @@ static inline uint32_t carolsedge_sample_seal(const struct carolsedge_sample *s,
  * is done. It reads four totals and the refusals kept, no row, and a packet or picture that is not whole does not
  * stop it. Refused: the opening's number, a feed's, then 12 or 14; *index stands, and *place is the refusal's
  * place (0 where it is done). Proved of any contents of the state: none of the three is a NaN, and a refusal
- * leaves *index. */
+ * leaves *index. The proof knows one NaN; that every bit of one that was lent stays is tested. */
 static inline uint32_t carolsedge_sample_index(const struct carolsedge_sample *s, struct carolsedge_index *index,
                                                uint64_t *place)
 {
@@ -277,8 +277,9 @@ uint32_t carolsedge_sheet(const uint8_t *record, size_t length, uint8_t *buffer,
 
 /* How far losses spread, for streams without B frames (docs/RULE.md, 22): from the loss of each of so
  * many units, 1 to 750, and the probability that it is a key frame, each unit of the two lists gets what reaches it of
- * key-frame losses and of plain ones. Lengths count elements. Refused: 22, then 23; both leave the lists. Otherwise no
- * element is a NaN, negative or infinite. */
+ * key-frame losses and of plain ones. Lengths count elements. Refused: 22, then 23; both leave the lists (the proof
+ * knows one NaN; that every bit of one that was lent stays is tested). Otherwise no element is a NaN, negative or
+ * infinite. */
 uint32_t carolsedge_effective_loss(uint32_t units, const uint32_t *losses, size_t losses_length,
                                    const double *probabilities, size_t probabilities_length,
                                    double *keys, size_t keys_length, double *plain, size_t plain_length);

@@ -1,4 +1,4 @@
-/* Functions with one fault each (FAULT, 1 to 27) in the place of the library's own, by the linker's --wrap: the forged
+/* Functions with one fault each (FAULT, 1 to 28) in the place of the library's own, by the linker's --wrap: the forged
  * calls have to notice every one. */
 #include <stddef.h>
 #include <stdint.h>
@@ -31,6 +31,8 @@ uint32_t __real_carolsedge_shelf_write(const uint8_t *, size_t, const uint32_t *
                                        uint64_t *);
 uint32_t __real_carolsedge_rtp_units(const uint16_t *, size_t, const uint8_t *, size_t, const uint64_t *, size_t,
                                      const uint16_t *, size_t, uint8_t *, size_t, uint64_t *);
+
+static const volatile double zero = 0;
 
 uint32_t __wrap_carolsedge_feed_capture(uint64_t *walk, uint8_t *kept, uint64_t *numbers, uint64_t *table,
                                         const uint8_t *piece, size_t length, uint64_t *value)
@@ -73,6 +75,8 @@ uint32_t __wrap_carolsedge_index(const uint64_t *numbers, const uint64_t *luma, 
         index->ip = 0;
     if (FAULT == 23 && !k) /* Ip without what was lost */
         index->ip = 1;
+    if (FAULT == 28 && k && index->value != index->value) /* another NaN for the one that was lent */
+        index->value = 0.0 / zero;
     return k;
 }
 

@@ -428,12 +428,23 @@ static uint32_t index_of(const uint64_t *c, const uint64_t *l, struct carolsedge
     return CAROLSEDGE_DONE;
 }
 
+/* Bits of three floats: any, or NaNs with payloads, quiet and signalling. */
+static void forge_floats(void *floats)
+{
+    uint64_t bits[3];
+    int wild = below(4) == 0;
+    for (int i = 0; i < 3; i++)
+        bits[i] = wild ? chance() : chance() | 0x7FF0000000000001;
+    memcpy(floats, bits, sizeof bits);
+}
+
 static void call_index(void)
 {
     const uint64_t *c = (const uint64_t *)(void *)at(&numbers), *l = (const uint64_t *)(void *)at(&luma);
     struct carolsedge_index right, *given = (struct carolsedge_index *)(void *)lend(&header, sizeof *given);
     uint64_t place, *value = (uint64_t *)(void *)lend(&lent, 8);
-    memset(&right, SLACK, sizeof right);
+    forge_floats(given);
+    memcpy(&right, given, sizeof right);
     uint32_t number = index_of(c, l, &right, &place);
     int guarded = below(16) == 0;
     if (guarded)

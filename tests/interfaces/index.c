@@ -1,5 +1,5 @@
-/* The index while feeding: its three parts, its refusals in order, and that a refusal leaves them. The exit status is
- * the number of the first case that does not hold. */
+/* The index while feeding: its three parts, its refusals in order, and that a refusal leaves every bit of them, also
+ * of NaNs. The exit status is the number of the first case that does not hold. */
 #include <stdint.h>
 #include <string.h>
 
@@ -7,13 +7,22 @@
 
 static struct carolsedge_sample sample;
 
-/* Whether the index is refused so, and what is lent stands. */
+/* Whether the index is refused so, and what is lent stands: numbers, and NaNs with payloads, quiet and signalling, of
+ * both signs. */
 static int refused(uint32_t number, uint64_t place)
 {
-    struct carolsedge_index index = {7, 8, 9};
-    uint64_t at = 77;
-    return carolsedge_sample_index(&sample, &index, &at) == number && at == place && index.ic == 7 && index.ip == 8 &&
-           index.value == 9;
+    static const uint64_t lent[][3] = {{0x401C000000000000, 0x8000000000000000, 1},
+                                       {0x7FF80000000000A5, 0xFFF8000000000001, 0x7FFFFFFFFFFFFFFF},
+                                       {0x7FF0000000000001, 0xFFF00000DEADBEEF, 0xFFF7FFFFFFFFFFFF}};
+    for (size_t i = 0; i < sizeof lent / sizeof *lent; i++) {
+        struct carolsedge_index index;
+        uint64_t at = 77;
+        memcpy(&index, lent[i], sizeof index);
+        if (carolsedge_sample_index(&sample, &index, &at) != number || at != place ||
+            memcmp(&index, lent[i], sizeof index) != 0)
+            return 0;
+    }
+    return 1;
 }
 
 static int given(double ic, double ip, double value)
