@@ -187,7 +187,8 @@ static inline uint32_t carolsedge_sample_repeats(const struct carolsedge_sample 
  * opening and every call come to goes to out, one behind the other: a byte 0 (done) or 1 (refused); the result, or
  * the refusal's number; 0, or its place, 64 bits each; and behind a seal's its whole buffer. An index has three
  * times 64 bits behind its byte: the bits of ic, ip and value, or number, place and 0. False where there is no
- * room for it all; out then stands. Proved: what is written is what the rules give for the whole list. */
+ * room for it all; out then stands. Proved: what is written is what the rules give for the whole list. Takes up to
+ * 65,536 bytes of stack: a whole sample stands there. */
 bool carolsedge_replay(const uint8_t *script, size_t length, uint8_t *out, size_t room);
 
 /* ---- a survey: which identifier of a capture has most good packets (docs/RULE.md, 21) */
@@ -343,7 +344,7 @@ uint32_t carolsedge_shelf_write(const uint8_t *records, size_t size, const uint3
  * packet in arrival order: its sequence number, marker (set if not 0), time and length. Unit rows of 32 bytes, laid
  * out as in a record, go to the front of the buffer, and *value is their number; bytes behind them stand. Refused: 25
  * unless there are 1 to 4,096 rows in equal lists, then 15 for a buffer that is too short, with the bytes needed in
- * *value; the buffer stands. Takes 64 KiB of stack. */
+ * *value; the buffer stands. Takes up to 67,584 bytes of stack. */
 uint32_t carolsedge_rtp_units(const uint16_t *sequence, size_t sequence_length, const uint8_t *marker,
                               size_t marker_length, const uint64_t *time, size_t time_length, const uint16_t *size,
                               size_t size_length, uint8_t *buffer, size_t length, uint64_t *value);

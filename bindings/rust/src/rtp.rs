@@ -5,7 +5,8 @@ use crate::{raw, Refusal};
 ///
 /// Unit rows of 32 bytes, laid out as in a record, go to the front of the buffer, and their number is given; bytes
 /// behind them stand. Refusal 25 is given unless there are 1 to 4,096 rows in equal lists, then 15 for a buffer that
-/// is too short, with the length needed as its place; both leave the buffer as it was. Takes 64 KiB of stack.
+/// is too short, with the length needed as its place; both leave the buffer as it was. Takes up to 67,584 bytes of
+/// stack.
 ///
 /// ```
 /// # fn main() -> Result<(), carolsedge::Refusal> {
