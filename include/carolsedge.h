@@ -3,7 +3,8 @@
  *
  * Link target/staticlib/libcarolsedge.a (rt staticlib carolsedge writes it, for x86-64 Linux). It needs memcpy and
  * memset, allocates nothing, keeps no memory of its own and does no input or output. Each function is proved to give
- * the number and the value that documents 01 and 02 give.
+ * the number and the value that documents 01 and 02 give; carolsedge_shelf_write, which is in neither, those that
+ * docs/RULE.md gives (25, clause 6).
  *
  * What a caller owes, of every call:
  *  - A pointer to an array or a structure is valid for the whole of it and aligned. A pointer with a length is valid
