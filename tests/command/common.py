@@ -13,6 +13,7 @@ PROGRAMS = {}
 
 def begin(folder):
     PROGRAMS["carolsedge"] = os.path.join(ROOT, "target", "bin", "carolsedge")
+    PROGRAMS["measure-again"] = os.path.join(ROOT, "target", "tests", "measure-again")
     for name in ("measure", "show", "sheet", "busiest"):
         PROGRAMS[name] = os.path.join(os.path.abspath(folder), name)
 
@@ -97,12 +98,14 @@ NEWEST = 4  # edition of the rules
 
 
 def proved(width, height, time, pid, capture, luma, edition=NEWEST):
-    """The record that the proved program makes."""
+    """The record that the proved program makes. What a reader may lean on (document 02, R-14) holds of it."""
     if os.path.lexists("proved.record"):
         os.remove("proved.record")
     words = [str(width), str(height), str(time), str(pid), capture, luma, "proved.record", str(edition)]
     status, out, err = run(*words, program="measure")
     check(out.startswith(b"sealed "), "the proved program: %s: %r %s" % (" ".join(words), out, err))
+    held = run("lean-record", capture, "proved.record", program="measure-again")
+    check(held[:2] == (0, b"lean: holds\n"), "what a reader may lean on: %s: %s" % (" ".join(words), held))
     return read("proved.record"), out
 
 

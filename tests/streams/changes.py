@@ -1,19 +1,25 @@
 #!/usr/bin/env python3
 """Compares the changes in our records of one stream with the temporal information that ffmpeg gives of its reduced
-pictures (ti.txt).
-Usage: changes.py FOLDER OF PROGRAMS, NAME WIDTH HEIGHT D PID, FOLDER TO WRITE TO, EDITION.
+pictures (ti.txt). What a reader may lean on (document 02, R-14) holds of each of them, and each two have the same unit
+rows.
+Usage: changes.py FOLDER OF PROGRAMS, INDEPENDENT PROGRAM, NAME WIDTH HEIGHT D PID, FOLDER TO WRITE TO, EDITION.
 Prints how many changes it compared."""
 import os
 import subprocess
 import sys
 
-programs, name, width, height, d, pid, made, edition = sys.argv[1:]
+programs, again, name, width, height, d, pid, made, edition = sys.argv[1:]
 here = os.path.dirname(os.path.abspath(__file__))
-record = os.path.join(made, "changes")
+record, before = os.path.join(made, "changes"), os.path.join(made, "before")
 
 
 def fail(text):
     sys.exit(f"streams: {name}: {text}")
+
+
+def lean(*words):
+    if subprocess.run([again, *words], stdout=subprocess.DEVNULL).returncode != 0:
+        fail("what a reader may lean on: " + " ".join(words))
 
 
 def scenes(luma):
@@ -24,7 +30,10 @@ def scenes(luma):
         fail(f"measure says '{said.strip()}' of {len(luma)} bytes of luma")
     with open(record, "rb") as file:
         text = subprocess.run([f"{programs}/show"], stdin=file, stdout=subprocess.PIPE).stdout.decode()
-    os.remove(record)
+    lean("lean-record", f"{here}/{name}.pcap", record)
+    if os.path.exists(before):
+        lean("lean-pair", before, record)
+    os.replace(record, before)
     rows = [line.split() for line in text.splitlines() if line.startswith("scene ")]
     return [(int(row[2]), int(row[3]), int(row[8])) for row in rows]
 
@@ -63,4 +72,5 @@ for first, count, total in last:
             f"the scene from picture {first} has the changes {total}, "
             f"its pictures {sum(changes[first : first + count])}"
         )
+os.remove(before)
 print(len(rows))
