@@ -182,8 +182,8 @@ fn read_word(words: &[Option<OsString>]) -> Result<Vec<u8>, Stop> {
     read(&mut Input::open(words[1].as_deref().unwrap_or(OsStr::new("")))?)
 }
 
-/// All bytes, but no more than it takes to see that they are too many: a shelf has as many as its word at 4 says, and no
-/// record has more than `RECORD_MOST`. With one more than both, each reader gives the refusal that all of them get.
+/// All bytes, but no more than it takes to see that they are too many: a shelf has as many as its word at 4 says, and
+/// no record has more than `RECORD_MOST`. With one more than both, each reader gives the refusal that all of them get.
 pub fn read(input: &mut Input) -> Result<Vec<u8>, Stop> {
     let mut bytes = input.up_to(8)?;
     let said = match bytes[..] {

@@ -1,5 +1,5 @@
-/* Repeats in a passage: the counts of true samples with known repeats, and every refusal of a count. The exit status is
- * the number of the first case that does not hold. */
+/* Repeats in a passage: the counts of true samples with known repeats, and every refusal of a count. The exit status
+ * is the number of the first case that does not hold. */
 #include <stdint.h>
 #include <string.h>
 
@@ -10,7 +10,7 @@ enum { SIDE = 30, PICTURE = SIDE * SIDE, MOST = 750 };
 static struct carolsedge_sample sample;
 static uint8_t picture[PICTURE];
 
-/* Runs of pictures alike, one behind the other; 75 in all, so that they fill one word of the map and begin the next. */
+/* Runs of pictures alike, one behind the other; 75 in all, so that they fill a word of the map and begin the next. */
 static const uint32_t runs[] = {1, 2, 3, 57, 2, 6, 4};
 enum { RUNS = sizeof runs / sizeof *runs, PICTURES = 75 };
 

@@ -3,8 +3,8 @@ use std::fmt;
 
 /// A call that was refused: the number of documents 01 and 02, 1 to 28, and the place.
 ///
-/// The place counts bytes from 0. Of 4 to 10 it is where the refusal shows (0 where 10 is about the busiest sample), of
-/// 11 and 13 how many bytes that side was fed, of 15 how long the lent buffer or table has to be (of a table in
+/// The place counts bytes from 0. Of 4 to 10 it is where the refusal shows (0 where 10 is about the busiest sample),
+/// of 11 and 13 how many bytes that side was fed, of 15 how long the lent buffer or table has to be (of a table in
 /// entries), of 28 the number of the record that is refused, and of all others 0.
 #[derive(Debug, Clone, Copy, PartialEq, Eq, Hash)]
 pub struct Refusal {

@@ -399,8 +399,8 @@ module _ {k : List ℕ} {s : Walk} {joined : List ℕ} (start : 24 ≤ length jo
     abbrev q : Packet
     q = packetAt joined b (cur ++ t)
 
-    -- its first four
-    module _ (early : s .got + length t ≤ 4) (any : 0 < length t) where
+    -- of which fewer than four were there
+    module _ (early : s .got < 4) (less : s .got + length t < 188) where
       passed-d : (d : ℕ) → 4 ≤ d → d ≤ 188 → reached d joined ≡ passed joined b
       passed-d d p l = now-short d (omega arith) l joined start b (s .left) (v .split) (omega (arith, cur-length some))
 
@@ -409,19 +409,19 @@ module _ {k : List ℕ} {s : Walk} {joined : List ℕ} (start : 24 ≤ length jo
           more-short d p l joined start b (s .left) (v .split) t fits-on (omega (arith, cur-t))
           ∙ sym (now-short d p l joined start b (s .left) (v .split) (omega (arith, cur-length some)))
 
-      pub cell-early : (n : ℕ) (piece : List ℕ) → (s .got + length t ≡ 4 → ⊥) → r .status ≡ s .status →
+      pub cell-early : (n : ℕ) (piece : List ℕ) → s .got + length t < 4 → r .status ≡ s .status →
           r .fed ≡ s .fed + length t → r .at ≡ s .at + length t → r .size ≡ s .size →
           r .got ≡ s .got + length t → r .left ≡ s .left → r .frames ≡ s .frames → r .skipped ≡ s .skipped →
           Passed k′ (record { taken = n; walk = r; event = Nothing }) piece joined (joined ++ t)
-      cell-early n piece ne rs rf ra rz rg rl rn rk =
+      cell-early n piece few rs rf ra rz rg rl rn rk =
           record {
             stands = goes-t (omega arith) rs rf ra rz rg rl rn rk;
-            tells = gains-none clear-t (still 4 (omega arith) (omega arith) (omega (arith, ne)))
+            tells = gains-none clear-t (still 4 (omega arith) (omega arith) (omega arith))
                 (still 188 (omega arith) (omega arith) (omega arith));
             calm = tt;
           }
 
-      pub cell-shown : (n : ℕ) (piece : List ℕ) (c : Cell) → s .got + length t ≡ 4 →
+      pub cell-shown : (n : ℕ) (piece : List ℕ) (c : Cell) → 4 ≤ s .got + length t →
           c ≡ headIn (frameTime k′) (s .fed - s .got) (drop 58 k′) → r .status ≡ s .status →
           r .fed ≡ s .fed + length t → r .at ≡ s .at + length t → r .size ≡ s .size → r .got ≡ s .got + length t →
           r .left ≡ s .left → r .frames ≡ s .frames →

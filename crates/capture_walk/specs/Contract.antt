@@ -143,7 +143,7 @@ pub record Span (s : Walk) (left : ℕ) (n : ℕ) : Type 0 where
   pub magic : s .fed < 4 → s .fed + n ≤ 4
   pub file : s .fed < 24 → s .fed + n ≤ 24
   pub front : 24 ≤ s .fed → s .at < 58 → Within (s .at) (s .size) n
-  pub early : 24 ≤ s .fed → 58 ≤ s .at → 0 < s .left → s .got < 4 → s .got + n ≤ 4
+  pub early : 24 ≤ s .fed → 58 ≤ s .at → 0 < s .left → s .got < 4 → s .got + n < 188
   pub cell : 24 ≤ s .fed → 58 ≤ s .at → 0 < s .left → 4 ≤ s .got → s .got < 188 → s .got + n ≤ 188
   pub body : 24 ≤ s .fed → 58 ≤ s .at → s .left ≡ 0 → s .size ≤ 65535 → s .at < 16 + s .size → s .at + n ≤ 16 + s .size
 

@@ -146,10 +146,10 @@ pub fn on_front(kept: &mut Collected, s: Walk, piece: &[u8], i: usize, n: u64) -
     }
 }
 
-// Bytes of a cell's first four: n of them, from byte i of the piece on.
+// Bytes of a cell of which fewer than four are there: n of them, from byte i of the piece on, and not up to its end.
 pub fn on_first(kept: &mut Collected, s: Walk, piece: &[u8], i: usize, n: u64) -> Step
-    requires { ⌜ (s .status ≡ 0) × (24 ≤ s .fed) × (s .fed + n ≤ 268435456) × (0 < n) × (58 ≤ s .at) × (0 < s .left)
-        × (s .got + n ≤ 4) × (i + n ≤ length (now piece)) ⌝ }
+    requires { ⌜ (s .status ≡ 0) × (24 ≤ s .fed) × (s .fed + n ≤ 268435456) × (58 ≤ s .at) × (0 < s .left)
+        × (s .got < 4) × (s .got + n < 188) × (i + n ≤ length (now piece)) ⌝ }
     ensures { λ r. ⌜ Goes (now (kept .entry)) s (now (piece .entry)) i n (now (kept .exit)) r ⌝ }
 {
     let got = s.got;
@@ -158,7 +158,7 @@ pub fn on_first(kept: &mut Collected, s: Walk, piece: &[u8], i: usize, n: u64) -
     r.fed = s.fed + n;
     r.at = std::num::wrapping_add_u64(s.at, n);
     r.got = got + n;
-    if got + n == 4 {
+    if 4 <= got + n {
         let time = capture_cells::time_of(kept);
         let c = capture_cells::head_at(kept, 58, time, s.fed - got);
         return Step {

@@ -139,12 +139,11 @@ on-first-requires c κs =
       c .before .before .before .before .before .before .before .before .before
           .before .if2 .left,
       p .limit,
-      p .some,
-      c .before .before .before .before .before .before .before .before .if3
-          .left,
+      c .before .before .before .before .before .before .before .before .if3 .left,
       l,
-      p .early (c .before .before .before .before .before .before .before .before .before .before .if2
-          .left) (c .before .before .before .before .before .before .before .before .if3 .left) l
+      c .before .if6 .taken,
+      p .early (c .before .before .before .before .before .before .before .before .before
+          .before .if2 .left) (c .before .before .before .before .before .before .before .before .if3 .left) l
           (c .before .if6 .taken),
       omega (arith, p .fits),
     )

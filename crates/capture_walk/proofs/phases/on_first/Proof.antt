@@ -49,12 +49,12 @@ returns c =
           let e : length t ≡ a .n = many-taken (a .piece .now) (a .i) (a .n) (k .7) in
           let z = at-live (k .0) (k .1) st in
           let m = z .1 .many in
-          let v = z .1 .under (omega (arith, m, k .4)) in
-          let kn = known (z .0) (z .1) (k .4) v in
-          cell-shown (z .0) (z .1) (k .4) v _ _ t
+          let v = z .1 .under (omega (arith, m, k .3)) in
+          let kn = known (z .0) (z .1) (k .3) v in
+          cell-shown (z .0) (z .1) (k .3) v _ _ t
           (gathered (z .1 .room) (k .7)
           (c .before .before .before .before .before .before .before .before .before .before .collect .ensures))
-          (rw e (k .2)) (k .5) (omega (arith, e, k .6)) (rw e (k .6)) (rw e (k .3)) _ _ _
+          (rw e (k .2)) (k .4) (omega (arith, e, k .6)) (k .5) (rw e (k .6)) _ _ _
           (rw e (c .before .before .before .before .before .before .before .if1 .taken)) (c .head-at .ensures .0
           ∙ rw (c .before .before .before .before .time-of .ensures)) refl (rw e refl) (at-is (kn .1) (kn .2)
           (omega (arith, e, k .6)) e
@@ -74,11 +74,11 @@ returns-2 c =
           let e : length t ≡ a .n = many-taken (a .piece .now) (a .i) (a .n) (k .7) in
           let z = at-live (k .0) (k .1) st in
           let m = z .1 .many in
-          let v = z .1 .under (omega (arith, m, k .4)) in
-          let kn = known (z .0) (z .1) (k .4) v in
-          cell-early (z .0) (z .1) (k .4) v _ _ t
-          (gathered (z .1 .room) (k .7) (c .before .before .before .collect .ensures)) (rw e (k .2)) (k .5)
-          (omega (arith, e, k .6)) (rw e (k .6)) (rw e (k .3)) _ _ (rw e (c .if1 .left)) refl (rw e refl)
+          let v = z .1 .under (omega (arith, m, k .3)) in
+          let kn = known (z .0) (z .1) (k .3) v in
+          cell-early (z .0) (z .1) (k .3) v _ _ t
+          (gathered (z .1 .room) (k .7) (c .before .before .before .collect .ensures)) (rw e (k .2)) (k .4)
+          (omega (arith, e, k .6)) (k .5) (rw e (k .6)) _ _ (rw e (c .if1 .left)) refl (rw e refl)
           (at-is (kn .1) (kn .2) (omega (arith, e, k .6)) e (c .before .wrapping-add-u64 .ensures)) refl
           (rw e refl) refl refl refl;
     }
