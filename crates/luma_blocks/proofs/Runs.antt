@@ -2,7 +2,7 @@
 use Prim.Native.Nat.{ℕ, _+_, _-_, _*_, _/_, _%_, _^_, _≤_, _<_}
 use native.Mathlib.Omega.{arith}
 use native.Mathlib.Nat.{add-zero, add-mul, zero-mul, div-eq-of-lt-le, le-div-iff-mul-le, mul-le-mul-right}
-use mathlib.Core.Path.{_≡_, refl, sym, _∙_}
+use mathlib.Core.Path.{_≡_, refl, sym, ap, _∙_}
 use mathlib.Core.Bool.{Bool, true, false}
 use mathlib.Core.List.{List, [], _++_}
 use lib.ListN.{length, getD, drop, set, length-drop, length-set}
@@ -11,7 +11,7 @@ use lib.Seq.{take-add, drop-drop, length-take-le, getD-set-same, getD-set-other}
 use borrow.Author.Tests.{eq-eqb, ne-eqb, eqb-true, eqb-false}
 use Rattle.rules.specs.Bytes.{total, tally}
 use Rattle.luma_laws.proofs.Tally.{tally-append, tally-all, tally-none}
-use Rattle.luma_blocks.specs.Sums.{run, inColumn, Added, Part, Blocks}
+use Rattle.luma_blocks.specs.Sums.{run, inColumn, Added, Part, Blocks, Both}
 
 pub run-length : (s : List ℕ) (at m : ℕ) → at + m ≤ length s → length (run s at m) ≡ m
 run-length s at m h = length-take-le m (drop at s) (simp length-drop (omega arith))
@@ -143,3 +143,108 @@ to-edge n w x c s at m head {a} {b} {d} hn lo edge fits l first rest =
     let more : m ≡ head + (m - head) = omega arith in
     rw (more, run-split s at head (m - head))
     (added-append (first n x hn lo (λ h. omega arith)) (rw (size, start) rest))
+
+-- ---- two rows
+
+pub both-none : (n w : ℕ) (s : List ℕ) (at below : ℕ) (a : List ℕ) →
+    Both n w (run s at (0 * n)) (run s below (0 * n)) a a
+unfolding tally
+both-none n w s at below a = rw (zero-mul n) (record { size = refl; grown = λ e c h. omega arith })
+
+joined : (v x y t u o p T U : ℕ) → v ≡ ((x + o) % 2 ^ 32 + p) % 2 ^ 32 → x % 2 ^ 32 ≡ (y + t + u) % 2 ^ 32 →
+    T ≡ t + o → U ≡ u + p → v % 2 ^ 32 ≡ (y + T + U) % 2 ^ 32
+joined v x y t u o p T U a b c d =
+    ap (λ (k : ℕ). k % 2 ^ 32) (a ∙ inner (x + o) p) ∙ twice (x + o + p) ∙ ap (λ (k : ℕ). k % 2 ^ 32) left
+    ∙ same x (y + t + u) (o + p) b ∙ ap (λ (k : ℕ). k % 2 ^ 32) right
+  where
+    inner : (k m : ℕ) → (k % 2 ^ 32 + m) % 2 ^ 32 ≡ (k + m) % 2 ^ 32
+    inner k m = omega arith
+
+    twice : (k : ℕ) → k % 2 ^ 32 % 2 ^ 32 ≡ k % 2 ^ 32
+    twice k = omega arith
+
+    same : (k l m : ℕ) → k % 2 ^ 32 ≡ l % 2 ^ 32 → (k + m) % 2 ^ 32 ≡ (l + m) % 2 ^ 32
+    same k l m e = omega arith
+
+    left : x + o + p ≡ x + (o + p)
+    left = omega arith
+
+    right : y + t + u + (o + p) ≡ y + T + U
+    right = omega (arith, c, d)
+
+-- one block of each more, behind the first j
+pub both-more : {n w j v : ℕ} (s : List ℕ) (at below : ℕ) {b a : List ℕ} →
+    Both n w (run s at (j * n)) (run s below (j * n)) b a → j < w → w ≤ 240 → at + (j * n + n) ≤ length s →
+    below + (j * n + n) ≤ length s →
+    v ≡ ((getD a j 0 + total (run s (at + j * n) n)) % 2 ^ 32 + total (run s (below + j * n) n)) % 2 ^ 32 →
+    Both n w (run s at ((j + 1) * n)) (run s below ((j + 1) * n)) b (set a j v)
+both-more {n} {w} {j} {v} s at below {b} {a} f h k l m e =
+    record {
+      size = length-set a j v ∙ f .size;
+      grown = λ z d y.
+          rw (up, run-split s at (j * n) n, run-split s below (j * n) n)
+          (grows z d y (eqb j d) refl);
+    }
+  where
+    up : (j + 1) * n ≡ j * n + n
+    up = omega (arith, add-mul j 1 n)
+
+    grows : length b ≡ 240 → (d : ℕ) → d < w → (r : Bool) → eqb j d ≡ r →
+        getD (set a j v) d 0 % 2 ^ 32
+        ≡ (getD b d 0 + tally (inColumn n d) 0 (run s at (j * n) ++ run s (at + j * n) n)
+        + tally (inColumn n d) 0 (run s below (j * n) ++ run s (below + j * n) n)) % 2 ^ 32
+    grows z d y true q =
+        let same : j ≡ d = eqb-true j d q in
+        let t = run s (at + j * n) n in
+        let u = run s (below + j * n) n in
+        let first : length (run s at (j * n)) ≡ j * n = run-length s at (j * n) (omega arith) in
+        let second : length (run s below (j * n)) ≡ j * n = run-length s below (j * n) (omega arith) in
+        let long : length t ≡ n = run-length s (at + j * n) n (omega arith) in
+        let long-2 : length u ≡ n = run-length s (below + j * n) n (omega arith) in
+        let zero : 0 + j * n ≡ j * n = omega arith in
+        let gives : tally (inColumn n j) 0 (run s at (j * n) ++ t)
+        ≡ tally (inColumn n j) 0 (run s at (j * n)) + total t =
+        rw (first, zero) at (tally-append (inColumn n j) 0 (run s at (j * n)) t)
+        ∙ ap (λ (x : ℕ). tally (inColumn n j) 0 (run s at (j * n)) + x)
+        (own n j (j * n) t (omega arith) (omega arith)) in
+        let gives-2 : tally (inColumn n j) 0 (run s below (j * n) ++ u)
+        ≡ tally (inColumn n j) 0 (run s below (j * n)) + total u =
+        rw (second, zero) at (tally-append (inColumn n j) 0 (run s below (j * n)) u)
+        ∙ ap (λ (x : ℕ). tally (inColumn n j) 0 (run s below (j * n)) + x)
+        (own n j (j * n) u (omega arith) (omega arith)) in
+        rw (← same, getD-set-same a j v 0 (omega (arith, f .size)))
+        (joined v (getD a j 0) (getD b j 0) _ _ _ _ _ _ e (f .grown z j h) gives gives-2)
+    grows z d y false q =
+        let t = run s (at + j * n) n in
+        let u = run s (below + j * n) n in
+        let first : length (run s at (j * n)) ≡ j * n = run-length s at (j * n) (omega arith) in
+        let second : length (run s below (j * n)) ≡ j * n = run-length s below (j * n) (omega arith) in
+        let long : length t ≡ n = run-length s (at + j * n) n (omega arith) in
+        let long-2 : length u ≡ n = run-length s (below + j * n) n (omega arith) in
+        let zero : 0 + j * n ≡ j * n = omega arith in
+        rw (getD-set-other a j d v 0 (λ x. eqb-false j d q (sym x)))
+        (omega (
+          arith,
+          f .grown z d y,
+          rw (first, zero) at (tally-append (inColumn n d) 0 (run s at (j * n)) t),
+          rw (second, zero) at (tally-append (inColumn n d) 0 (run s below (j * n)) u),
+          others n j d (j * n) t (omega arith) (omega arith) (eqb-false j d q),
+          others n j d (j * n) u (omega arith) (omega arith) (eqb-false j d q),
+        ))
+
+-- all of a row gives to the first w block columns what their w × n bytes give
+pub row-gives : (n w c W : ℕ) (s : List ℕ) (at : ℕ) → 0 < n → c < w → w * n ≤ W → at + W ≤ length s →
+    tally (inColumn n c) 0 (run s at W) ≡ tally (inColumn n c) 0 (run s at (w * n))
+row-gives n w c W s at some h k l =
+    let rest = W - w * n in
+    let e : W ≡ w * n + rest = omega arith in
+    let long : length (run s at (w * n)) ≡ w * n = run-length s at (w * n) (omega arith) in
+    let zero : 0 + w * n ≡ w * n = omega arith in
+    let split : run s at W ≡ run s at (w * n) ++ run s (at + w * n) rest =
+    ap (λ (m : ℕ). run s at m) e ∙ run-split s at (w * n) rest in
+    rw split
+    (omega (
+      arith,
+      rw (long, zero) at (tally-append (inColumn n c) 0 (run s at (w * n)) (run s (at + w * n) rest)),
+      past n w c (w * n) (run s (at + w * n) rest) some (omega arith) h,
+    ))

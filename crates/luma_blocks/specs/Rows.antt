@@ -41,6 +41,19 @@ pub record Going (W n w row col : ℕ) (piece before : List ℕ) (r : Spot) (aft
   pub sums : (b : ℕ) (p : List ℕ) → length p ≡ (b * n + row) * W + col → SumsOf W n w b p before →
       SumsOf W n w b (p ++ take (r .used) piece) after
 
+-- two whole rows of the block row come next, all blocks of which are there
+pub record TwoNext (W n w : ℕ) (p : Spot) (size : ℕ) : Type 0 where
+  pub col : p .col ≡ 0
+  pub below : p .row + 2 ≤ n
+  pub wide : w * n ≤ W
+  pub there : p .used + 2 * W ≤ size
+
+-- from one place to a later one, whatever was taken in before
+pub record Onward (W n w : ℕ) (piece : List ℕ) (p : Spot) (before : List ℕ) (r : Spot) (after : List ℕ) : Type 0 where
+  pub some : p .used < r .used
+  pub goes : (row col : ℕ) (first : List ℕ) → Going W n w row col piece first p before →
+      Going W n w row col piece first r after
+
 -- and the piece or the block row is at its end
 pub record FedRows (W n w row col : ℕ) (piece before : List ℕ) (r : Spot) (after : List ℕ) : Type 0 where
   pub going : Going W n w row col piece before r after

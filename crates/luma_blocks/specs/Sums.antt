@@ -57,6 +57,21 @@ pub record Lined (n c k : ℕ) (s : List ℕ) (at : ℕ) : Type 0 where
   pub room : c + k ≤ 240
   pub inside : at + k * n ≤ length s
 
+-- The sums `after` are the sums `before` with two runs added, t of one row and u of another, both from column 0 on
+pub record Both (n w : ℕ) (t u before after : List ℕ) : Type 0 where
+  pub size : length after ≡ length before
+  pub grown : length before ≡ 240 → (c : ℕ) → c < w →
+      getD after c 0 % 2 ^ 32
+      ≡ (getD before c 0 + tally (inColumn n c) 0 t + tally (inColumn n c) 0 u) % 2 ^ 32
+
+-- what `whole_two` asks: k blocks of n bytes, of s from `at` on and from `below` on
+pub record Stacked (n k : ℕ) (s : List ℕ) (at below : ℕ) : Type 0 where
+  pub some : 0 < n
+  pub few : n ≤ 64
+  pub room : k ≤ 240
+  pub inside : at + k * n ≤ length s
+  pub inside-2 : below + k * n ≤ length s
+
 -- t bytes within block column c, wherever they stand in it and however wide it is
 abbrev pub Part : ℕ → ℕ → List ℕ → ℕ → ℕ → List ℕ → List ℕ → Type 0
 Part w c s at t before after =

@@ -1,10 +1,11 @@
 // Sums of the blocks of a picture whose bytes come in pieces.
 ghost use mathlib.Core.Path.{_≡_};
+ghost use mathlib.Core.Bool.{true};
 ghost use Prim.Native.Nat.{_+_, _*_, _/_, _%_, _^_, _≤_, _<_};
 ghost use lib.ListN.{length};
 ghost use Rattle.rules.specs.Bytes.{total};
-ghost use Rattle.luma_blocks.specs.Sums.{run, Added, Laid, Edged, Least, Part, Lined, Blocks};
-ghost use Rattle.luma_blocks.specs.Rows.{Ready, Advanced, FedRows};
+ghost use Rattle.luma_blocks.specs.Sums.{run, Added, Laid, Edged, Least, Part, Lined, Blocks, Both, Stacked};
+ghost use Rattle.luma_blocks.specs.Rows.{Ready, Advanced, TwoNext, Onward, FedRows};
 ghost use Rattle.luma_blocks.specs.Pixels.{Finishing, RowDone};
 
 // Block columns that the sums have room for, and pixels that a picture has room for: 239 and 14,101 at most.
@@ -167,6 +168,83 @@ fn advance(width: usize, p: Spot, t: usize) -> Spot
     }
 }
 
+// Adds k whole blocks of n bytes of each of two rows, of s from `at` and from `below` on, to the first k sums.
+fn whole_two(sums: &mut Sums, k: usize, s: &[u8], at: usize, below: usize, n: usize)
+    requires { ⌜ Stacked n k (now s) at below ⌝ }
+    ensures { λ _. ⌜ Both n k (run (now (s .entry)) at (k * n)) (run (now (s .entry)) below (k * n))
+        (now (sums .entry)) (now (sums .exit)) ⌝ }
+{
+    let mut from = at;
+    let mut under = below;
+    let mut j: usize = 0;
+    while j < k {
+        let d = run_sum(s, from, n);
+        let e = run_sum(s, under, n);
+        let first = std::num::wrapping_add_u32(sums[j], d);
+        sums[j] = std::num::wrapping_add_u32(first, e);
+        from += n;
+        under += n;
+        j += 1;
+    }
+}
+
+// The same, by constant widths.
+fn blocks_two(sums: &mut Sums, k: usize, s: &[u8], at: usize, below: usize, n: usize)
+    requires { ⌜ Stacked n k (now s) at below ⌝ }
+    ensures { λ _. ⌜ Both n k (run (now (s .entry)) at (k * n)) (run (now (s .entry)) below (k * n))
+        (now (sums .entry)) (now (sums .exit)) ⌝ }
+{
+    if n == 32 {
+        whole_two(sums, k, s, at, below, 32);
+    } else if n == 16 {
+        whole_two(sums, k, s, at, below, 16);
+    } else if n == 8 {
+        whole_two(sums, k, s, at, below, 8);
+    } else {
+        whole_two(sums, k, s, at, below, n);
+    }
+}
+
+// Whether two whole rows come next, of `size` bytes in all. Blocks of fewer than 8 columns are faster row by row.
+fn two_next(n: usize, w: usize, width: usize, p: Spot, size: usize) -> bool
+    requires { ⌜ (Ready width n w (p .row) (p .col)) × (p .used ≤ size) ⌝ }
+    ensures { λ r. ⌜ (r ≡ true → TwoNext width n w p size) ⌝ }
+{
+    if n < 8 {
+        return false;
+    }
+    if p.col != 0 {
+        return false;
+    }
+    if n < p.row + 2 {
+        return false;
+    }
+    if width < w * n {
+        return false;
+    }
+    2 * width <= size - p.used
+}
+
+// Some bytes of a block row: two whole rows together, whose sums are added at once, or up to the end of the row or of
+// the piece.
+fn take_some(sums: &mut Sums, n: usize, w: usize, width: usize, p: Spot, piece: &[u8]) -> Spot
+    requires { ⌜ (Ready width n w (p .row) (p .col)) × (p .used < length (now piece)) ⌝ }
+    ensures { λ r. ⌜ Onward width n w (now (piece .entry)) p (now (sums .entry)) r (now (sums .exit)) ⌝ }
+{
+    if two_next(n, w, width, p, piece.len()) {
+        let below = p.used + width;
+        blocks_two(sums, w, piece, p.used, below, n);
+        return Spot {
+            row: p.row + 2,
+            col: 0,
+            used: below + width,
+        };
+    }
+    let t = least(width - p.col, piece.len() - p.used);
+    add_run(sums, n, w, p.col, piece, p.used, t);
+    advance(width, p, t)
+}
+
 // Takes in a piece from a place of a block row on, up to the end of the piece or of the block row.
 pub fn feed_rows(
     sums: &mut Sums,
@@ -189,9 +267,7 @@ pub fn feed_rows(
         if p.row == n {
             return p;
         }
-        let t = least(width - p.col, piece.len() - p.used);
-        add_run(sums, n, w, p.col, piece, p.used, t);
-        p = advance(width, p, t);
+        p = take_some(sums, n, w, width, p, piece);
     }
     p
 }

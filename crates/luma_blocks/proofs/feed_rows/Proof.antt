@@ -3,7 +3,7 @@ use native.Mathlib.Omega.{arith}
 use lib.ListN.{length}
 use borrow.Author.Needs.{needs}
 use Rattle.luma_blocks.specs.Rows.{Going}
-use Rattle.luma_blocks.proofs.Rows.{going-none, going-more}
+use Rattle.luma_blocks.proofs.Rows.{going-none}
 use Rattle.luma_blocks.proofs.feed_rows.Statement.{statement}
 use Rattle.luma_blocks.proofs.feed_rows.Tie as tie
 
@@ -19,38 +19,26 @@ loop-holds c = going-none _ _ _ _ _ _ _ (omega arith) (omega arith)
 returns : tie.Need-returns Inv-loop μ-loop
 returns c = record { going = c .before .before .before .before .loop .inv; all = λ h. c .if2 .taken }
 
-sub-least : tie.Need-sub-least Inv-loop μ-loop
-sub-least c = omega arith
-
-sub-least-2 : tie.Need-sub-least-2 Inv-loop μ-loop
-sub-least-2 c = omega arith
-
-least-requires : tie.Need-least-requires Inv-loop μ-loop
-least-requires c κs = search needs
-
-add-run-requires : tie.Need-add-run-requires Inv-loop μ-loop
-add-run-requires c κs = search needs
-
-advance-requires : tie.Need-advance-requires Inv-loop μ-loop
-advance-requires c κs = search needs
+take-some-requires : tie.Need-take-some-requires Inv-loop μ-loop
+take-some-requires c κs =
+    let p = c .before .before .before .before .before .before .before .pre in
+    let l = c .before .before .before .before .before .loop in (
+      record {
+        some = p .some;
+        few = p .few;
+        room = p .room;
+        wide = p .wide;
+        above = omega (arith, l .inv .below, c .before .if2 .left);
+        left = l .inv .left;
+      },
+      omega arith,
+    )
 
 loop-less : tie.Need-loop-less Inv-loop μ-loop
-loop-less c =
-    let l = c .before .before .before .before .before .before .before .before .before .before .loop in
-    let a = c .before .before .before .before .before .before .before .before .before .before .before .before .args in
-    let left : 0 < a .width - l .p .col = omega arith in
-    let rest : 0 < length (a .piece .now) - l .p .used = omega arith in
-    omega (arith, c .before .before .before .least .ensures .some left rest)
+loop-less c = omega (arith, c .take-some .ensures .some)
 
 loop-again : tie.Need-loop-again Inv-loop μ-loop
-loop-again c =
-    let l = c .before .before .before .before .before .before .before .before .before .before .loop in
-    let a = c .before .before .before .before .before .before .before .before .before .before .before .before .args in
-    let t = c .before .before .before .least .result in
-    let above : l .p .row < a .n = omega (arith, c .before .before .before .before .before .before .if2 .left) in
-    let fits : l .p .col + t ≤ a .width = omega arith in
-    let here : l .p .used + t ≤ length (a .piece .now) = omega arith in
-    going-more t (l .inv) above fits here (c .before .add-run .ensures) (c .advance .ensures)
+loop-again c = c .take-some .ensures .goes _ _ _ (c .before .before .before .before .before .before .loop .inv)
 
 returns-2 : tie.Need-returns-2 Inv-loop μ-loop
 returns-2 c = record { going = c .before .before .loop .inv; all = λ h. omega arith }
@@ -63,11 +51,7 @@ feed-rows-spec =
     μ-loop
     loop-holds
     returns
-    sub-least
-    sub-least-2
-    least-requires
-    add-run-requires
-    advance-requires
+    take-some-requires
     loop-less
     loop-again
     returns-2)
