@@ -181,18 +181,26 @@ module _ (n place : ℕ) (r : List ℕ) (e : n ≡ place + length r) where
             (shows n 8 (place + 11) (ltb 65535 (storedLength r)) (omega arith) (b .1));
       }
 
-  pub header-seven : length r ≡ 8 → 999999 < microseconds r → wrongFrameHeader n place r ≡ fault 7 (place + 7)
-  unfolding wrongFrameHeader
-  header-seven l h =
-      rw (shows-not n 8 (place + 11) (ltb 65535 (storedLength r)) (λ g. absurd (omega arith)))
-      (unfold showing in rw (lt-ltb (place + 7) n (omega arith), lt-ltb 999999 (microseconds r) h))
+  seven-shown : 8 ≤ length r → 999999 < microseconds r → wrongFrameHeader n place r ≡ fault 7 (place + 7)
+  unfolding wrongFrameHeader showing
+  seven-shown l h =
+      rw (lt-ltb (place + 7) n (omega arith), lt-ltb 999999 (microseconds r) h)
+      (go (ltb (place + 11) n && ltb 65535 (storedLength r)))
+    where
+      go : (b : Bool) → earlier (fault 7 (place + 7)) (pick b (fault 8 (place + 11)) none) ≡ fault 7 (place + 7)
+      go true = rw (le-leb (place + 7) (place + 11) (omega arith))
+      go false = refl
 
-  pub header-eight : length r ≡ 12 → microseconds r ≤ 999999 → 65535 < storedLength r →
+  eight-shown : 12 ≤ length r → microseconds r ≤ 999999 → 65535 < storedLength r →
       wrongFrameHeader n place r ≡ fault 8 (place + 11)
-  unfolding wrongFrameHeader
-  header-eight l g h =
-      rw (shows-not n 7 (place + 7) (ltb 999999 (microseconds r)) (λ k. le-ltb 999999 (microseconds r) g))
-      (unfold showing in rw (lt-ltb (place + 11) n (omega arith), lt-ltb 65535 (storedLength r) h))
+  unfolding wrongFrameHeader showing
+  eight-shown l g h =
+      rw (
+        lt-ltb (place + 7) n (omega arith),
+        le-ltb 999999 (microseconds r) g,
+        lt-ltb (place + 11) n (omega arith),
+        lt-ltb 65535 (storedLength r) h,
+      )
 
 header-same : (n n′ place : ℕ) (f : List ℕ) → place + 11 < n → n ≤ n′ →
     wrongFrameHeader n′ place f ≡ wrongFrameHeader n place f
@@ -300,14 +308,14 @@ module _ (s t : List ℕ) (h : 24 ≤ length s) (fits : length (unfinished s ++ 
   pub next-none : Fine (unfinished s ++ t) → formatFault (s ++ t) ≡ none
   next-none f = shows-next ∙ header-fine (length (s ++ t)) (base s) (unfinished s ++ t) at-end f
 
-  pub next-seven : length (unfinished s ++ t) ≡ 8 → 999999 < microseconds (unfinished s ++ t) →
+  pub next-seven : 8 ≤ length (unfinished s ++ t) → 999999 < microseconds (unfinished s ++ t) →
       formatFault (s ++ t) ≡ fault 7 (base s + 7)
-  next-seven l g = shows-next ∙ header-seven (length (s ++ t)) (base s) (unfinished s ++ t) at-end l g
+  next-seven l g = shows-next ∙ seven-shown (length (s ++ t)) (base s) (unfinished s ++ t) at-end l g
 
-  pub next-eight : length (unfinished s ++ t) ≡ 12 → microseconds (unfinished s ++ t) ≤ 999999 →
+  pub next-eight : 12 ≤ length (unfinished s ++ t) → microseconds (unfinished s ++ t) ≤ 999999 →
       65535 < storedLength (unfinished s ++ t) →
       formatFault (s ++ t) ≡ fault 8 (base s + 11)
-  next-eight l g k = shows-next ∙ header-eight (length (s ++ t)) (base s) (unfinished s ++ t) at-end l g k
+  next-eight l g k = shows-next ∙ eight-shown (length (s ++ t)) (base s) (unfinished s ++ t) at-end l g k
 
 -- ---- the file header
 

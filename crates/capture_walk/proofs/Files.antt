@@ -16,7 +16,6 @@ use Rattle.rules.specs.Capture.{earlier, wrongMagic, wrongLink}
 use Rattle.capture_laws.proofs.Onward.{header-alone}
 use Rattle.capture_laws.proofs.Flow.{reached}
 use Rattle.capture_laws.proofs.Format.{magic-more, magic-early, link-early, magic-shown, link-shown, reached-none}
-use Rattle.capture_laws.proofs.Format.{Sound, sound-of, header-shows}
 use Rattle.capture_cells.specs.Cells.{isMagic}
 use Rattle.capture_cells.proofs.Agree.{magic-agree, link-agree}
 use Rattle.capture_walk.specs.declared.types.Walk.{Walk}
@@ -24,6 +23,7 @@ use Rattle.capture_walk.specs.declared.types.Event.the-variants.{Nothing
 use Rattle.capture_walk.specs.Format.{formatFault}
 use Rattle.capture_walk.specs.State.{Head, Core, Stands, head, live}
 use Rattle.capture_walk.specs.Contract.{Passed}
+use Rattle.capture_laws.proofs.Format.{Sound, sound-of, header-shows}
 use Rattle.capture_walk.proofs.Lists.{shown-same, gains-none}
 use Rattle.capture_walk.proofs.Front.{Placed, Held, held-agree, held-more}
 use Rattle.capture_walk.proofs.Pieces.{refuse-now}
@@ -164,8 +164,7 @@ module _ {k : List ℕ} {s : Walk} {joined : List ℕ} (u : Head k s joined) (k�
       let g = link-agree (held-agree 24 held (omega (arith, size)) (omega arith)) (omega arith) in
       let m = ne-eqb (word32 a 20) 1 (λ x. e (g ∙ x)) in
       refuse-now n 6 23 stood (shows ∙ rw (magic-kept later, link-shown a (omega (arith, size)), m))
-      (omega arith) rs rp
-      (shown-same joined a (nothing 4 (omega arith) (omega arith)))
+      (omega arith) rs rp (shown-same joined a (nothing 4 (omega arith) (omega arith)))
     where
       later : 4 ≤ s .fed
       later = go (decLt (s .fed) 4)

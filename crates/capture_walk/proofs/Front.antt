@@ -23,7 +23,7 @@ use Rattle.capture_walk.specs.State.{Under, Core, Stands}
 use Rattle.capture_walk.specs.Contract.{Carried, Within, Taken, Settles, Gains, Passed}
 use Rattle.capture_laws.proofs.Format.{Sound, sound-of, fine-now, next-none, next-seven, next-eight}
 use Rattle.capture_walk.proofs.Lists.{shown-same, gains-none}
-use Rattle.capture_walk.proofs.Fits.{stored-more, fine-run, time-behind, fits-run}
+use Rattle.capture_walk.proofs.Fits.{stored-more, fine-skip, fits-run}
 use Rattle.capture_walk.proofs.Pieces.{refuse-now}
 
 -- ---- collected bytes: those of t, from the place at on; those before stay
@@ -66,7 +66,7 @@ held-more {k} {k′} {r} {t} h p = record { held = λ i x y. go i x y (decLt i (
 
 module _ {k : List ℕ} {s : Walk} {joined : List ℕ} (start : 24 ≤ length joined)
     (u : Core k s (wholeFrames joined) (unfinished joined) joined)
-    (k′ : List ℕ) (r : Walk) (t : List ℕ) (some : 0 < length t) (pl : Placed k (s .at) t k′)
+    (k′ : List ℕ) (r : Walk) (t : List ℕ) (pl : Placed k (s .at) t k′)
     (v : Within (s .at) (s .size) (length t))
     (room : s .fed + length t ≤ 268435456) where
   many : length (unfinished joined ++ t) ≡ s .at + length t
@@ -137,79 +137,78 @@ module _ {k : List ℕ} {s : Walk} {joined : List ℕ} (start : 24 ≤ length jo
           calm = tt;
         }
 
-    -- L is not there yet, or is there already
-    size-kept : (s .at + length t ≡ 12 → ⊥) → r .size ≡ s .size → 12 ≤ s .at + length t →
-        r .size ≡ storedLength (unfinished joined ++ t)
-    size-kept x e h =
-        let m = u .many in
-        let g : 12 ≤ length (unfinished joined) = go (decLe 12 (length (unfinished joined))) in
-        e ∙ u .size g ∙ sym (stored-more (unfinished joined) t g)
-      where
-        go : Dec (12 ≤ length (unfinished joined)) → 12 ≤ length (unfinished joined)
-        go (yes d) = d
-        go (no d) = let f = field .stored (omega arith) in let m = u .many in absurd (x (omega arith))
+    -- of the header
+    pub header-on : s .at + length t ≤ 16 → (8 ≤ s .at + length t → microseconds k′ ≤ 999999) →
+        (12 ≤ s .at + length t → (storedLength k′ ≤ 65535) × (r .size ≡ storedLength k′)) → Here
+    header-on e m z =
+        done (taken
+        (record {
+          time = λ x.
+              let g = micro-agree (held-agree 8 held x (omega arith)) (omega arith) in
+              let h = m (omega (arith, many)) in
+              omega arith;
+          size = λ x.
+              let g = stored-agree (held-agree 12 held x (omega arith)) (omega arith) in
+              let h = z (omega (arith, many)) .0 in
+              omega arith;
+        })
+        (λ x. z x .1 ∙ stored-agree (held-agree 12 held (omega (arith, many)) (omega arith)) (omega arith))
+        (λ x. absurd (omega arith)))
 
-    fine-plain : (s .at + length t ≡ 8 → ⊥) → (s .at + length t ≡ 12 → ⊥) → Fine (unfinished joined ++ t)
-    fine-plain x m = fine-run (unfinished joined) t (s .size) fine field (λ e. absurd (x (sym many ∙ e)))
-        (λ e. absurd (m (sym many ∙ e)))
+    -- behind it
+    module _ (late : 16 ≤ s .at) (e : r .size ≡ s .size) where
+      known : 12 ≤ length (unfinished joined)
+      known = let m = u .many in omega arith
 
-    pub front-plain : (s .at + length t ≡ 8 → ⊥) → (s .at + length t ≡ 12 → ⊥) → (s .at + length t ≡ 58 → ⊥) →
-        r .size ≡ s .size → Here
-    front-plain x m g e =
-        done (taken (fine-plain x m) (size-kept m e) (λ h. let f = v .front in absurd (g (omega arith))))
+      fine-on : Fine (unfinished joined ++ t)
+      fine-on = fine-skip (unfinished joined) t known fine
 
-    -- the end of the microseconds
-    pub front-time : s .at + length t ≡ 8 → microseconds k′ ≤ 999999 → Here
-    front-time e h =
-        let g = micro-agree (held-agree 8 held (omega (arith, many)) (omega arith)) (omega arith) in
-        done (taken (fine-run (unfinished joined) t (s .size) fine field (λ x. omega arith)
-        (λ x. absurd (omega (arith, many)))) (λ x. absurd (omega arith)) (λ x. absurd (omega arith)))
+      size-on : r .size ≡ storedLength (unfinished joined ++ t)
+      size-on = e ∙ u .size known ∙ sym (stored-more (unfinished joined) t known)
 
-    -- the end of L
-    pub front-size : s .at + length t ≡ 12 → storedLength k′ ≤ 65535 → r .size ≡ storedLength k′ → Here
-    front-size e h z =
-        let g = stored-agree (held-agree 12 held (omega (arith, many)) (omega arith)) (omega arith) in
-        done (taken (fine-run (unfinished joined) t (s .size) fine field (λ x. absurd (omega (arith, many)))
-        (λ x. omega arith)) (λ x. z ∙ g) (λ x. absurd (omega arith)))
+      pub front-plain : (s .at + length t ≡ 58 → ⊥) → Here
+      front-plain g =
+          done (taken fine-on (λ x. size-on) (λ h. let f = v .front in absurd (g (omega arith))))
 
-    -- the last of the first 42 bytes: the cells come next
-    pub front-last : s .at + length t ≡ 58 → r .size ≡ s .size → r .left ≡ countOf k′ → r .got ≡ 0 → Here
-    front-last e z l g =
-        let there : 58 ≤ length (unfinished joined ++ t) = omega (arith, many) in
-        let c : r .left ≡ countOf (unfinished joined ++ t) =
-        l ∙ count-agree (held-agree 58 held there (omega arith)) (omega arith) in
-        done
-        (taken (fine-plain (λ x. omega arith) (λ x. omega arith)) (size-kept (λ x. omega arith) z)
-        (λ h.
-        record {
-          behind = 0;
-          split = record { there = there; count = omega (arith, c); past = omega (arith, there) };
-          going = λ x. omega (arith, many);
-          part = λ x. omega arith;
-          first = λ x i y w. absurd (omega arith);
-        }))
+      -- the last of the first 42 bytes: the cells come next
+      pub front-last : s .at + length t ≡ 58 → r .left ≡ countOf k′ → r .got ≡ 0 → Here
+      front-last f l g =
+          let there : 58 ≤ length (unfinished joined ++ t) = omega (arith, many) in
+          let c : r .left ≡ countOf (unfinished joined ++ t) =
+          l ∙ count-agree (held-agree 58 held there (omega arith)) (omega arith) in
+          done
+          (taken fine-on (λ x. size-on)
+          (λ h.
+          record {
+            behind = 0;
+            split = record { there = there; count = omega (arith, c); past = omega (arith, there) };
+            going = λ x. omega (arith, many);
+            part = λ x. omega arith;
+            first = λ x i y w. absurd (omega arith);
+          }))
 
   -- 7 and 8
   hushed : shownCells (joined ++ t) ≡ shownCells joined
   hushed = shown-same joined (joined ++ t) (quiet 4 (omega arith) (omega arith))
 
-  pub front-bad-time : (n : ℕ) (piece : List ℕ) → s .at + length t ≡ 8 → 999999 < microseconds k′ → r .status ≡ 7 →
-      r .place ≡ s .fed + (length t - 1) →
+  pub front-bad-time : (n : ℕ) (piece : List ℕ) → 8 ≤ s .at + length t → 999999 < microseconds k′ → r .status ≡ 7 →
+      r .place ≡ s .fed + 7 - s .at →
       Passed k′ (record { taken = n; walk = r; event = Refused }) piece joined (joined ++ t)
   front-bad-time n piece e h rs rp =
+      let f = v .front in
       let g = micro-agree (held-agree 8 held (omega (arith, many)) (omega arith)) (omega arith) in
-      refuse-now n 7 (base joined + 7) stood (next-seven joined t start fits few sound (omega (arith, many))
-      (omega arith))
+      refuse-now n 7 (base joined + 7) stood
+      (next-seven joined t start fits few sound (omega (arith, many)) (omega arith))
       (omega arith) rs (rp ∙ omega (arith, place-now, u .many)) hushed
 
-  pub front-bad-size : (n : ℕ) (piece : List ℕ) → s .at + length t ≡ 12 → 65535 < storedLength k′ → r .status ≡ 8 →
-      r .place ≡ s .fed + (length t - 1) →
+  pub front-bad-size : (n : ℕ) (piece : List ℕ) → 12 ≤ s .at + length t → microseconds k′ ≤ 999999 →
+      65535 < storedLength k′ → r .status ≡ 8 → r .place ≡ s .fed + 11 - s .at →
       Passed k′ (record { taken = n; walk = r; event = Refused }) piece joined (joined ++ t)
-  front-bad-size n piece e h rs rp =
+  front-bad-size n piece e m h rs rp =
+      let f = micro-agree (held-agree 8 held (omega (arith, many)) (omega arith)) (omega arith) in
       let g = stored-agree (held-agree 12 held (omega (arith, many)) (omega arith)) (omega arith) in
       refuse-now n 8 (base joined + 11) stood
-      (next-eight joined t start fits few sound (omega (arith, many))
-      (time-behind (unfinished joined) t (s .size) fine field (many ∙ e) some) (omega arith))
+      (next-eight joined t start fits few sound (omega (arith, many)) (omega arith) (omega arith))
       (omega arith)
       rs
       (rp ∙ omega (arith, place-now, u .many))

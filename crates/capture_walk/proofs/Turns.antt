@@ -31,9 +31,9 @@ abbrev pub upTo : List ℕ → List ℕ → ℕ → ℕ → List ℕ
 upTo joined piece i at = joined ++ take (at - i) (drop i piece)
 
 -- turns that brought nothing
-pub record Still (kept : List ℕ) (s : Walk) (piece : List ℕ) (i : ℕ) (kept′ : List ℕ) (w : Walk)
-    (at : ℕ) : Type 0 where
-  pub still : (joined : List ℕ) → Stands kept s joined → Quiet kept′ w i at joined (upTo joined piece i at)
+pub record Still (kept : List ℕ) (s : Walk) (piece : List ℕ) (i : ℕ) (kept′ : List ℕ) (w : Walk) (at : ℕ) : Type 0
+  where
+    pub still : (joined : List ℕ) → Stands kept s joined → Quiet kept′ w i at joined (upTo joined piece i at)
 
 -- ---- bytes
 

@@ -126,11 +126,9 @@ pub record Collects (w : List ℕ) (got : ℕ) (piece : List ℕ) (from n : ℕ)
   pub new : length w ≡ 64 → (i : ℕ) → i < n → got + i < 6 → getD w′ (58 + (got + i)) 0 ≡ getD piece (from + i) 0
   pub below : (k : ℕ) → k < 58 + got → getD w′ k 0 ≡ getD w k 0
 
--- n bytes more, of a frame of which at bytes are there, end no later than the field that they are in: microseconds,
--- L, the header, the first 42 bytes, the frame
+-- n bytes more, of a frame of which at bytes are there, end no later than what they are in: the header, the first 42
+-- bytes behind it, the frame
 pub record Within (at size n : ℕ) : Type 0 where
-  pub time : at < 8 → at + n ≤ 8
-  pub stored : at < 12 → at + n ≤ 12
   pub header : at < 16 → at + n ≤ 16
   pub front : at + n ≤ 58
   pub frame : 16 ≤ at → size ≤ 65535 → at < 16 + size → at + n ≤ 16 + size

@@ -17,10 +17,12 @@ mod spans;
 mod types;
 
 use crate::numbers::refused;
+use crate::numbers::step;
 use crate::phases::on_file;
 use crate::phases::on_first;
 use crate::phases::on_frame;
 use crate::phases::on_front;
+use crate::phases::on_header;
 use crate::phases::on_rest;
 use crate::phases::on_run;
 use crate::phases::on_tail;
@@ -37,16 +39,6 @@ pub use types::Step;
 pub use types::WALK_WORDS;
 pub use types::Walk;
 pub use types::WalkWords;
-
-fn step(taken: usize, walk: Walk, event: Event) -> Step
-    ensures { λ r. ⌜ r ≡ record { taken = taken; walk = walk; event = event } ⌝ }
-{
-    Step {
-        taken: taken,
-        walk: walk,
-        event: event,
-    }
-}
 
 // A fresh walk.
 pub fn open(words: &mut WalkWords, kept: &mut Collected)
@@ -78,6 +70,9 @@ fn turn(kept: &mut Collected, s: Walk, piece: &[u8], i: usize) -> Step
     let n = span(s, (piece.len() - i) as u64);
     if s.fed < 24 {
         return on_file(kept, s, piece, i, n);
+    }
+    if s.at < 16 {
+        return on_header(kept, s, piece, i, n);
     }
     if s.at < 58 {
         return on_front(kept, s, piece, i, n);

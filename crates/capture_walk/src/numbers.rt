@@ -1,7 +1,9 @@
-// The walk's numbers in the lent words.
+// The walk's numbers: in the lent words, refused, and in a step.
 ghost use mathlib.Core.Path.{_≡_};
 ghost use Rattle.capture_walk.specs.State.{loaded};
 ghost use Rattle.capture_walk.specs.Contract.{refusedAs, Stored};
+use crate::types::Event;
+use crate::types::Step;
 use crate::types::Walk;
 use crate::types::WalkWords;
 
@@ -42,4 +44,14 @@ pub fn refused(s: Walk, number: u64, place: u64) -> Walk
     r.status = number;
     r.place = place;
     r
+}
+
+pub fn step(taken: usize, walk: Walk, event: Event) -> Step
+    ensures { λ r. ⌜ r ≡ record { taken = taken; walk = walk; event = event } ⌝ }
+{
+    Step {
+        taken: taken,
+        walk: walk,
+        event: event,
+    }
 }

@@ -8,6 +8,7 @@ ghost use Rattle.capture_walk.specs.Contract.{Goes, Within, Settles, Ahe
 use crate::collected::carry;
 use crate::collected::collect;
 use crate::numbers::refused;
+use crate::numbers::step;
 use crate::types::Collected;
 use crate::types::Event;
 use crate::types::Run;
@@ -83,10 +84,43 @@ fn settle(kept: &Collected, s: Walk) -> Walk
     r
 }
 
-// Bytes of a frame's header, or of the first 42 behind it: n of them, from byte i of the piece on, up to
-// the end of a field at most.
+// Bytes of a frame's header: n of them, from byte i of the piece on, up to its end at most.
+pub fn on_header(kept: &mut Collected, s: Walk, piece: &[u8], i: usize, n: u64) -> Step
+    requires { ⌜ (s .status ≡ 0) × (24 ≤ s .fed) × (s .fed + n ≤ 268435456) × (s .at + n ≤ 16)
+        × (i + n ≤ length (now piece)) ⌝ }
+    ensures { λ r. ⌜ Goes (now (kept .entry)) s (now (piece .entry)) i n (now (kept .exit)) r ⌝ }
+{
+    let at = s.at;
+    carry(kept, at, piece, i, n);
+    let end = at + n;
+    let taken = n as usize;
+    let mut r = s;
+    r.fed = s.fed + n;
+    r.at = end;
+    if end < 8 {
+        return step(taken, r, Event::Nothing);
+    }
+    if 999999 < capture_cells::micro_of(kept) {
+        let t = refused(s, 7, s.fed + 7 - at);
+        return step(taken, t, Event::Refused);
+    }
+    if end < 12 {
+        return step(taken, r, Event::Nothing);
+    }
+    let size = capture_cells::stored_of(kept);
+    if 65535 < size {
+        let t = refused(s, 8, s.fed + 11 - at);
+        return step(taken, t, Event::Refused);
+    }
+    r.size = size;
+    let t = settle(kept, r);
+    step(taken, t, Event::Nothing)
+}
+
+// Bytes of a frame's first 42 behind its header: n of them, from byte i of the piece on, up to their end or the
+// frame's at most.
 pub fn on_front(kept: &mut Collected, s: Walk, piece: &[u8], i: usize, n: u64) -> Step
-    requires { ⌜ (s .status ≡ 0) × (24 ≤ s .fed) × (s .fed + n ≤ 268435456) × (0 < n) × Within (s .at) (s .size) n
+    requires { ⌜ (s .status ≡ 0) × (24 ≤ s .fed) × (s .fed + n ≤ 268435456) × (16 ≤ s .at) × Within (s .at) (s .size) n
         × (i + n ≤ length (now piece)) ⌝ }
     ensures { λ r. ⌜ Goes (now (kept .entry)) s (now (piece .entry)) i n (now (kept .exit)) r ⌝ }
 {
@@ -96,38 +130,6 @@ pub fn on_front(kept: &mut Collected, s: Walk, piece: &[u8], i: usize, n: u64) -
     let mut r = s;
     r.fed = s.fed + n;
     r.at = end;
-    if end == 8 {
-        if 999999 < capture_cells::micro_of(kept) {
-            let t = refused(s, 7, s.fed + (n - 1));
-            return Step {
-                taken: n as usize,
-                walk: t,
-                event: Event::Refused,
-            };
-        }
-        return Step {
-            taken: n as usize,
-            walk: r,
-            event: Event::Nothing,
-        };
-    }
-    if end == 12 {
-        let size = capture_cells::stored_of(kept);
-        if 65535 < size {
-            let t = refused(s, 8, s.fed + (n - 1));
-            return Step {
-                taken: n as usize,
-                walk: t,
-                event: Event::Refused,
-            };
-        }
-        r.size = size;
-        return Step {
-            taken: n as usize,
-            walk: r,
-            event: Event::Nothing,
-        };
-    }
     if end == 58 {
         r.left = capture_cells::count_of(kept);
         r.got = 0;
