@@ -98,6 +98,18 @@ static int full(void)
     return number == CAROLSEDGE_REFUSED_LUMA_LENGTH && value == (uint64_t)MOST * PICTURE;
 }
 
+/* The opening's number goes before 26. */
+static int refused_openings(void)
+{
+    if (carolsedge_sample_open(&sample, SIDE, 29, 40000, 256, 1) != CAROLSEDGE_REFUSED_SIZE ||
+        !refused(0, 0, CAROLSEDGE_REFUSED_SIZE) || !refused(1, 0, CAROLSEDGE_REFUSED_SIZE))
+        return 0;
+    if (carolsedge_sample_open(&sample, SIDE, SIDE, 40000, 256, 5) != CAROLSEDGE_REFUSED_OPENING_EDITION)
+        return 0;
+    feed(3, 2, 0);
+    return refused(0, 0, CAROLSEDGE_REFUSED_OPENING_EDITION) && refused(0, 9, CAROLSEDGE_REFUSED_OPENING_EDITION);
+}
+
 int main(void)
 {
     static const uint8_t wrong[4] = {1, 2, 3, 4};
@@ -131,14 +143,5 @@ int main(void)
     carolsedge_sample_open(&sample, SIDE, SIDE, 40000, 256, 4);
     if (!full() || !given(0, MOST, MOST - MOST / 5) || !given(60, 70, 8) || !given(745, MOST, 4) || !refusals(MOST))
         return 7;
-    /* the opening's number goes before 26 */
-    if (carolsedge_sample_open(&sample, SIDE, 29, 40000, 256, 1) != CAROLSEDGE_REFUSED_SIZE ||
-        !refused(0, 0, CAROLSEDGE_REFUSED_SIZE) || !refused(1, 0, CAROLSEDGE_REFUSED_SIZE))
-        return 8;
-    if (carolsedge_sample_open(&sample, SIDE, SIDE, 40000, 256, 5) != CAROLSEDGE_REFUSED_OPENING_EDITION)
-        return 9;
-    feed(3, 2, 0);
-    if (!refused(0, 0, CAROLSEDGE_REFUSED_OPENING_EDITION) || !refused(0, 9, CAROLSEDGE_REFUSED_OPENING_EDITION))
-        return 9;
-    return 0;
+    return refused_openings() ? 0 : 8;
 }
