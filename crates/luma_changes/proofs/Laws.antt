@@ -1,5 +1,5 @@
 -- Pixels more. No code.
-use Prim.Native.Nat.{ℕ, _+_, _-_, _*_, _/_, _%_, _^_, _<_}
+use Prim.Native.Nat.{ℕ, _+_, _-_, _*_, _/_, _%_, _^_, _≤_, _<_}
 use native.Mathlib.Omega.{arith}
 use native.Mathlib.Numerals.{add-one}
 use mathlib.Core.Path.{_≡_, ap, _∙_}
@@ -68,6 +68,14 @@ summed m up down low high = record {
   squares = (m .squares + (low + 256 * high)) % 2 ^ 32;
 }
 
+-- c pixels were compared: `all` is the sum of the squares modulo 2 ^ 16
+pub record Sums (kept : List ℕ) (at : ℕ) (made : List ℕ) (from c : ℕ) (m : Moves)
+    (up down all high : ℕ) : Type 0 where
+  pub low : ℕ
+  pub few : low ≤ 255 * c
+  pub wraps : all ≡ (low + 256 * high) % 2 ^ 16
+  pub compared : Compared kept at made from c m (summed m up down low high)
+
 pub summed-none : (kept : List ℕ) (at : ℕ) (made : List ℕ) (from : ℕ) (m : Moves) →
     Compared kept at made from 0 m (summed m 0 0 0 0)
 summed-none kept at made from m =
@@ -85,3 +93,37 @@ pub summed-more : (kept : List ℕ) (at : ℕ) (made : List ℕ) (from c : ℕ) 
 summed-more kept at made from c m up down low high rise fall s h er ef =
     compared-more s h
     (record { up = omega (arith, er); down = omega (arith, ef); both = rw (← er, ← ef) (omega arith) })
+
+pub sums-none : (kept : List ℕ) (at : ℕ) (made : List ℕ) (from : ℕ) (m : Moves) → Sums kept at made from 0 m 0 0 0 0
+sums-none kept at made from m =
+    record { low = 0; few = omega arith; wraps = omega arith; compared = summed-none kept at made from m }
+
+pub sums-more : (kept : List ℕ) (at : ℕ) (made : List ℕ) (from c : ℕ) (m : Moves) (up down all high rise fall : ℕ)
+    {next : ℕ} → Sums kept at made from c m up down all high →
+    from + c < length made → rise ≡ getD made (from + c) 0 - getD kept (at + c) 0 →
+    fall ≡ getD kept (at + c) 0 - getD made (from + c) 0 →
+    next ≡ (all + (rise + fall) * (rise + fall)) % 2 ^ 16 →
+    Sums kept at made from (c + 1) m (up + rise) (down + fall) next (high + (rise + fall) * (rise + fall) / 256)
+sums-more kept at made from c m up down all high rise fall {next} s h er ef en =
+    record {
+      low = s .low + (rise + fall) * (rise + fall) % 256;
+      few = more ((rise + fall) * (rise + fall)) (s .low) (s .few);
+      wraps = wrapped ((rise + fall) * (rise + fall)) (s .low) (s .wraps) en;
+      compared = summed-more kept at made from c m up down (s .low) high rise fall (s .compared) h er ef;
+    }
+  where
+    more : (square low : ℕ) → low ≤ 255 * c → low + square % 256 ≤ 255 * (c + 1)
+    more square low k = omega arith
+
+    wrapped : (square low : ℕ) → all ≡ (low + 256 * high) % 2 ^ 16 → next ≡ (all + square) % 2 ^ 16 →
+        next ≡ (low + square % 256 + 256 * (high + square / 256)) % 2 ^ 16
+    wrapped square low a b = omega arith
+
+-- the low bytes' sum, of the sum of all squares
+pub low-is : {kept : List ℕ} {at : ℕ} {made : List ℕ} {from c : ℕ} {m : Moves} {up down all high r : ℕ}
+    (s : Sums kept at made from c m up down all high) → c ≤ 240 → r < 2 ^ 16 →
+    (r + high % 256 * 256) % 2 ^ 16 ≡ all → r ≡ s .low
+low-is {all = all} {high = high} {r = r} s k small e = exact (s .low) (omega (arith, s .few)) (s .wraps)
+  where
+    exact : (low : ℕ) → low < 2 ^ 16 → all ≡ (low + 256 * high) % 2 ^ 16 → r ≡ low
+    exact low l w = omega arith

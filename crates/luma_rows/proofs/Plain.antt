@@ -2,7 +2,8 @@
 -- them. No code.
 use Prim.Native.Nat.{ℕ, _+_, _-_, _*_, _/_, _%_, _^_, _≤_, _<_}
 use native.Mathlib.Omega.{arith}
-use native.Mathlib.Nat.{add-mul, mul-one, zero-mul, add-zero, mul-pos, lt-of-not-le, mul-le-mul-right, div-add-mod'}
+use native.Mathlib.Nat.{add-mul, mul-one, one-mul, zero-mul, add-zero, mul-pos, lt-of-not-le, mul-le-mul-right}
+use native.Mathlib.Nat.{div-add-mod'}
 use native.Mathlib.Decide.{decLe, ℕ-discrete}
 use mathlib.Core.Path.{_≡_, refl, sym, ap, _∙_}
 use mathlib.Core.List.{List, [], _++_, append-nil, append-assoc}
@@ -101,6 +102,10 @@ counted-more {w} {h} {r} {i} {base} {pixels} {a} {b} {z} f g k =
           )
           (g .more (p ++ first) (omega (arith, length-append p first)) (f .more size p e c));
     }
+
+pub counted-one : {w h r base : ℕ} {pixels a z : List ℕ} → length pixels ≡ 14104 →
+    CountedRows w h r 1 base pixels a z → CountedRow w h r base pixels a z
+counted-one {w} size f = record { kept = f .kept; more = λ p e c. rw (one-mul w) at (f .more size p e c) }
 
 -- ---- blocks of one byte
 

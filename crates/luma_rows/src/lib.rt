@@ -63,6 +63,29 @@ fn keep(kept: &mut Kept, picture: &Picture, base: usize, w: usize)
     }
 }
 
+// Counts j rows of the picture, from its current one on.
+fn count_rows(bins: &mut Bins, picture: &Picture, g: Grid, s: Progress, j: usize)
+    requires { ⌜ (Fits g) × (s .line + j ≤ g .lines) ⌝ }
+    ensures { λ _. ⌜ CountedRows (g .columns) (g .lines) (s .line) j (slot (s .pictures)) (now (picture .entry))
+        (now (bins .entry)) (now (bins .exit)) ⌝ }
+{
+    let own = luma_state::slot_of(s.pictures);
+    let mut i: usize = 0;
+    while i < j {
+        luma_tiles::count_row(
+            bins,
+            own,
+            picture,
+            g.columns,
+            g.lines,
+            s.line + i,
+            g.second,
+            g.third,
+        );
+        i += 1;
+    }
+}
+
 // At the end of a block row: its pixels are made of the sums, counted, and compared with the previous picture's.
 fn end_row(
     sums: &mut Sums,
@@ -80,8 +103,7 @@ fn end_row(
     let mut kept = [0u8; luma_blocks::COLUMNS];
     keep(&mut kept, picture, base, w);
     luma_blocks::finish_row(picture, sums, g.side, w, s.line);
-    let slot = luma_state::slot_of(s.pictures);
-    luma_tiles::count_row(bins, slot, picture, w, g.lines, s.line, g.second, g.third);
+    count_rows(bins, picture, g, s, 1);
     let m = luma_changes::compare_run(luma_state::moves_in(s), &kept, 0, picture, base, w);
     next_row(g, s, 1, m)
 }
@@ -136,29 +158,6 @@ fn compare(m: Moves, picture: &Picture, base: usize, rest: &[u8], k: usize) -> M
         c += t;
     }
     sums
-}
-
-// Counts j rows of the picture, from its current one on.
-fn count_rows(bins: &mut Bins, picture: &Picture, g: Grid, s: Progress, j: usize)
-    requires { ⌜ (Fits g) × (s .line + j ≤ g .lines) ⌝ }
-    ensures { λ _. ⌜ CountedRows (g .columns) (g .lines) (s .line) j (slot (s .pictures)) (now (picture .entry))
-        (now (bins .entry)) (now (bins .exit)) ⌝ }
-{
-    let own = luma_state::slot_of(s.pictures);
-    let mut i: usize = 0;
-    while i < j {
-        luma_tiles::count_row(
-            bins,
-            own,
-            picture,
-            g.columns,
-            g.lines,
-            s.line + i,
-            g.second,
-            g.third,
-        );
-        i += 1;
-    }
 }
 
 // j such rows: their bytes are the pixels. No sum is made, and the sums stay what they were, none.

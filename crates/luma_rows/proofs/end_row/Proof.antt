@@ -1,6 +1,7 @@
 use mathlib.Core.Path.{refl}
 use native.Mathlib.Omega.{arith}
 use Rattle.luma_rows.proofs.Rows.{row-room, row-ended}
+use Rattle.luma_rows.proofs.Plain.{counted-one}
 use borrow.Author.Needs.{needs}
 use Rattle.luma_rows.proofs.end_row.Statement.{statement}
 use Rattle.luma_rows.proofs.end_row.Tie as tie
@@ -26,23 +27,10 @@ finish-row-requires c κs =
       fits = omega (arith, row-room (a .g) (a .s) (p .line), p .fits .room);
     }
 
-slot-of-requires : tie.Need-slot-of-requires
-slot-of-requires c κs = search needs
-
-count-row-requires : tie.Need-count-row-requires
-count-row-requires c κs =
-    let p = c .before .before .before .before .before .before .before .before .before .before .before .pre in
-    let a = c .before .before .before .before .before .before .before .before .before .before .before .args in
-    record {
-      boundary = p .fits .boundary;
-      boundary-2 = p .fits .boundary-2;
-      wide = omega (arith, p .fits .wide);
-      few = omega (arith, p .fits .narrow);
-      inside = p .line;
-      low = omega (arith, p .fits .low);
-      slot = omega arith;
-      there = omega (arith, row-room (a .g) (a .s) (p .line), p .fits .room);
-    }
+count-rows-requires : tie.Need-count-rows-requires
+count-rows-requires c κs =
+    let p = c .before .before .before .before .before .before .before .before .before .pre in
+    (p .fits, let l = p .line in omega arith)
 
 moves-in-requires : tie.Need-moves-in-requires
 moves-in-requires c κs = search needs
@@ -53,9 +41,9 @@ slice-aggregate-compare-run c = search needs
 compare-run-requires : tie.Need-compare-run-requires
 compare-run-requires c κs =
     let p = c .before .before .before .before .before .before .before .before .before .before .before .before .before
-    .before .before .before .pre in
+    .before .pre in
     let a = c .before .before .before .before .before .before .before .before .before .before .before .before .before
-    .before .before .before .args in
+    .before .args in
     record {
       kept-there = omega (arith, p .fits .narrow);
       made-there = omega (arith, row-room (a .g) (a .s) (p .line), p .fits .room);
@@ -65,21 +53,19 @@ compare-run-requires c κs =
 next-row-requires : tie.Need-next-row-requires
 next-row-requires c κs =
     let p = c .before .before .before .before .before .before .before .before .before .before .before .before .before
-    .before .before .before .before .pre in
+    .before .before .pre in
     (p .fits, let l = p .line in omega arith)
 
 returns : tie.Need-returns
 returns c =
     let p = c .before .before .before .before .before .before .before .before .before .before .before .before .before
-    .before .before .before .before .before .pre in
+    .before .before .before .pre in
     let a = c .before .before .before .before .before .before .before .before .before .before .before .before .before
-    .before .before .before .before .before .args in
+    .before .before .before .args in
     row-ended (a .g) (a .s) (p .fits) (p .line) (p .row) (p .col) refl
-    (c .before .before .before .before .before .before .before .before .before .before .before .before .before
-    .before .keep .ensures)
-    (c .before .before .before .before .before .before .before .before .before .before .before .finish-row .ensures)
-    (rw (c .before .before .before .before .before .before .before .before .before .before .slot-of .ensures .0)
-    at (c .before .before .before .before .before .before .count-row .ensures))
+    (c .before .before .before .before .before .before .before .before .before .before .before .before .keep .ensures)
+    (c .before .before .before .before .before .before .before .before .before .finish-row .ensures)
+    (counted-one (omega arith) (c .before .before .before .before .before .before .count-rows .ensures))
     (c .before .before .before .before .before .moves-in .ensures) (c .before .compare-run .ensures) _
     (c .next-row .ensures)
 
@@ -90,8 +76,7 @@ end-row-spec =
     mul-base
     keep-requires
     finish-row-requires
-    slot-of-requires
-    count-row-requires
+    count-rows-requires
     moves-in-requires
     slice-aggregate-compare-run
     compare-run-requires

@@ -5,21 +5,20 @@ use native.Mathlib.Omega.{arith}
 use native.Mathlib.Nat.{mul-le-mul}
 use mathlib.Core.Path.{_≡_}
 use borrow.Author.Needs.{needs}
-use Rattle.luma_changes.specs.Figures.{Compared}
-use Rattle.luma_changes.proofs.Laws.{summed, summed-none, summed-more}
+use Rattle.luma_changes.proofs.Laws.{Sums, sums-none, sums-more, low-is}
 use Rattle.luma_changes.proofs.sums.compare_run.Statement.{statement}
 use Rattle.luma_changes.proofs.sums.compare_run.Tie as tie
 
 abbrev Inv-loop : tie.InvT-loop
-Inv-loop m kept at made from k up₀ down₀ low₀ high₀ c₀ up down low high c =
-    (c ≤ k) × (up ≤ 255 * c) × (down ≤ 255 * c) × (low ≤ 255 * c) × (high ≤ 255 * c)
-    × Compared kept at made from c m (summed m up down low high)
+Inv-loop m kept at made from k up₀ down₀ all₀ high₀ c₀ up down all high c =
+    (c ≤ k) × (up ≤ 255 * c) × (down ≤ 255 * c) × (high ≤ 255 * c)
+    × Sums kept at made from c m up down all high
 
 abbrev μ-loop : tie.MeasureT-loop
-μ-loop m kept at made from k up₀ down₀ low₀ high₀ c₀ up down low high c = k - c
+μ-loop m kept at made from k up₀ down₀ all₀ high₀ c₀ up down all high c = k - c
 
 loop-holds : tie.Need-loop-holds Inv-loop μ-loop
-loop-holds c = (omega arith, omega arith, omega arith, omega arith, omega arith, summed-none _ _ _ _ _)
+loop-holds c = (omega arith, omega arith, omega arith, omega arith, sums-none _ _ _ _ _)
 
 add-a : tie.Need-add-a Inv-loop μ-loop
 add-a c = omega arith
@@ -53,12 +52,12 @@ add-up c = omega arith
 add-down : tie.Need-add-down Inv-loop μ-loop
 add-down c = omega arith
 
-add-low : tie.Need-add-low Inv-loop μ-loop
-add-low c = omega arith
+wrapping-add-u16-requires : tie.Need-wrapping-add-u16-requires Inv-loop μ-loop
+wrapping-add-u16-requires c κs = search needs
 
 add-high : tie.Need-add-high Inv-loop μ-loop
 add-high c =
-    let small : c .before .over .result + c .over2 .result ≤ 255 = omega arith in
+    let small : c .before .before .over .result + c .before .over2 .result ≤ 255 = omega arith in
     omega (arith, mul-le-mul small small)
 
 add-c : tie.Need-add-c Inv-loop μ-loop
@@ -69,17 +68,23 @@ loop-less c = omega arith
 
 loop-again : tie.Need-loop-again Inv-loop μ-loop
 loop-again c =
-    let small : c .before .over .result + c .over2 .result ≤ 255 = omega arith in
-    let l = c .before .before .before .before .before .loop in
-    let a = c .before .before .before .before .before .before .before .before .args in (
-      omega arith,
+    let small : c .before .before .over .result + c .before .over2 .result ≤ 255 = omega arith in
+    let l = c .before .before .before .before .before .before .loop in
+    let a = c .before .before .before .before .before .before .before .before .before .args in (
       omega arith,
       omega arith,
       omega arith,
       omega (arith, mul-le-mul small small),
-      summed-more (a .kept .now) (a .at) (a .made .now) (a .from) (l .c) (a .m) (l .up) (l .down) (l .low)
-          (l .high) _ _ (l .inv .5) (omega arith) (c .before .over .ensures .0) (c .over2 .ensures .0),
+      sums-more (a .kept .now) (a .at) (a .made .now) (a .from) (l .c) (a .m) (l .up) (l .down) (l .all)
+          (l .high) _ _ (l .inv .4) (omega arith) (c .before .before .over .ensures .0)
+          (c .before .over2 .ensures .0) (c .wrapping-add-u16 .ensures),
     )
+
+mul-wrapping-sub-u16 : tie.Need-mul-wrapping-sub-u16 Inv-loop μ-loop
+mul-wrapping-sub-u16 c = omega arith
+
+wrapping-sub-u16-requires : tie.Need-wrapping-sub-u16-requires Inv-loop μ-loop
+wrapping-sub-u16-requires c κs = search needs
 
 cast-squares : tie.Need-cast-squares Inv-loop μ-loop
 cast-squares c = omega arith
@@ -110,14 +115,17 @@ wrapping-add-u32-requires-3 c κs = search needs
 
 returns : tie.Need-returns Inv-loop μ-loop
 returns c =
-    let l = c .before .before .before .before .loop in
-    let e : l .c ≡ c .before .before .before .before .before .before .before .args .k = omega arith in
+    let l = c .before .before .before .before .before .loop in
+    let e : l .c ≡ c .before .before .before .before .before .before .before .before .args .k = omega arith in
+    let low = c .before .before .before .wrapping-sub-u16 in
+    let is : low .result ≡ l .inv .4 .low = low-is (l .inv .4) (omega arith) (omega arith) (low .ensures) in
     rw (
       c .before .before .wrapping-add-u32 .ensures,
       c .before .wrapping-add-u322 .ensures,
       c .wrapping-add-u323 .ensures,
+      is,
       ← e,
-    ) (l .inv .5)
+    ) (l .inv .4 .compared)
 
 pub compare-run-spec : {M : Type 1} → statement M
 compare-run-spec =
@@ -136,11 +144,13 @@ compare-run-spec =
     mul-square
     add-up
     add-down
-    add-low
+    wrapping-add-u16-requires
     add-high
     add-c
     loop-less
     loop-again
+    mul-wrapping-sub-u16
+    wrapping-sub-u16-requires
     cast-squares
     cast-squares-2
     mul-squares
