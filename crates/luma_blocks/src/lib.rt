@@ -205,12 +205,16 @@ fn blocks_two(sums: &mut Sums, k: usize, s: &[u8], at: usize, below: usize, n: u
     }
 }
 
-// Whether two whole rows come next, of `size` bytes in all. Blocks of fewer than 8 columns are faster row by row.
-fn two_next(n: usize, w: usize, width: usize, p: Spot, size: usize) -> bool
-    requires { ⌜ (Ready width n w (p .row) (p .col)) × (p .used ≤ size) ⌝ }
-    ensures { λ r. ⌜ (r ≡ true → TwoNext width n w p size) ⌝ }
+// Whether two whole rows come next in the piece. Blocks of fewer than 8 columns, and of more than 16, are faster row by
+// row. Two rows are read side by side, and memory is quick only where it is read in order: so both are read ahead.
+fn two_next(n: usize, w: usize, width: usize, p: Spot, piece: &[u8]) -> bool
+    requires { ⌜ (Ready width n w (p .row) (p .col)) × (p .used ≤ length (now piece)) ⌝ }
+    ensures { λ r. ⌜ (r ≡ true → TwoNext width n w p (length (now (piece .entry)))) ⌝ }
 {
     if n < 8 {
+        return false;
+    }
+    if 16 < n {
         return false;
     }
     if p.col != 0 {
@@ -222,7 +226,11 @@ fn two_next(n: usize, w: usize, width: usize, p: Spot, size: usize) -> bool
     if width < w * n {
         return false;
     }
-    2 * width <= size - p.used
+    let used = p.used;
+    if piece.len() - used < 2 * width {
+        return false;
+    }
+    read_ahead::fetch(&piece[used..], 2 * width as u64)
 }
 
 // Some bytes of a block row: two whole rows together, whose sums are added at once, or up to the end of the row or of
@@ -231,7 +239,7 @@ fn take_some(sums: &mut Sums, n: usize, w: usize, width: usize, p: Spot, piece: 
     requires { ⌜ (Ready width n w (p .row) (p .col)) × (p .used < length (now piece)) ⌝ }
     ensures { λ r. ⌜ Onward width n w (now (piece .entry)) p (now (sums .entry)) r (now (sums .exit)) ⌝ }
 {
-    if two_next(n, w, width, p, piece.len()) {
+    if two_next(n, w, width, p, piece) {
         let below = p.used + width;
         blocks_two(sums, w, piece, p.used, below, n);
         return Spot {

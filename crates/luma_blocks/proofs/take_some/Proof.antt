@@ -25,11 +25,11 @@ blocks-two-requires c κs =
       inside-2 = omega (arith, next .there, next .wide);
     }
 
+add-t12 : tie.Need-add-t12
+add-t12 c = search needs
+
 add-t13 : tie.Need-add-t13
 add-t13 c = search needs
-
-add-t14 : tie.Need-add-t14
-add-t14 c = search needs
 
 returns : tie.Need-returns
 returns c =
@@ -81,8 +81,8 @@ take-some-spec =
     two-next-requires
     add-below
     blocks-two-requires
+    add-t12
     add-t13
-    add-t14
     returns
     sub-least
     sub-least-2

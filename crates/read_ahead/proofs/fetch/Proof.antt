@@ -3,8 +3,8 @@ use Prim.Native.Nat.{_+_, _-_, _*_, _≤_}
 use native.Mathlib.Omega.{arith}
 use lib.ListN.{length}
 use borrow.Author.Needs.{needs}
-use Rattle.capture_walk.proofs.spans.fetch.Statement.{statement}
-use Rattle.capture_walk.proofs.spans.fetch.Tie as tie
+use Rattle.read_ahead.proofs.fetch.Statement.{statement}
+use Rattle.read_ahead.proofs.fetch.Tie as tie
 
 abbrev Inv-loop : tie.InvT-loop
 Inv-loop f n end sum₀ at₀ sum at =
