@@ -58,10 +58,10 @@ by e = openedBy e 30 30 40000 256
 rowsBy : ℕ → List ℕ
 rowsBy e = endToEnd (map unitBytes (units (by e) rooftop)) ++ badCount (by e) rooftop ∷ []
 
--- what is lost, of counters 3, 9 and 11, the second in a damaged packet with an indicator
+-- what is lost and what is damaged, of counters 3, 9 and 11, the second in a damaged packet with an indicator
 lostBy : ℕ → List ℕ
-lostBy e = map (λ u. u .lost)
-    (units (by e) (goodHeader ++ frameWith 0 0 3 (packetOf 256 0x40 3 ++ brokenSplice 256 9 ++ packetOf 256 0 11)))
+lostBy e = endToEnd (map (λ u. u .lost ∷ u .damaged ∷ [])
+    (units (by e) (goodHeader ++ frameWith 0 0 3 (packetOf 256 0x40 3 ++ brokenSplice 256 9 ++ packetOf 256 0 11))))
 
 -- a capture with damaged packets of PID alone: its units and bad cells
 onlyBroken : ℕ → List ℕ
@@ -98,7 +98,7 @@ broken =
           ++ words (9000000 ∷ 0 ∷ 9000000 ∷ 0 ∷ 184 ∷ 1 ∷ 0 ∷ 0 ∷ []) ++ 1 ∷ [];
     }
     -- a damaged packet's indicator is not heeded, and the next gap, of 8, is measured from the counter before it
-    ∷ record { rule = lostBy 3 ++ lostBy 4; paper = 1 ∷ 7 ∷ [] }
+    ∷ record { rule = endToEnd (table 4 1 lostBy); paper = 6 ∷ 0 ∷ 1 ∷ 0 ∷ 1 ∷ 0 ∷ 7 ∷ 1 ∷ [] }
     -- 12: damaged packets alone begin no unit, and are bad cells
     ∷ record { rule = onlyBroken 4 ++ onlyBroken 3; paper = 12 ∷ 0 ∷ 2 ∷ 0 ∷ 0 ∷ 0 ∷ [] }
     -- 18: word 28 of a unit row passes in edition 4 and not in 3; a scene row's passes in none

@@ -39,20 +39,17 @@ cut = take 457 (goodHeader ++ frameWith 1 0 2 (packetOf 256 0x40 0 ++ packetOf 2
 pub indices : List Case
 indices =
     -- one whole cell of an unfinished record, two alike pictures and a byte of a third: Ic 2, Ip 1, index 3. Then the
-    -- second cell's last byte comes, and with it its loss: Ip 2/3. Then the third picture, another one: Ic 8/3. The
-    -- record is whole now, and the index stays
+    -- second cell's last byte comes, and with it its loss: Ip 2/3. Then the third picture, another one: Ic 8/3
     record {
       rule =
           run small
           (feedCapture cut ∷ feedLuma (picture 16 ++ picture 16 ++ 90 ∷ []) ∷ ask asked
           ∷ feedCapture (0xFF ∷ []) ∷ ask asked
-          ∷ feedLuma (take 449 (picture 90)) ∷ ask asked
-          ∷ ask asked ∷ []);
+          ∷ feedLuma (take 449 (picture 90)) ∷ ask asked ∷ []);
       paper =
           0 ∷ 0 ∷ 0 ∷ 457 ∷ 0 ∷ 901 ∷ 0 ∷ 0x4000000000000000 ∷ 0x3FF0000000000000 ∷ 0x4008000000000000
           ∷ 0 ∷ 1 ∷ 0 ∷ 0x4000000000000000 ∷ 0x3FE5555555555555 ∷ 0x4002AAAAAAAAAAAA
-          ∷ 0 ∷ 449 ∷ 0 ∷ 0x4005555555555555 ∷ 0x3FE5555555555555 ∷ 0x400638E38E38E38E
-          ∷ 0 ∷ 0x4005555555555555 ∷ 0x3FE5555555555555 ∷ 0x400638E38E38E38E ∷ [];
+          ∷ 0 ∷ 449 ∷ 0 ∷ 0x4005555555555555 ∷ 0x3FE5555555555555 ∷ 0x400638E38E38E38E ∷ [];
     }
     -- 12 before 14, of nothing at all and of a cell that is not whole; then 14, with a picture that is not whole; 14
     -- goes once it is

@@ -6,7 +6,6 @@ use mathlib.Core.Bool.{Bool, true, false}
 use lib.ListN.{replicate, take}
 use Rattle.rules.specs.Bytes.{total, count, table, parts, endToEnd}
 use Rattle.rules.specs.Editions.{isEdition}
-use Rattle.rules.specs.Refusals.{Fault, none, fault}
 use Rattle.rules.specs.Opening.{goodSize, goodTime, goodPid, openingFault, openAnswer, levelUpTo, level, side}
 use Rattle.rules.specs.Opening.{area, columns, lines}
 use Rattle.rules.specs.Pictures.{pictureSize, pictureCount, pictures, lumaFault, rows, band, blockSum, pixelIn}
@@ -16,16 +15,12 @@ use Rattle.rules.specs.Seal.{reduced, lumaAnswer}
 use Rattle.rules.specs.Passage.{repeatedIn, passageFault, repeatsFault, repeatsAnswer}
 use Rattle.rules.specs.Calls.{feedLuma, ask, repeats as asked, expected}
 use Rattle.rules.proofs.Worked.{Case}
-use Rattle.rules.proofs.Samples.{opened, small, run, picture}
+use Rattle.rules.proofs.Samples.{opened, small, run, picture, toldFault}
 
 -- 130 pictures of which every one but 0, 64 and 100 is repeated
 film : List Bool
 film =
     false ∷ replicate 63 true ++ false ∷ replicate 35 true ++ false ∷ replicate 29 true
-
-abbrev toldFault : Fault → List ℕ
-toldFault none = 0 ∷ 0 ∷ []
-toldFault (fault k p) = k ∷ p ∷ []
 
 pub passages : List Case
 passages =
@@ -49,14 +44,13 @@ passages =
     ∷ record {
       rule =
           run small
-          (ask (asked 0 0) ∷ ask (asked 0 1)
-          ∷ feedLuma (picture 16 ++ picture 16 ++ picture 90 ++ take 449 (picture 90))
-          ∷ ask (asked 0 3) ∷ ask (asked 0 1) ∷ ask (asked 1 2) ∷ ask (asked 2 3) ∷ ask (asked 0 4)
-          ∷ feedLuma (90 ∷ []) ∷ ask (asked 0 4) ∷ ask (asked 3 4) ∷ ask (asked 4 4) ∷ ask (asked 4 3) ∷ []);
+          (ask (asked 0 0) ∷ feedLuma (picture 16 ++ picture 16 ++ picture 90 ++ take 449 (picture 90))
+          ∷ ask (asked 0 3) ∷ ask (asked 2 3) ∷ ask (asked 0 4)
+          ∷ feedLuma (90 ∷ []) ∷ ask (asked 0 4) ∷ ask (asked 3 4) ∷ ask (asked 4 3) ∷ []);
       paper =
-          0 ∷ 0 ∷ 0 ∷ 0 ∷ 26 ∷ 0 ∷ 0 ∷ 1799
-          ∷ 0 ∷ 1 ∷ 0 ∷ 0 ∷ 0 ∷ 1 ∷ 0 ∷ 0 ∷ 26 ∷ 0
-          ∷ 0 ∷ 1 ∷ 0 ∷ 2 ∷ 0 ∷ 1 ∷ 0 ∷ 0 ∷ 26 ∷ 0 ∷ [];
+          0 ∷ 0 ∷ 0 ∷ 0 ∷ 0 ∷ 1799
+          ∷ 0 ∷ 1 ∷ 0 ∷ 0 ∷ 26 ∷ 0
+          ∷ 0 ∷ 1 ∷ 0 ∷ 2 ∷ 0 ∷ 1 ∷ 26 ∷ 0 ∷ [];
     }
     -- the opening's number before 26
     ∷ record {

@@ -97,11 +97,11 @@ lostBy e m =
     (units (openedBy e 30 30 40000 256)
     (goodHeader ++ frameWith 0 0 3 (packetOf 256 0x40 3 ++ splicedOf 256 9 m ++ packetOf 256 0 11)))
 
--- the scenes' sums of q, under an edition, of two pictures of 16 by 32: grey, then four pixels higher and four lower
+-- the scenes' sums of q, under an edition, of two pictures of 128 pixels: grey, then one pixel higher and one lower
 abbrev changedBy : ℕ → List ℕ
 changedBy e =
     map (λ s. s .change)
-    (scenes (openedBy e 16 32 40000 256) (replicate 512 7 ++ replicate 4 8 ++ replicate 4 6 ++ replicate 504 7))
+    (scenesIn (openedBy e 15 30 40000 256) (replicate 128 7 ∷ (8 ∷ 6 ∷ replicate 126 7) ∷ []))
 
 unfoldable pub words : List ℕ → List ℕ
 words ns = endToEnd (map le32 ns)
@@ -207,7 +207,7 @@ samples =
     -- a splice: its own gap of 6 loses 5 under edition 1 and nothing under 2 to 4, the gap of 2 behind it loses one;
     -- no indicator in no bytes
     ∷ record { rule = endToEnd (table 4 1 (λ e. lostBy e 7)) ++ lostBy 2 0; paper = 6 ∷ 1 ∷ 1 ∷ 1 ∷ 6 ∷ [] }
-    -- a scene's sum of q by the editions 1 to 4: one picture's is 12.5 (16 by 32, four pixels higher and four lower)
+    -- a scene's sum of q by the editions 1 to 4: one picture's is 12.5
     ∷ record { rule = endToEnd (table 4 1 changedBy); paper = 12 ∷ 12 ∷ 13 ∷ 13 ∷ [] }
     -- 17: the reader takes editions 1 to 4 and not 5
     ∷ record {
