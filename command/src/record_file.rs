@@ -22,8 +22,13 @@ impl RecordFile {
     pub fn new(word: &OsStr, inputs: Vec<(Identity, String)>) -> Result<RecordFile, Stop> {
         let file = RecordFile { path: PathBuf::from(word), inputs, old: None };
         file.replaced()?;
-        fs::metadata(file.folder()).map_err(|error| file.failed(&error))?;
+        file.tried().map_err(|error| file.failed(&error))?;
         Ok(file)
+    }
+
+    /// Makes a file beside the record and removes it again: so a folder that cannot be written shows early.
+    fn tried(&self) -> io::Result<()> {
+        signals::held(|| fs::remove_file(self.beside()?.0))
     }
 
     /// The same, to stand in the place of this file and of no other, as what somebody else wrote there meanwhile.

@@ -104,10 +104,32 @@ def modes(cap, luma):
     check(not [name for name in os.listdir(".") if name.startswith(".")], "a file was left: %s" % os.listdir("."))
 
 
+def unwritable(cap):
+    """A folder that cannot be written shows before anything is read: what comes through a pipe would be lost."""
+    if os.geteuid() != 0:
+        return "no other user could be tried"
+    os.mkdir("closed", 0o755)
+    os.chmod(".", 0o755)
+    reader, writer = os.pipe()
+    words = [PROGRAMS["carolsedge"], "measure", "-", "-o", "closed/record", "--pid", "256"]
+    try:
+        done = subprocess.run(words, stdin=reader, capture_output=True, user=65534, group=65534, timeout=20)
+    except PermissionError:
+        return "no other user can run the command here"
+    finally:
+        os.close(reader)
+        os.close(writer)
+    right = done.returncode == 2 and done.stderr == b"carolsedge measure: closed/record: Permission denied\n"
+    check(right and not os.listdir("closed"), "a folder that cannot be written: %r" % done.stderr)
+    expect.count += 1
+    return "a folder that cannot be written shows early"
+
+
 def test():
     cap, luma = write("capture.pcap", read(stream("clip", ".pcap"))), write("luma.y", read(stream("clip", ".y")))
     device = kinds(cap, luma)
     inputs(cap, luma)
     modes(cap, luma)
-    said = "replacing: %d runs: links, FIFOs, sockets, folders (%s), inputs by any name are left alone; modes follow"
-    return said % (counted(), device)
+    early = unwritable(cap)
+    said = "replacing: %d runs: links, FIFOs, sockets, folders (%s), inputs by any name are left alone; modes follow; %s"
+    return said % (counted(), device, early)
