@@ -6,7 +6,7 @@ use crate::show;
 use crate::stop::Stop;
 use crate::words::{number_or_most, Words};
 use crate::Subcommand;
-use carolsedge::{shelf_of, shelf_part, Header, Record, Refusal, Shelf, RECORD_MOST};
+use carolsedge::{shelf_of, shelf_part, Header, Record, Refusal, Shelf, RECORD_MOST, SHELF_RECORDS_MOST};
 use std::ffi::{OsStr, OsString};
 
 pub const SUBCOMMAND: Subcommand =
@@ -183,14 +183,16 @@ fn read_word(words: &[Option<OsString>]) -> Result<Vec<u8>, Stop> {
 }
 
 /// All bytes, but no more than it takes to see that they are too many: a shelf has as many as its word at 4 says, and
-/// no record has more than `RECORD_MOST`. With one more than both, each reader gives the refusal that all of them get.
+/// no record has more than `RECORD_MOST`. With one more than both, each reader gives the refusal that all of them get. A
+/// head that says more records than a shelf may have is refused whatever stands behind it.
 pub fn read(input: &mut Input) -> Result<Vec<u8>, Stop> {
     let mut bytes = input.up_to(8)?;
+    let word = |bytes: [u8; 4]| u32::from_le_bytes(bytes) as usize;
     let said = match bytes[..] {
-        [_, _, _, _, a, b, c, d] => u32::from_le_bytes([a, b, c, d]),
+        [a, b, c, d, e, f, g, h] if word([a, b, c, d]) <= SHELF_RECORDS_MOST => word([e, f, g, h]),
         _ => 0,
     };
-    let most = u64::from(said).max(RECORD_MOST as u64) + 1;
+    let most = said.max(RECORD_MOST) as u64 + 1;
     input.append(&mut bytes, most - 8)?;
     Ok(bytes)
 }

@@ -2,6 +2,7 @@
 # with their place, and no record is lost under the shelf's name.
 import os
 import random
+import resource
 import struct
 import subprocess
 import time
@@ -102,6 +103,11 @@ def long():
         expect(name + ", page", 1, line if b"28" in line else b"refused 18 0\n", None, "page", "long")
         if length == said:
             expect(name + ", take", 1, line, None, "shelf", "take", "long", "1")
+    write("long", struct.pack("<3I", 4097, 2**32 - 1, 12))
+    os.truncate("long", 2**32 - 1)
+    little = {"preexec_fn": lambda: resource.setrlimit(resource.RLIMIT_AS, (2**29, 2**29))}
+    expect("4,097 records by the head", 1, b"refused 27 0\n", None, "shelf", "check", "long", **little)
+    expect("4,097 records by the head, page", 1, b"refused 17 0\n", None, "page", "long", **little)
     os.remove("long")
     piped = struct.pack("<3I", 1, most + 1, 12) + bytes(most + 1 - 12)
     expect("a pipe", 1, b"refused 28 0\n", None, "shelf", "check", "-", stdin=piped)
