@@ -91,6 +91,12 @@ def troubles():
     write("gives", b"")
     told = {"SAYS": "no idea", "STATUS": "1"}
     expect("no pictures", 1, b"refused 14 0\n", ["ffmpeg decoded no picture: no idea"], *words, **stand_in(**told))
+    told["SAYS"] = "the cause\nwhat came of it"
+    odd = ["ffmpeg decoded no picture: the cause\nOf 5 frames, 1 skipped: 1 whose bytes are no multiple of 188\n"]
+    write("odd.pcap", capture([*good(4), carrying(bytes(1472))]))
+    odd.append("pkt_size=1316")
+    expect("skipped frames", 1, b"refused 14 0\n", odd, "measure", "odd.pcap", *OUT, **stand_in(**told))
+    told["SAYS"] = "no idea"
     write("none.pcap", capture([]))
     none = ["measure", "none.pcap", *OUT]
     expect("no frames", 1, b"refused 12 0\n", ["The capture has no frames"], *none, **stand_in(**told))

@@ -62,7 +62,7 @@ pub fn measure(asked: &Asked, capture: Input) -> Result<Measured, Stop> {
         let shared = shared.clone();
         move || feed(capture, into, &shared)
     });
-    let teller = thread::spawn(move || said.and_then(|said| last_line(BufReader::new(said))));
+    let teller = thread::spawn(move || said.and_then(|said| first_line(BufReader::new(said))));
     let drawn = from.map_or(Ok(Drawn::Nothing), |from| draw(asked, from, &shared, progress));
     if drawn.is_err() {
         let _ = ffmpeg.kill();
@@ -172,8 +172,11 @@ fn ended(ffmpeg: &mut Child, drawn: Drawn, said: Option<String>) -> Result<Vec<S
     }
 }
 
-/// The last line, read to the end so that its writer never waits.
-fn last_line(from: impl BufRead) -> Option<String> {
-    let lines = from.split(b'\n').map_while(Result::ok).filter(|line| !line.trim_ascii().is_empty());
-    lines.last().map(|line| String::from_utf8_lossy(&line).into_owned())
+/// The first line, which names the cause where later ones name what came of it; read to the end so that its writer
+/// never waits.
+fn first_line(from: impl BufRead) -> Option<String> {
+    let mut lines = from.split(b'\n').map_while(Result::ok).filter(|line| !line.trim_ascii().is_empty());
+    let first = lines.next();
+    lines.for_each(drop);
+    first.map(|line| String::from_utf8_lossy(&line).into_owned())
 }

@@ -2,6 +2,7 @@
 //! what was really found.
 use super::walk::Walk;
 use super::Measured;
+use crate::explain;
 use crate::output::{count, grouped, say};
 use carolsedge::{Header, Refusal};
 
@@ -75,9 +76,24 @@ fn mends(walk: &Walk) -> Vec<String> {
 pub fn refused(refusal: &Refusal, pid: u32, measured: &Measured) -> Vec<String> {
     match refusal.number {
         12 => no_packet(pid, &measured.walk),
-        14 if !measured.doubts.is_empty() => measured.doubts.clone(),
+        14 => no_picture(measured),
         _ => Vec::new(),
     }
+}
+
+/// What may be why no picture came: what the decoder said, and the frames that it was not given.
+fn no_picture(measured: &Measured) -> Vec<String> {
+    let mut lines = measured.doubts.clone();
+    if lines.is_empty() {
+        lines.push(explain::mends(14).into());
+    }
+    let skipped: u64 = measured.walk.skipped().reasons().map(|reason| reason.0).sum();
+    if skipped > 0 {
+        let all = count(skipped + measured.walk.carrying(), "frame");
+        lines.push(format!("Of {all}, {} skipped: {}", grouped(skipped), reasons(&measured.walk)));
+        lines.extend(mends(&measured.walk).iter().map(|line| format!("  {line}")));
+    }
+    lines
 }
 
 /// Why there is no packet of the identifier.
