@@ -58,6 +58,17 @@ fn help() -> String {
             Exit status: 0 done, 1 refused, 2 wrong words or a file's error.\n"
 }
 
+/// `carolsedge help`, or `carolsedge help SUBCOMMAND`.
+fn help_of(word: Option<OsString>) -> Result<(), Stop> {
+    let Some(word) = word else {
+        return output::print(&help());
+    };
+    match SUBCOMMANDS.iter().find(|s| word == s.name) {
+        Some(subcommand) => output::print(subcommand.help),
+        None => Err(Stop::Usage(format!("{}: no such subcommand", word.to_string_lossy()))),
+    }
+}
+
 /// Whether help is asked for, before a word `--` or behind which nothing is an option.
 fn asks_help(words: &[OsString]) -> bool {
     let mut options = words.iter().take_while(|word| *word != "--");
@@ -79,7 +90,8 @@ fn main() -> ExitCode {
         return stop::status(&name, run(subcommand, words.collect()));
     }
     let done = match first.to_str() {
-        Some("--help" | "-h" | "help") => output::print(&help()),
+        Some("help") => help_of(words.next()),
+        Some("--help" | "-h") => output::print(&help()),
         Some("--version" | "-V") => output::print(VERSION),
         Some("") => Err(Stop::Usage("a subcommand is missing".into())),
         _ => Err(Stop::Usage(format!("{}: no such subcommand", first.to_string_lossy()))),

@@ -2,6 +2,7 @@
 use crate::stop::Stop;
 use std::ffi::{OsStr, OsString};
 use std::num::{IntErrorKind, ParseIntError};
+use std::os::unix::ffi::OsStrExt;
 
 /// Words, parted.
 pub struct Words {
@@ -35,17 +36,20 @@ impl Words {
         bare: &[&'static str],
     ) -> Result<(), Stop> {
         let text = word.to_string_lossy();
-        let (name, value) = match text.split_once('=') {
-            Some((name, value)) if name.starts_with("--") => (name, Some(OsString::from(value))),
-            _ => (&*text, None),
+        let bytes = word.as_bytes();
+        let (name, value) = match bytes.iter().position(|&byte| byte == b'=') {
+            Some(at) if bytes.starts_with(b"--") => {
+                (&bytes[..at], Some(OsStr::from_bytes(&bytes[at + 1..]).to_owned()))
+            }
+            _ => (bytes, None),
         };
         let usage = |what: &str| Err(Stop::Usage(format!("{text}: {what}")));
-        let given = if let Some(name) = valued.iter().find(|n| **n == name) {
+        let given = if let Some(name) = valued.iter().find(|n| n.as_bytes() == name) {
             match value.or_else(|| behind.next()) {
                 Some(value) => (*name, Some(value)),
                 None => return usage("a word is missing behind it"),
             }
-        } else if let Some(name) = bare.iter().find(|n| **n == name) {
+        } else if let Some(name) = bare.iter().find(|n| n.as_bytes() == name) {
             if value.is_some() {
                 return usage("it takes no value");
             }

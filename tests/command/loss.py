@@ -118,6 +118,9 @@ def test():
     losses = [int(line.split()[-1]) for line in shown if line.startswith("unit ")]
     check(sum(losses) > 0, "the record has no losses")
     of_files(record, losses)
+    write(b"\xff.record", record)
+    write("keys", b"0\n" * len(losses))
+    expect("a name that is no text", 0, None, [], "loss", b"--record=\xff.record", "--keys=keys")
     wrong_files(record, len(losses))
     wrong_words()
     return "loss: %d runs: lists worked by hand, a record's losses, and refusals" % counted()

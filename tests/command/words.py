@@ -92,7 +92,9 @@ def helps():
             word = word.strip(".,:;")
             known = not word.startswith("--") or word == "--help" or word in manual
             check(known, "the manual of %s lacks %s" % (name, word))
+        check(run("help", name)[1].decode() == text, "help %s is another" % name)
     check(run("--help")[1] == run("help")[1] == run("-h")[1], "help, -h and --help differ")
+    expect("help of nothing", 2, b"", ["masure: no such subcommand"], "help", "masure")
     version = [line for line in open(os.path.join(ROOT, "command", "Cargo.toml")) if line.startswith("version")]
     expect("version", 0, ("carolsedge %s\n" % version[0].split('"')[1]).encode(), [], "--version")
 
