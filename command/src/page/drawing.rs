@@ -2,11 +2,12 @@
 //! is drawn is scaled; what is written is exact.
 use crate::output::grouped;
 
-/// A place on the axis: where it begins and how wide it is, from 0 to 1, what stands there, and the two lines that are
-/// written below it where there is room.
+/// A place on the axis: where it begins and how wide it is, from 0 to 1, where it is marked below the axis, what stands
+/// there, and the two lines that are written at the mark where there is room.
 pub struct Place {
     pub at: f64,
     pub width: f64,
+    pub mark: f64,
     pub said: String,
     pub below: [String; 2],
 }
@@ -153,12 +154,12 @@ fn label(text: &str, top: f64) -> String {
 /// The first place, some behind it, and the last, if there is room for both.
 fn ticks(places: &[Place]) -> Vec<&Place> {
     let mut sorted: Vec<&Place> = places.iter().collect();
-    sorted.sort_by(|one, other| one.at.total_cmp(&other.at));
-    let last = sorted.last().map_or(0.0, |place| place.at);
+    sorted.sort_by(|one, other| one.mark.total_cmp(&other.mark));
+    let last = sorted.last().map_or(0.0, |place| place.mark);
     let mut taken: Vec<&Place> = Vec::new();
     for place in sorted {
-        let free = taken.last().is_none_or(|before| place.at - before.at >= APART);
-        let room = taken.is_empty() || place.at == last || last - place.at >= APART;
+        let free = taken.last().is_none_or(|before| place.mark - before.mark >= APART);
+        let room = taken.is_empty() || place.mark == last || last - place.mark >= APART;
         if free && room {
             taken.push(place);
         }
@@ -168,12 +169,12 @@ fn ticks(places: &[Place]) -> Vec<&Place> {
 
 /// The lines below a place, which go inward from the edges. Between the first and the last, a narrow window has none.
 fn below(place: &Place, kind: &str, axis: f64) -> String {
-    let anchor = match place.at {
+    let anchor = match place.mark {
         at if at < APART => "start",
         at if at > 1.0 - APART => "end",
         _ => "middle",
     };
-    let x = 100.0 * place.at;
+    let x = 100.0 * place.mark;
     let text =
         |line: &str, y: f64| format!("<text x=\"{x:.3}%\" y=\"{y:.1}\" text-anchor=\"{anchor}\">{line}</text>");
     format!(

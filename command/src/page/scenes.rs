@@ -38,6 +38,7 @@ fn place(j: usize, scene: &Scene, pictures: u32) -> Place {
     let of = format!("scene {j}, {} from {} on", count(scene.pictures.into(), "picture"), scene.first);
     Place {
         at: part(scene.first),
+        mark: part(scene.first),
         width: part(scene.pictures),
         said: format!("{of}: cut scores {score}, greatest {peak}; {repeated}; changes {change}"),
         below: [format!("scene {j}"), format!("picture {}", scene.first)],

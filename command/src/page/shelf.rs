@@ -7,6 +7,9 @@ use crate::shelf::{lines, Line};
 use crate::stop::Stop;
 use carolsedge::{Shelf, NEWEST_EDITION};
 
+/// What a record's bar takes of its place, so that bars of one height can be told apart, few or many.
+const BAR: f64 = 0.9;
+
 pub fn page(bytes: &[u8], shelf: &Shelf, name: &str) -> Result<String, Stop> {
     let lines = lines(bytes, shelf)?;
     let top = "Every figure is what the proved reader gives of the shelf or of a record of it. Drawings are to \
@@ -45,7 +48,8 @@ fn place(j: usize, line: &Line, records: usize) -> Place {
     let (units, lost) = (count(line.header.units as u64, "unit"), grouped(line.lost));
     Place {
         at: part(j),
-        width: part(1),
+        width: BAR * part(1),
+        mark: part(j) + BAR * part(1) / 2.0,
         said: format!("record {j}: {units}, {lost} lost, index {:?}", line.header.index),
         below: [format!("record {j}"), format!("{lost} lost")],
     }

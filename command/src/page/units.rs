@@ -51,6 +51,7 @@ fn place(j: usize, unit: &Unit, first: u64, all: u64, known: bool) -> Place {
     let also = if known { format!(", {damaged} damaged") } else { String::new() };
     Place {
         at: part(unit.least - first, all),
+        mark: part(unit.least - first, all),
         width: part(unit.greatest - unit.least, all),
         said: format!("unit {j}, after {after} s: {packets} packets, {lost} lost{also}"),
         below: [format!("unit {j}"), format!("{after} s")],
