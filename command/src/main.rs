@@ -20,6 +20,7 @@ mod show;
 mod signals;
 mod stop;
 mod survey;
+mod walk;
 mod words;
 
 use std::ffi::OsString;

@@ -5,19 +5,18 @@ mod look;
 mod progress;
 mod stream;
 mod telling;
-mod walk;
 mod y4m;
 
 use crate::input::Input;
 use crate::output;
 use crate::record_file::RecordFile;
 use crate::stop::{Refused, Stop};
+use crate::walk::Walk;
 use crate::{survey, Subcommand};
 use asked::Asked;
 use carolsedge::{Record, Sample, RECORD_MOST};
 use std::ffi::OsString;
 use std::ops::Range;
-use walk::Walk;
 
 pub const SUBCOMMAND: Subcommand =
     Subcommand { name: "measure", summary: "measure a capture and its pictures into a record", help: HELP, run };

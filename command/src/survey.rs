@@ -2,6 +2,7 @@
 use crate::input::Input;
 use crate::output;
 use crate::stop::Stop;
+use crate::walk::Walk;
 use crate::words::Words;
 use crate::Subcommand;
 use carolsedge::{Most, Survey};
@@ -41,15 +42,19 @@ fn run(words: Vec<OsString>) -> Result<(), Stop> {
 /// The identifier with most good packets of a capture, which is read to its end, and the next: of the others that have
 /// any the one with most, the lowest among equals.
 pub fn most(input: &mut Input) -> Result<(Most, Option<Most>), Stop> {
-    let mut survey = Survey::open();
+    let (mut survey, mut walk) = (Survey::open(), Walk::new());
     let mut piece = vec![0; PIECE];
     loop {
         let n = input.read(&mut piece)?;
         if n == 0 || survey.feed(&piece[..n]).is_err() {
             break;
         }
+        walk.take(&piece[..n], |_| {});
     }
-    let most = survey.ask().map_err(|refusal| Stop::refused(refusal, Vec::new()))?;
+    let most = survey.ask().map_err(|refusal| {
+        let found = if refusal.number == 21 { walk.nothing_good() } else { Vec::new() };
+        Stop::refused(refusal, found)
+    })?;
     let others = (0..8192).filter(|&pid| pid != most.pid).map(|pid| Most { pid, packets: survey.packets(pid) });
     let next = others.filter(|other| other.packets > 0).min_by_key(|other| Reverse(other.packets));
     Ok((most, next))

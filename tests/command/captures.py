@@ -50,6 +50,7 @@ def named():
         said = ["refused 12", "No frame carries transport packets", reason, mends]
         got = expect(name, 1, b"refused 12 0\n", said, *words)
         check("--pid" not in got[2], name + ": a hint about the identifier: " + got[2])
+        expect(name + ", surveyed", 1, b"refused 21 0\n", ["refused 21", *said[1:]], "survey", "capture.pcap")
         write("capture.pcap", capture(frames, snap) + capture(good(1))[24:])
         said = "warning: %d of %d frames skipped" % (len(frames), len(frames) + 1)
         said = ["1 picture beside 1 unit", said, reason, mends]

@@ -2,11 +2,11 @@
 use super::asked::Asked;
 use super::look::Look;
 use super::progress::Progress;
-use super::walk::Walk;
 use super::y4m::{self, Heading};
 use super::{Measured, PIECE};
 use crate::input::Input;
 use crate::stop::Stop;
+use crate::walk::Walk;
 use carolsedge::{Opening, Sample};
 
 /// What the pictures are.

@@ -2,11 +2,11 @@
 //! y4m stream. Both sides are fed while they come, and nothing is kept on a disk.
 use super::asked::Asked;
 use super::progress::Progress;
-use super::walk::Walk;
 use super::y4m::{self, Heading};
 use super::{Measured, PIECE};
 use crate::input::Input;
 use crate::stop::Stop;
+use crate::walk::Walk;
 use carolsedge::{Opening, Sample};
 use std::io::{BufRead, BufReader, ErrorKind, Read, Write};
 use std::process::{Child, ChildStdin, ChildStdout, Command, Stdio};

@@ -1,9 +1,9 @@
 //! What is said on standard error of a run: behind a seal what was measured and what looks doubtful; behind a refusal
 //! what was really found.
-use super::walk::Walk;
 use super::Measured;
 use crate::explain;
 use crate::output::{count, grouped, say};
+use crate::walk::Walk;
 use carolsedge::{Header, Refusal};
 
 /// Says what a sealed record holds, and warns where that may not be what was meant.
@@ -19,8 +19,8 @@ pub fn sealed(header: &Header, measured: &Measured) {
         say(&format!("warning: {both}: {}\n", differ(pictures, units, measured.raw)));
     }
     if skipped > 0 {
-        say(&format!("warning: {} of {frames} skipped: {}\n", grouped(skipped.into()), reasons(&measured.walk)));
-        tell(&mends(&measured.walk));
+        say(&format!("warning: {} of {frames} skipped: {}\n", grouped(skipped.into()), measured.walk.reasons()));
+        tell(&measured.walk.mends());
     }
     let without = measured.walk.bad();
     if without > 0 {
@@ -60,18 +60,6 @@ fn differ(pictures: u64, units: u64, raw: bool) -> &'static str {
     }
 }
 
-/// The skipped frames by reason: `2 not IPv4, 1 RTP`.
-fn reasons(walk: &Walk) -> String {
-    let all = walk.skipped().reasons().map(|(frames, words, _)| format!("{} {words}", grouped(frames)));
-    all.collect::<Vec<_>>().join(", ")
-}
-
-/// What mends each reason that may have cost packets.
-fn mends(walk: &Walk) -> Vec<String> {
-    let all = walk.skipped().reasons().filter(|reason| !reason.2.is_empty());
-    all.map(|(_, words, mends)| format!("{words}: {mends}")).collect()
-}
-
 /// What was found about a refused seal; nothing where the table says it all.
 pub fn refused(refusal: &Refusal, pid: u32, measured: &Measured) -> Vec<String> {
     match refusal.number {
@@ -87,29 +75,18 @@ fn no_picture(measured: &Measured) -> Vec<String> {
     if lines.is_empty() {
         lines.push(explain::mends(14).into());
     }
-    let skipped: u64 = measured.walk.skipped().reasons().map(|reason| reason.0).sum();
+    let skipped = measured.walk.skipped();
     if skipped > 0 {
         let all = count(skipped + measured.walk.carrying(), "frame");
-        lines.push(format!("Of {all}, {} skipped: {}", grouped(skipped), reasons(&measured.walk)));
-        lines.extend(mends(&measured.walk).iter().map(|line| format!("  {line}")));
+        lines.push(format!("Of {all}, {} skipped: {}", grouped(skipped), measured.walk.reasons()));
+        lines.extend(measured.walk.mends().iter().map(|line| format!("  {line}")));
     }
     lines
 }
 
 /// Why there is no packet of the identifier.
 fn no_packet(pid: u32, walk: &Walk) -> Vec<String> {
-    let skipped: u64 = walk.skipped().reasons().map(|reason| reason.0).sum();
     let identifiers = walk.identifiers();
-    if walk.carrying() == 0 {
-        if skipped == 0 {
-            return vec!["The capture has no frames: was there traffic, and did tcpdump's filter let it pass?".into()];
-        }
-        let frames = count(skipped, "frame");
-        let mut lines = vec![format!("No frame carries transport packets. Of {frames}: {}.", reasons(walk))];
-        lines.extend(mends(walk).iter().map(|line| format!("  {line}")));
-        return lines;
-    }
-    let frames = count(walk.carrying(), "frame");
     let marked = walk.damaged_of(pid);
     if marked > 0 {
         let all = count(marked, "packet");
@@ -117,32 +94,17 @@ fn no_packet(pid: u32, walk: &Walk) -> Vec<String> {
             "The receiver marked {all} of identifier {pid} as damaged, and there is no other of it."
         )];
     }
-    let damaged = (walk.damaged() > 0).then(|| {
-        let all = count(walk.damaged(), "packet");
-        format!("The receiver marked {all} as damaged, whose identifiers may be wrong.")
-    });
     if identifiers.is_empty() {
-        return no_good(&frames, walk.bad(), damaged);
+        return walk.nothing_good();
     }
+    let frames = count(walk.carrying(), "frame");
     let most = identifiers.iter().take(6).map(|(of, n)| format!("{of} ({})", count(*n, "packet")));
     let most = most.collect::<Vec<_>>().join(", ");
     let mut lines = vec![format!("No packet in {frames} has identifier {pid}. There are: {most}.")];
-    lines.extend(damaged);
+    lines.extend(walk.marked());
     // Identifiers below 32 are tables, and 8191 fills gaps.
     if let Some((likely, _)) = identifiers.iter().find(|(of, _)| (32..8191).contains(of)) {
         lines.push(format!("Most likely: --pid {likely}"));
     }
     lines
-}
-
-/// What there is where no packet is good.
-fn no_good(frames: &str, bad: u64, damaged: Option<String>) -> Vec<String> {
-    let bads = count(bad, "packet");
-    match damaged {
-        None => {
-            vec![format!("All {bads} in {frames} are bad: none begins with 0x47, so this is no transport stream.")]
-        }
-        Some(damaged) if bad == 0 => vec![format!("No packet in {frames} is good."), damaged],
-        Some(damaged) => vec![format!("No packet in {frames} is good: {bads} without 0x47."), damaged],
-    }
 }

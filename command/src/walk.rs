@@ -1,6 +1,7 @@
-//! What `measure` finds in a capture beside the library: why frames were skipped, which identifiers there are, and the
+//! What is found in a capture beside the library: why frames were skipped, which identifiers there are, and the
 //! transport packets that a decoder is given. It makes no figure of a record.
 use crate::frames::{Frame, Frames, Skip, Skipped};
+use crate::output::{count, grouped};
 
 pub struct Walk {
     frames: Frames,
@@ -56,14 +57,51 @@ impl Walk {
         self.bad
     }
 
-    /// The frames that were skipped.
-    pub fn skipped(&self) -> &Skipped {
-        &self.skipped
+    /// Frames that were skipped.
+    pub fn skipped(&self) -> u64 {
+        self.skipped.reasons().map(|reason| reason.0).sum()
     }
 
-    /// Packets that the receiver marked as damaged, of all identifiers.
-    pub fn damaged(&self) -> u64 {
-        self.damaged.iter().sum()
+    /// The skipped frames by reason: `2 not IPv4, 1 RTP`.
+    pub fn reasons(&self) -> String {
+        let all = self.skipped.reasons().map(|(frames, words, _)| format!("{} {words}", grouped(frames)));
+        all.collect::<Vec<_>>().join(", ")
+    }
+
+    /// What mends each reason that may have cost packets.
+    pub fn mends(&self) -> Vec<String> {
+        let all = self.skipped.reasons().filter(|reason| !reason.2.is_empty());
+        all.map(|(_, words, mends)| format!("{words}: {mends}")).collect()
+    }
+
+    /// How many packets the receiver marked as damaged, of all identifiers, if any.
+    pub fn marked(&self) -> Option<String> {
+        let damaged = self.damaged.iter().sum();
+        let said = |all: String| format!("The receiver marked {all} as damaged, whose identifiers may be wrong.");
+        (damaged > 0).then(|| said(count(damaged, "packet")))
+    }
+
+    /// Why no packet is good, where none is.
+    pub fn nothing_good(&self) -> Vec<String> {
+        if self.carrying == 0 && self.skipped() == 0 {
+            return vec!["The capture has no frames: was there traffic, and did tcpdump's filter let it pass?".into()];
+        }
+        if self.carrying == 0 {
+            let frames = count(self.skipped(), "frame");
+            let mut lines = vec![format!("No frame carries transport packets. Of {frames}: {}.", self.reasons())];
+            lines.extend(self.mends().iter().map(|line| format!("  {line}")));
+            return lines;
+        }
+        let (frames, bads) = (count(self.carrying, "frame"), count(self.bad, "packet"));
+        match self.marked() {
+            None => {
+                vec![format!(
+                    "All {bads} in {frames} are bad: none begins with 0x47, so this is no transport stream."
+                )]
+            }
+            Some(marked) if self.bad == 0 => vec![format!("No packet in {frames} is good."), marked],
+            Some(marked) => vec![format!("No packet in {frames} is good: {bads} without 0x47."), marked],
+        }
     }
 
     /// Packets of an identifier that the receiver marked as damaged.
