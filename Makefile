@@ -36,7 +36,8 @@ demo:
 test:
 	.ci/run
 
-# The library, beside the independent program, a wide sum of bytes and memcpy. A figure is worth something on a quiet machine only.
+# The library, beside the independent program, a wide sum of bytes and memcpy. A figure is worth something on a quiet
+# machine only.
 bench:
 	rt staticlib carolsedge
 	mkdir -p target/tests
