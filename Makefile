@@ -1,9 +1,10 @@
-# make carolsedge builds the command; make install PREFIX=.. puts it in place, with the library and the man pages;
-# make demo measures a stored sample and shows its record; make test runs the gate, and nothing else;
-# make bench prints speeds.
-.PHONY: carolsedge install demo test bench
+# make library builds the library for C and Rust; make carolsedge the command over it; make install PREFIX=.. puts both
+# in place, with the man pages; make demo measures a stored sample and shows its record; make test runs the gate, and
+# nothing else; make bench prints speeds.
+.PHONY: library carolsedge install demo test bench
 
 archive = target/staticlib/libcarolsedge.a
+calls = c_sample c_survey c_record c_shelf c_beside
 version = $(shell sed -n 's/^version = "\(.*\)"/\1/p' command/Cargo.toml)
 PREFIX ?= /usr/local
 place = $(DESTDIR)$(abspath $(PREFIX))
@@ -13,9 +14,13 @@ carolsedge: $(archive)
 	  cargo build --quiet --release --offline --manifest-path command/Cargo.toml
 	install -D -m 755 target/cargo/release/carolsedge target/bin/carolsedge
 
-# The library is built only once it is proved, which takes some minutes on a fresh clone.
+library: $(archive)
+
+# The library is built only once it is proved, which takes some minutes on a fresh clone. Each crate of C functions
+# gives an archive with one object; the library has the objects of all.
 $(archive): $(shell find crates -name '*.rt')
-	rt staticlib carolsedge
+	for crate in $(calls); do rt staticlib $$crate || exit 1; done
+	{ echo create $@; printf 'addlib target/staticlib/lib%s.a\n' $(calls); echo save; echo end; } | ar -M
 
 install: carolsedge
 	install -D -m 755 target/bin/carolsedge $(place)/bin/carolsedge
@@ -38,8 +43,7 @@ test:
 
 # The library, beside the independent program, a wide sum of bytes and memcpy. A figure is worth something on a quiet
 # machine only.
-bench:
-	rt staticlib carolsedge
+bench: $(archive)
 	mkdir -p target/tests
 	rustc --edition 2021 -O tests/bench/main.rs -L target/staticlib -l static=carolsedge -o target/tests/bench
 	target/tests/bench

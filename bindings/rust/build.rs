@@ -1,4 +1,4 @@
-// Finds libcarolsedge.a: in CAROLSEDGE_LIB_DIR, or where `rt staticlib carolsedge` writes it.
+// Finds libcarolsedge.a: in CAROLSEDGE_LIB_DIR, or where `make library` writes it.
 use std::path::PathBuf;
 use std::{env, process};
 
@@ -13,8 +13,8 @@ fn main() {
     println!("cargo:rerun-if-changed={}", archive.display());
     if !archive.is_file() {
         eprintln!(
-            "{} is not there: run `rt staticlib carolsedge` at the top of the repository, or set CAROLSEDGE_LIB_DIR \
-             to its folder",
+            "{} is not there: run `make library` at the top of the repository, or set CAROLSEDGE_LIB_DIR to its \
+             folder",
             archive.display()
         );
         process::exit(1);

@@ -38,7 +38,7 @@
 //!
 //! The archive `libcarolsedge.a` is for x86-64 Linux. The build looks for it in the folder that the environment
 //! variable `CAROLSEDGE_LIB_DIR` names, and otherwise in `target/staticlib` at the top of the repository, where
-//! `rt staticlib carolsedge` writes it.
+//! `make library` writes it.
 #![deny(missing_docs)]
 
 mod busiest;

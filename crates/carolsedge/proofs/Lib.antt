@@ -1,9 +1,0 @@
-pub mod Answers
-pub mod Listed
-pub mod Lists
-pub mod Surveys
-pub mod Unplaced
-pub mod Beside
-pub mod BusiestNumbers
-pub mod Shelf
-pub mod RtpNumbers
