@@ -6,8 +6,7 @@ fn main() {
     println!("cargo:rerun-if-env-changed=CAROLSEDGE_LIB_DIR");
     let folder = match env::var_os("CAROLSEDGE_LIB_DIR") {
         Some(folder) => PathBuf::from(folder),
-        None => PathBuf::from(env::var_os("CARGO_MANIFEST_DIR").unwrap_or_default())
-            .join("../../target/staticlib"),
+        None => PathBuf::from(env::var_os("CARGO_MANIFEST_DIR").unwrap_or_default()).join("../../target/staticlib"),
     };
     let archive = folder.join("libcarolsedge.a");
     println!("cargo:rerun-if-changed={}", archive.display());

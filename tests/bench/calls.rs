@@ -97,11 +97,10 @@ fn feed_survey(pieces: &[&[u8]]) -> f64 {
     let mut state = ours::SurveyState::open();
     let seconds = timed(|| {
         for &bytes in pieces {
-            assert_eq!(state.feed(bytes), (0, bytes.len() as u64));
+            assert_eq!(state.feed(bytes), Ok(bytes.len()));
         }
     });
-    let (number, pid, _) = state.ask();
-    assert_eq!((number, pid), (0, u64::from(PID)), "the identifier with most packets");
+    assert_eq!(state.ask().map(|(pid, _)| pid), Ok(PID), "the identifier with most packets");
     seconds
 }
 
@@ -121,7 +120,7 @@ fn index_call() -> Row {
 fn repeats_call() -> Row {
     let state = sample_of(750);
     let ask = |end: u32| {
-        let calls = || (0..CALLS).for_each(|_| assert_eq!(black_box(&state).repeats(0, black_box(end)), (0, 0)));
+        let calls = || (0..CALLS).for_each(|_| assert_eq!(black_box(&state).repeats(0, black_box(end)), Ok(0)));
         timed(calls) / CALLS as f64
     };
     let seconds = best([&mut || ask(750), &mut || ask(1)]);
@@ -136,12 +135,12 @@ fn sample_of(count: usize) -> Box<ours::State> {
     let mut maker = CaptureMaker::new(&mut random, PID);
     maker.units(count);
     let mut state = ours::State::new();
-    assert_eq!(state.open(64, 48, 40_000, PID, EDITION), 0, "a good opening");
+    assert_eq!(state.open(64, 48, 40_000, PID, EDITION), Ok(()), "a good opening");
     for (answer, length) in [
         (state.feed_capture(&maker.side.bytes), maker.side.bytes.len()),
         (state.feed_luma(&luma), luma.len()),
     ] {
-        assert_eq!(answer, (0, length as u64));
+        assert_eq!(answer, Ok(length));
     }
     state
 }
@@ -154,7 +153,7 @@ fn effective_loss() -> Row {
     let mut lists = [[[0.0; UNITS]; 2]; 2];
     let [[keys, plain], [other_keys, other_plain]] = &mut lists;
     let mut ours = || {
-        timed(|| assert_eq!(ours::effective_loss(UNITS as u32, &losses, &probabilities, keys, plain), 0))
+        timed(|| assert_eq!(ours::effective_loss(UNITS as u32, &losses, &probabilities, keys, plain), Ok(())))
     };
     let mut other = || {
         timed(|| assert_eq!(loss::fill(UNITS, &losses, &probabilities, other_keys, other_plain), Ok(())))
@@ -180,7 +179,7 @@ fn rtp_falling() -> Row {
     };
     let mut buffers = [[0; 32 * ROWS as usize / 8]; 2];
     let [buffer, other_buffer] = &mut buffers;
-    let mut ours = || timed(|| assert_eq!(ours::rtp_units(&sequence, &marker, &time, &size, buffer), (0, 512)));
+    let mut ours = || timed(|| assert_eq!(ours::rtp_units(&sequence, &marker, &time, &size, buffer), Ok(512)));
     let mut other = || timed(|| assert_eq!(rtp::write(&packets, other_buffer), Ok(512)));
     let seconds = best([&mut ours, &mut other]);
     assert_eq!(buffers[0], buffers[1], "the same rows");

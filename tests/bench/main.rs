@@ -43,6 +43,8 @@ mod units;
 
 #[path = "../../bindings/rust/src/raw.rs"]
 mod ours;
+#[path = "../../bindings/rust/src/refusal.rs"]
+mod refusal;
 
 mod calls;
 
@@ -198,7 +200,7 @@ fn pieces(bytes: &[u8], cut: Cut) -> Vec<&[u8]> {
 fn sheet_seconds() -> f64 {
     let record = largest_record();
     let mut buffer = vec![0; SHEET_MOST];
-    let mut print = || timed(|| assert_eq!(ours::sheet(&record, &mut buffer), (0, SHEET_MOST as u64)));
+    let mut print = || timed(|| assert_eq!(ours::sheet(&record, &mut buffer), Ok(SHEET_MOST)));
     (0..ROUNDS).map(|_| print()).fold(f64::MAX, f64::min)
 }
 
@@ -257,14 +259,14 @@ fn measure(input: &Input, cut: Cut) -> Times {
 fn feed_ours(input: &Input, pieces: &[&[u8]]) -> f64 {
     let Opening { width, height, display_time, pid, edition } = input.opening;
     let mut state = ours::State::new();
-    assert_eq!(state.open(width, height, display_time, pid, edition), 0, "a good opening");
+    assert_eq!(state.open(width, height, display_time, pid, edition), Ok(()), "a good opening");
     timed(|| {
         for &bytes in pieces {
             let answer = match input.side {
                 Side::Capture => state.feed_capture(bytes),
                 Side::Luma => state.feed_luma(bytes),
             };
-            assert_eq!(answer, (0, bytes.len() as u64));
+            assert_eq!(answer, Ok(bytes.len()));
         }
     })
 }

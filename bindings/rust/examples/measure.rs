@@ -55,11 +55,7 @@ fn print(record: Record, mut out: impl Write) -> io::Result<()> {
         h.index.to_bits()
     )?;
     for (j, u) in record.units().enumerate() {
-        writeln!(
-            out,
-            "unit {j} {} {} {} {} {}",
-            u.least, u.greatest, u.size, u.packets, u.lost
-        )?;
+        writeln!(out, "unit {j} {} {} {} {} {}", u.least, u.greatest, u.size, u.packets, u.lost)?;
     }
     for (j, s) in record.scenes().enumerate() {
         writeln!(
@@ -103,12 +99,10 @@ fn main() -> ExitCode {
     let said = match measure(&words) {
         Ok(()) => return ExitCode::SUCCESS,
         Err(Stop::Failed(said)) => said,
-        Err(Stop::Refused(Refusal { number, place })) => {
-            match writeln!(io::stdout(), "refused {number} {place}") {
-                Ok(()) => return ExitCode::from(1),
-                Err(e) => format!("standard output: {e}"),
-            }
-        }
+        Err(Stop::Refused(Refusal { number, place })) => match writeln!(io::stdout(), "refused {number} {place}") {
+            Ok(()) => return ExitCode::from(1),
+            Err(e) => format!("standard output: {e}"),
+        },
     };
     // Where standard error cannot be written there is nobody to tell.
     let _ = writeln!(io::stderr(), "measure: {said}");

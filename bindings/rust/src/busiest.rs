@@ -11,17 +11,14 @@ use crate::{raw, Refusal};
 /// assert_eq!(carolsedge::most_scenes(200_000, 750), Ok(250));
 /// ```
 pub fn most_scenes(time: u32, pictures: u32) -> Result<u32, Refusal> {
-    match raw::most_scenes(time, pictures) {
-        (0, scenes) => Ok(scenes as u32),
-        (number, place) => Err(Refusal { number, place }),
-    }
+    raw::most_scenes(time, pictures)
 }
 
 /// Luma that has as many scenes as so many pictures can have: all black and all white in turn.
 ///
 /// Fills the piece with its bytes from byte `at` on and answers how many were written, fewer than the piece holds
-/// where the luma ends. Refusal 1 is given for the size, then those of [`most_scenes`]; the
-/// piece then stands as it was.
+/// where the luma ends. Refusal 1 is given for the size, then those of [`most_scenes`]; the piece then stands as it
+/// was.
 ///
 /// ```
 /// let mut piece = [7; 4];
@@ -37,8 +34,5 @@ pub fn busiest_luma(
     at: u64,
     piece: &mut [u8],
 ) -> Result<usize, Refusal> {
-    match raw::busiest_luma(width, height, time, pictures, at, piece) {
-        (0, length) => Ok(length as usize),
-        (number, place) => Err(Refusal { number, place }),
-    }
+    raw::busiest_luma(width, height, time, pictures, at, piece)
 }

@@ -15,8 +15,5 @@ use crate::{raw, Refusal};
 /// # }
 /// ```
 pub fn gap_runs(n: u32, table: &mut [u64]) -> Result<usize, Refusal> {
-    match raw::gap_runs(n, table) {
-        (0, entries) => Ok(entries as usize),
-        (number, place) => Err(Refusal { number, place }),
-    }
+    raw::gap_runs(n, table)
 }

@@ -23,8 +23,5 @@ pub fn effective_loss(
     plain: &mut [f64],
 ) -> Result<(), Refusal> {
     let units = u32::try_from(losses.len()).unwrap_or(u32::MAX);
-    match raw::effective_loss(units, losses, probabilities, keys, plain) {
-        0 => Ok(()),
-        number => Err(Refusal { number, place: 0 }),
-    }
+    raw::effective_loss(units, losses, probabilities, keys, plain)
 }

@@ -1,5 +1,6 @@
 //! The functions of the proved library, as safe functions over references and slices. All unsafe code of this crate
 //! is here.
+use crate::refusal::{answer, Refusal};
 
 /// The memory that a sample lends to its calls. Every call is safe on any contents of it.
 #[derive(Clone)]
@@ -73,26 +74,11 @@ extern "C" {
         length: usize,
         value: &mut u64,
     ) -> u32;
-    fn carolsedge_index(
-        numbers: &[u64; 16],
-        luma: &[u64; 1600],
-        three: &mut Three,
-        place: &mut u64,
-    ) -> u32;
+    fn carolsedge_index(numbers: &[u64; 16], luma: &[u64; 1600], three: &mut Three, place: &mut u64) -> u32;
     fn carolsedge_repeats(luma: &[u64; 1600], a: u32, b: u32, value: &mut u64) -> u32;
     fn carolsedge_read_header(record: *const u8, length: usize, figures: &mut Figures) -> u32;
-    fn carolsedge_read_unit(
-        record: *const u8,
-        length: usize,
-        j: usize,
-        row: &mut UnitFigures,
-    ) -> u32;
-    fn carolsedge_read_scene(
-        record: *const u8,
-        length: usize,
-        j: usize,
-        row: &mut SceneFigures,
-    ) -> u32;
+    fn carolsedge_read_unit(record: *const u8, length: usize, j: usize, row: &mut UnitFigures) -> u32;
+    fn carolsedge_read_scene(record: *const u8, length: usize, j: usize, row: &mut SceneFigures) -> u32;
     fn carolsedge_open_survey(walk: &mut [u64; 16], kept: &mut [u8; 64], counts: &mut [u32; 8192]);
     fn carolsedge_feed_survey(
         walk: &mut [u64; 16],
@@ -102,19 +88,20 @@ extern "C" {
         length: usize,
         value: &mut u64,
     ) -> u32;
-    fn carolsedge_ask_survey(
-        walk: &[u64; 16],
-        counts: &[u32; 8192],
-        value: &mut u64,
-        count: &mut u64,
+    fn carolsedge_ask_survey(walk: &[u64; 16], counts: &[u32; 8192], value: &mut u64, count: &mut u64) -> u32;
+    fn carolsedge_sheet(record: *const u8, length: usize, buffer: *mut u8, room: usize, value: &mut u64) -> u32;
+    fn carolsedge_effective_loss(
+        units: u32,
+        losses: *const u32,
+        losses_length: usize,
+        probabilities: *const f64,
+        probabilities_length: usize,
+        keys: *mut f64,
+        keys_length: usize,
+        plain: *mut f64,
+        plain_length: usize,
     ) -> u32;
-    fn carolsedge_sheet(
-        record: *const u8,
-        length: usize,
-        buffer: *mut u8,
-        room: usize,
-        value: &mut u64,
-    ) -> u32;
+    fn carolsedge_gap_runs(n: u32, table: *mut u64, length: usize, value: &mut u64) -> u32;
     fn carolsedge_most_scenes(time: u32, pictures: u32, value: &mut u64) -> u32;
     fn carolsedge_busiest_luma(
         width: u32,
@@ -126,19 +113,8 @@ extern "C" {
         length: usize,
         value: &mut u64,
     ) -> u32;
-    fn carolsedge_shelf_open(
-        shelf: *const u8,
-        length: usize,
-        totals: &mut [u64; 2],
-        place: &mut u64,
-    ) -> u32;
-    fn carolsedge_shelf_part(
-        shelf: *const u8,
-        length: usize,
-        j: usize,
-        part: &mut [u64; 2],
-        place: &mut u64,
-    ) -> u32;
+    fn carolsedge_shelf_open(shelf: *const u8, length: usize, totals: &mut [u64; 2], place: &mut u64) -> u32;
+    fn carolsedge_shelf_part(shelf: *const u8, length: usize, j: usize, part: &mut [u64; 2], place: &mut u64) -> u32;
     fn carolsedge_shelf_write(
         records: *const u8,
         size: usize,
@@ -177,10 +153,9 @@ impl State {
         })
     }
 
-    /// The refusal's number, or 0.
-    pub fn open(&mut self, width: u32, height: u32, time: u32, pid: u32, edition: u32) -> u32 {
+    pub fn open(&mut self, width: u32, height: u32, time: u32, pid: u32, edition: u32) -> Result<(), Refusal> {
         // SAFETY: the arrays have the sizes that the function writes to, and are borrowed apart.
-        unsafe {
+        let number = unsafe {
             carolsedge_open(
                 &mut self.walk,
                 &mut self.kept,
@@ -196,11 +171,11 @@ impl State {
                 pid,
                 edition,
             )
-        }
+        };
+        answer(number, 0, ())
     }
 
-    /// The refusal's number, or 0, and the value.
-    pub fn feed_capture(&mut self, piece: &[u8]) -> (u32, u64) {
+    pub fn feed_capture(&mut self, piece: &[u8]) -> Result<usize, Refusal> {
         let mut value = 0;
         // SAFETY: the arrays have the sizes that the function uses; pointer and length are a slice's; all are
         // borrowed apart.
@@ -215,11 +190,10 @@ impl State {
                 &mut value,
             )
         };
-        (number, value)
+        answer(number, value, value as usize)
     }
 
-    /// The refusal's number, or 0, and the value.
-    pub fn feed_luma(&mut self, piece: &[u8]) -> (u32, u64) {
+    pub fn feed_luma(&mut self, piece: &[u8]) -> Result<usize, Refusal> {
         let mut value = 0;
         // SAFETY: the arrays have the sizes that the function uses; pointer and length are a slice's; all are
         // borrowed apart.
@@ -234,11 +208,10 @@ impl State {
                 &mut value,
             )
         };
-        (number, value)
+        answer(number, value, value as usize)
     }
 
-    /// The refusal's number, or 0, and the value.
-    pub fn seal(&self, buffer: &mut [u8]) -> (u32, u64) {
+    pub fn seal(&self, buffer: &mut [u8]) -> Result<usize, Refusal> {
         let mut value = 0;
         // SAFETY: the arrays have the sizes that the function reads; pointer and length are those of a slice that
         // is borrowed alone.
@@ -254,43 +227,36 @@ impl State {
                 &mut value,
             )
         };
-        (number, value)
+        answer(number, value, value as usize)
     }
 
-    /// Ic, Ip and the index, or the refusal's number and place.
-    pub fn index(&self) -> Result<Three, (u32, u64)> {
+    pub fn index(&self) -> Result<Three, Refusal> {
         let mut three = [0.0; 3];
         let mut place = 0;
         // SAFETY: the arrays have the sizes that the function uses, and those that it writes to are borrowed alone.
         let number = unsafe { carolsedge_index(&self.numbers, &self.luma, &mut three, &mut place) };
-        given(number, three).map_err(|number| (number, place))
+        answer(number, place, three)
     }
 
-    /// The refusal's number, or 0, and the value.
-    pub fn repeats(&self, a: u32, b: u32) -> (u32, u64) {
+    pub fn repeats(&self, a: u32, b: u32) -> Result<usize, Refusal> {
         let mut value = 0;
         // SAFETY: the array has the size that the function reads.
         let number = unsafe { carolsedge_repeats(&self.luma, a, b, &mut value) };
-        (number, value)
+        answer(number, value, value as usize)
     }
 }
 
 impl SurveyState {
     /// The state of a fresh survey.
     pub fn open() -> Box<SurveyState> {
-        let mut state = Box::new(SurveyState {
-            walk: [0; 16],
-            kept: [0; 64],
-            counts: [0; 8192],
-        });
+        let mut state = Box::new(SurveyState { walk: [0; 16], kept: [0; 64], counts: [0; 8192] });
         let SurveyState { walk, kept, counts } = &mut *state;
         // SAFETY: the arrays have the sizes that the function writes to, and are borrowed apart.
         unsafe { carolsedge_open_survey(walk, kept, counts) };
         state
     }
 
-    /// The refusal's number, or 0, and the value.
-    pub fn feed(&mut self, piece: &[u8]) -> (u32, u64) {
+    pub fn feed(&mut self, piece: &[u8]) -> Result<usize, Refusal> {
         let mut value = 0;
         // SAFETY: the arrays have the sizes that the function uses; pointer and length are a slice's; all are borrowed
         // apart.
@@ -304,16 +270,15 @@ impl SurveyState {
                 &mut value,
             )
         };
-        (number, value)
+        answer(number, value, value as usize)
     }
 
-    /// The refusal's number, or 0; the identifier, or the place; and the count.
-    pub fn ask(&self) -> (u32, u64, u64) {
+    /// The identifier, and its count.
+    pub fn ask(&self) -> Result<(u32, u64), Refusal> {
         let (mut value, mut count) = (0, 0);
         // SAFETY: the arrays have the sizes that the function reads; the numbers are borrowed apart.
-        let number =
-            unsafe { carolsedge_ask_survey(&self.walk, &self.counts, &mut value, &mut count) };
-        (number, value, count)
+        let number = unsafe { carolsedge_ask_survey(&self.walk, &self.counts, &mut value, &mut count) };
+        answer(number, value, (value as u32, count))
     }
 
     /// The table: good packets by identifier.
@@ -322,55 +287,73 @@ impl SurveyState {
     }
 }
 
-/// The header's figures, or the refusal's number.
-pub fn read_header(record: &[u8]) -> Result<Figures, u32> {
+pub fn read_header(record: &[u8]) -> Result<Figures, Refusal> {
     let mut figures = [0; 12];
     // SAFETY: pointer and length are a slice's; the array has the size that the function writes to.
     let number = unsafe { carolsedge_read_header(record.as_ptr(), record.len(), &mut figures) };
-    given(number, figures)
+    answer(number, 0, figures)
 }
 
-/// Unit row j, or the refusal's number.
-pub fn read_unit(record: &[u8], j: usize) -> Result<UnitFigures, u32> {
+pub fn read_unit(record: &[u8], j: usize) -> Result<UnitFigures, Refusal> {
     let mut row = [0; 6];
     // SAFETY: pointer and length are a slice's; the array has the size that the function writes to.
     let number = unsafe { carolsedge_read_unit(record.as_ptr(), record.len(), j, &mut row) };
-    given(number, row)
+    answer(number, 0, row)
 }
 
-/// Scene row j, or the refusal's number.
-pub fn read_scene(record: &[u8], j: usize) -> Result<SceneFigures, u32> {
+pub fn read_scene(record: &[u8], j: usize) -> Result<SceneFigures, Refusal> {
     let mut row = [0; 7];
     // SAFETY: pointer and length are a slice's; the array has the size that the function writes to.
     let number = unsafe { carolsedge_read_scene(record.as_ptr(), record.len(), j, &mut row) };
-    given(number, row)
+    answer(number, 0, row)
 }
 
-/// The refusal's number, or 0, and the value.
-pub fn sheet(record: &[u8], buffer: &mut [u8]) -> (u32, u64) {
+pub fn sheet(record: &[u8], buffer: &mut [u8]) -> Result<usize, Refusal> {
     let mut value = 0;
     // SAFETY: pointers and lengths are those of two slices, of which the one that is written to is borrowed alone.
-    let number = unsafe {
-        carolsedge_sheet(
-            record.as_ptr(),
-            record.len(),
-            buffer.as_mut_ptr(),
-            buffer.len(),
-            &mut value,
-        )
-    };
-    (number, value)
+    let number =
+        unsafe { carolsedge_sheet(record.as_ptr(), record.len(), buffer.as_mut_ptr(), buffer.len(), &mut value) };
+    answer(number, value, value as usize)
 }
 
-/// The refusal's number, or 0, and the value.
-pub fn most_scenes(time: u32, pictures: u32) -> (u32, u64) {
+pub fn effective_loss(
+    units: u32,
+    losses: &[u32],
+    probabilities: &[f64],
+    keys: &mut [f64],
+    plain: &mut [f64],
+) -> Result<(), Refusal> {
+    // SAFETY: pointers and lengths are those of slices, of which the two that are written are borrowed alone.
+    let number = unsafe {
+        carolsedge_effective_loss(
+            units,
+            losses.as_ptr(),
+            losses.len(),
+            probabilities.as_ptr(),
+            probabilities.len(),
+            keys.as_mut_ptr(),
+            keys.len(),
+            plain.as_mut_ptr(),
+            plain.len(),
+        )
+    };
+    answer(number, 0, ())
+}
+
+pub fn gap_runs(n: u32, table: &mut [u64]) -> Result<usize, Refusal> {
+    let mut value = 0;
+    // SAFETY: pointer and length are those of a slice that is borrowed alone.
+    let number = unsafe { carolsedge_gap_runs(n, table.as_mut_ptr(), table.len(), &mut value) };
+    answer(number, value, value as usize)
+}
+
+pub fn most_scenes(time: u32, pictures: u32) -> Result<u32, Refusal> {
     let mut value = 0;
     // SAFETY: the function writes to the value and nothing else.
     let number = unsafe { carolsedge_most_scenes(time, pictures, &mut value) };
-    (number, value)
+    answer(number, value, value as u32)
 }
 
-/// The refusal's number, or 0, and the value.
 pub fn busiest_luma(
     width: u32,
     height: u32,
@@ -378,44 +361,32 @@ pub fn busiest_luma(
     pictures: u32,
     at: u64,
     piece: &mut [u8],
-) -> (u32, u64) {
+) -> Result<usize, Refusal> {
     let mut value = 0;
     // SAFETY: pointer and length are those of a slice that is borrowed alone.
     let number = unsafe {
-        carolsedge_busiest_luma(
-            width,
-            height,
-            time,
-            pictures,
-            at,
-            piece.as_mut_ptr(),
-            piece.len(),
-            &mut value,
-        )
+        carolsedge_busiest_luma(width, height, time, pictures, at, piece.as_mut_ptr(), piece.len(), &mut value)
     };
-    (number, value)
+    answer(number, value, value as usize)
 }
 
-/// Records and lost packets of a shelf, or the refusal's number and place.
-pub fn shelf_open(shelf: &[u8]) -> Result<[u64; 2], (u32, u64)> {
+/// Records and lost packets of a shelf.
+pub fn shelf_open(shelf: &[u8]) -> Result<[u64; 2], Refusal> {
     let (mut totals, mut place) = ([0; 2], 0);
     // SAFETY: pointer and length are a slice's; the array has the size that the function writes to.
-    let number =
-        unsafe { carolsedge_shelf_open(shelf.as_ptr(), shelf.len(), &mut totals, &mut place) };
-    given(number, totals).map_err(|number| (number, place))
+    let number = unsafe { carolsedge_shelf_open(shelf.as_ptr(), shelf.len(), &mut totals, &mut place) };
+    answer(number, place, totals)
 }
 
-/// Start and end of record j in a shelf, or the refusal's number and place.
-pub fn shelf_part(shelf: &[u8], j: usize) -> Result<[u64; 2], (u32, u64)> {
+/// Start and end of record j in a shelf.
+pub fn shelf_part(shelf: &[u8], j: usize) -> Result<[u64; 2], Refusal> {
     let (mut part, mut place) = ([0; 2], 0);
     // SAFETY: pointer and length are a slice's; the array has the size that the function writes to.
-    let number =
-        unsafe { carolsedge_shelf_part(shelf.as_ptr(), shelf.len(), j, &mut part, &mut place) };
-    given(number, part).map_err(|number| (number, place))
+    let number = unsafe { carolsedge_shelf_part(shelf.as_ptr(), shelf.len(), j, &mut part, &mut place) };
+    answer(number, place, part)
 }
 
-/// The refusal's number, or 0, and the value.
-pub fn shelf_write(records: &[u8], lengths: &[u32], buffer: &mut [u8]) -> (u32, u64) {
+pub fn shelf_write(records: &[u8], lengths: &[u32], buffer: &mut [u8]) -> Result<usize, Refusal> {
     let mut value = 0;
     // SAFETY: pointers and lengths are those of slices, of which the one that is written is borrowed alone.
     let number = unsafe {
@@ -429,17 +400,16 @@ pub fn shelf_write(records: &[u8], lengths: &[u32], buffer: &mut [u8]) -> (u32, 
             &mut value,
         )
     };
-    (number, value)
+    answer(number, value, value as usize)
 }
 
-/// The refusal's number, or 0, and the value.
 pub fn rtp_units(
     sequence: &[u16],
     marker: &[bool],
     time: &[u64],
     size: &[u16],
     buffer: &mut [u8],
-) -> (u32, u64) {
+) -> Result<usize, Refusal> {
     let mut value = 0;
     // SAFETY: pointers and lengths are those of slices, of which the one that is written is borrowed alone; a bool is
     // a byte, 0 or 1.
@@ -458,62 +428,5 @@ pub fn rtp_units(
             &mut value,
         )
     };
-    (number, value)
-}
-
-fn given<T>(number: u32, figures: T) -> Result<T, u32> {
-    match number {
-        0 => Ok(figures),
-        number => Err(number),
-    }
-}
-
-extern "C" {
-    fn carolsedge_effective_loss(
-        units: u32,
-        losses: *const u32,
-        losses_length: usize,
-        probabilities: *const f64,
-        probabilities_length: usize,
-        keys: *mut f64,
-        keys_length: usize,
-        plain: *mut f64,
-        plain_length: usize,
-    ) -> u32;
-}
-
-/// The refusal's number, or 0.
-pub fn effective_loss(
-    units: u32,
-    losses: &[u32],
-    probabilities: &[f64],
-    keys: &mut [f64],
-    plain: &mut [f64],
-) -> u32 {
-    // SAFETY: pointers and lengths are those of slices, of which the two that are written are borrowed alone.
-    unsafe {
-        carolsedge_effective_loss(
-            units,
-            losses.as_ptr(),
-            losses.len(),
-            probabilities.as_ptr(),
-            probabilities.len(),
-            keys.as_mut_ptr(),
-            keys.len(),
-            plain.as_mut_ptr(),
-            plain.len(),
-        )
-    }
-}
-
-extern "C" {
-    fn carolsedge_gap_runs(n: u32, table: *mut u64, length: usize, value: &mut u64) -> u32;
-}
-
-/// The refusal's number, or 0, and the value.
-pub fn gap_runs(n: u32, table: &mut [u64]) -> (u32, u64) {
-    let mut value = 0;
-    // SAFETY: pointer and length are those of a slice that is borrowed alone.
-    let number = unsafe { carolsedge_gap_runs(n, table.as_mut_ptr(), table.len(), &mut value) };
-    (number, value)
+    answer(number, value, value as usize)
 }

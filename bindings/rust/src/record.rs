@@ -77,14 +77,13 @@ pub struct Record<'a> {
 impl<'a> Record<'a> {
     /// Tests a whole record, of which the slice holds every byte and no more, or gives refusal 16, 17 or 18.
     pub fn read(bytes: &'a [u8]) -> Result<Record<'a>, Refusal> {
-        let figures = raw::read_header(bytes).map_err(unplaced)?;
+        let figures = raw::read_header(bytes)?;
         Ok(Record { bytes, figures })
     }
 
     /// The header's figures.
     pub fn header(&self) -> Header {
-        let [edition, units, scenes, width, height, time, pid, pictures, frames, skipped, bad, index] =
-            self.figures;
+        let [edition, units, scenes, width, height, time, pid, pictures, frames, skipped, bad, index] = self.figures;
         Header {
             edition: edition as u32,
             units: units as usize,
@@ -103,8 +102,7 @@ impl<'a> Record<'a> {
 
     /// Unit row j, from 0, or refusal 19. The record is tested again.
     pub fn unit(&self, j: usize) -> Result<Unit, Refusal> {
-        let [least, greatest, size, packets, lost, damaged] =
-            raw::read_unit(self.bytes, j).map_err(unplaced)?;
+        let [least, greatest, size, packets, lost, damaged] = raw::read_unit(self.bytes, j)?;
         Ok(Unit {
             least,
             greatest,
@@ -117,45 +115,26 @@ impl<'a> Record<'a> {
 
     /// Scene row j, from 0, or refusal 19. The record is tested again.
     pub fn scene(&self, j: usize) -> Result<Scene, Refusal> {
-        let row = raw::read_scene(self.bytes, j).map_err(unplaced)?;
-        let [first, pictures, repeated, longest, score, peak, change] =
-            row.map(|figure| figure as u32);
-        Ok(Scene {
-            first,
-            pictures,
-            repeated,
-            longest,
-            score,
-            peak,
-            change,
-        })
+        let row = raw::read_scene(self.bytes, j)?;
+        let [first, pictures, repeated, longest, score, peak, change] = row.map(|figure| figure as u32);
+        Ok(Scene { first, pictures, repeated, longest, score, peak, change })
     }
 
     /// The units, in order.
     pub fn units(&self) -> impl ExactSizeIterator<Item = Unit> + DoubleEndedIterator + 'a {
         let record = *self;
-        (0..self.header().units)
-            .map(move |j| record.unit(j).expect("an allowed record has its rows"))
+        (0..self.header().units).map(move |j| record.unit(j).expect("an allowed record has its rows"))
     }
 
     /// The scenes, in order.
     pub fn scenes(&self) -> impl ExactSizeIterator<Item = Scene> + DoubleEndedIterator + 'a {
         let record = *self;
-        (0..self.header().scenes)
-            .map(move |j| record.scene(j).expect("an allowed record has its rows"))
+        (0..self.header().scenes).map(move |j| record.scene(j).expect("an allowed record has its rows"))
     }
 }
 
 /// Prints a record's sheet to the front of the buffer, in lines of 100 columns and a line feed, on pages of 60 lines,
 /// and gives its length. Refused: 16, 17 or 18, then 15, whose place is the length needed; the buffer then stands.
 pub fn sheet(record: &[u8], buffer: &mut [u8]) -> Result<usize, Refusal> {
-    match raw::sheet(record, buffer) {
-        (0, length) => Ok(length as usize),
-        (number, place) => Err(Refusal { number, place }),
-    }
-}
-
-// No refusal of reading has a place.
-fn unplaced(number: u32) -> Refusal {
-    Refusal { number, place: 0 }
+    raw::sheet(record, buffer)
 }

@@ -21,12 +21,16 @@ impl Refusal {
     /// What the number says, in words.
     pub fn meaning(&self) -> &'static str {
         match self.number {
-            1 => "height outside 30 to 1088, width outside 15 to 1920, height above twice the width, or width \
-                  above four times the height",
+            1 => {
+                "height outside 30 to 1088, width outside 15 to 1920, height above twice the width, or width \
+                  above four times the height"
+            }
             2 => "display time outside 10,000 to 200,000 microseconds",
             3 => "packet identifier above 8191",
             4 => "the capture is longer than 268,435,456 bytes",
-            5 => "the capture's first four bytes are not D4 C3 B2 A1: no little-endian libpcap file with microseconds",
+            5 => {
+                "the capture's first four bytes are not D4 C3 B2 A1: no little-endian libpcap file with microseconds"
+            }
             6 => "the capture's link type is not 1, Ethernet",
             7 => "a frame's microseconds are above 999,999",
             8 => "a frame's stored length is above 65,535",
@@ -52,6 +56,14 @@ impl Refusal {
             28 => "the shelf holds a record that is refused",
             _ => "a number that is not in the table",
         }
+    }
+}
+
+/// What a call gave, or its refusal where the number is not 0: every call of the library answers so.
+pub(crate) fn answer<T>(number: u32, place: u64, given: T) -> Result<T, Refusal> {
+    match number {
+        0 => Ok(given),
+        _ => Err(Refusal { number, place }),
     }
 }
 

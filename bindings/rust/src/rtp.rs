@@ -24,8 +24,5 @@ pub fn rtp_units(
     length: &[u16],
     buffer: &mut [u8],
 ) -> Result<usize, Refusal> {
-    match raw::rtp_units(sequence, marker, time, length, buffer) {
-        (0, units) => Ok(units as usize),
-        (number, place) => Err(Refusal { number, place }),
-    }
+    raw::rtp_units(sequence, marker, time, length, buffer)
 }

@@ -44,17 +44,9 @@ impl Sample {
     /// leaves no sample, so there is nothing to feed.
     pub fn open(opening: Opening) -> Result<Sample, Refusal> {
         let mut state = State::new();
-        let Opening {
-            width,
-            height,
-            time,
-            pid,
-            edition,
-        } = opening;
-        match state.open(width, height, time, pid, edition) {
-            0 => Ok(Sample { state }),
-            number => Err(Refusal { number, place: 0 }),
-        }
+        let Opening { width, height, time, pid, edition } = opening;
+        state.open(width, height, time, pid, edition)?;
+        Ok(Sample { state })
     }
 
     /// Feeds a piece of the capture, and gives the piece's length, or refusal 4 to 9, which later feeds of
@@ -62,13 +54,13 @@ impl Sample {
     ///
     /// Bytes before the refusal's place are taken in, and later ones are ignored. The luma side goes on.
     pub fn feed_capture(&mut self, piece: &[u8]) -> Result<usize, Refusal> {
-        answer(self.state.feed_capture(piece))
+        self.state.feed_capture(piece)
     }
 
     /// Feeds a piece of the luma, and gives the piece's length, or refusal 10, which later feeds of
     /// this side and seals repeat.
     pub fn feed_luma(&mut self, piece: &[u8]) -> Result<usize, Refusal> {
-        answer(self.state.feed_luma(piece))
+        self.state.feed_luma(piece)
     }
 
     /// Seals what was fed: writes the record to the front of the buffer and gives its length, or gives the refusal (4
@@ -77,7 +69,7 @@ impl Sample {
     /// The sample does not change, so feeding may go on. No record is longer than
     /// [`RECORD_MOST`](crate::RECORD_MOST) bytes.
     pub fn seal(&self, buffer: &mut [u8]) -> Result<usize, Refusal> {
-        answer(self.state.seal(buffer))
+        self.state.seal(buffer)
     }
 
     /// The index of what was fed so far: of all whole packets, those of an unfinished frame among
@@ -87,10 +79,8 @@ impl Sample {
     /// seal is done, it is the index that the record has. Refused: 4 to 10 as a feed gave them,
     /// then 12 (no packet) and 14 (no picture); 11 and 13 do not stop it.
     pub fn index(&self) -> Result<Index, Refusal> {
-        match self.state.index() {
-            Ok([ic, ip, value]) => Ok(Index { ic, ip, value }),
-            Err((number, place)) => Err(Refusal { number, place }),
-        }
+        let [ic, ip, value] = self.state.index()?;
+        Ok(Index { ic, ip, value })
     }
 
     /// How many pictures of a passage are repeated: of those from its start up to but without its end.
@@ -98,17 +88,7 @@ impl Sample {
     /// Refused: 26, if the passage's start is above its end, or its end above the whole pictures fed so far. Refusals
     /// of feeds do not stop it: after 10 the 750 pictures before it are there.
     pub fn repeats(&self, passage: Range<u32>) -> Result<usize, Refusal> {
-        answer(self.state.repeats(passage.start, passage.end))
-    }
-}
-
-fn answer((number, value): (u32, u64)) -> Result<usize, Refusal> {
-    match number {
-        0 => Ok(value as usize),
-        number => Err(Refusal {
-            number,
-            place: value,
-        }),
+        self.state.repeats(passage.start, passage.end)
     }
 }
 

@@ -17,12 +17,8 @@ impl<'a> Shelf<'a> {
     /// Tests a whole shelf, of which the slice holds every byte and no more, and every record of it, or gives refusal
     /// 27, or 28, whose place is the number of the first record that is refused, from 0.
     pub fn read(bytes: &'a [u8]) -> Result<Shelf<'a>, Refusal> {
-        let [records, lost] = raw::shelf_open(bytes).map_err(placed)?;
-        Ok(Shelf {
-            bytes,
-            records: records as usize,
-            lost,
-        })
+        let [records, lost] = raw::shelf_open(bytes)?;
+        Ok(Shelf { bytes, records: records as usize, lost })
     }
 
     /// How many records it holds.
@@ -43,7 +39,7 @@ impl<'a> Shelf<'a> {
     /// Record j, from 0, or refusal 19. Nothing is tested again.
     pub fn record(&self, j: usize) -> Result<&'a [u8], Refusal> {
         if j >= self.records {
-            return Err(placed((19, 0)));
+            return Err(Refusal { number: 19, place: 0 });
         }
         Ok(&self.bytes[self.edge(j)..self.edge(j + 1)])
     }
@@ -66,7 +62,7 @@ impl<'a> Shelf<'a> {
 
 /// The bytes of a shelf that are record j, from 0. The whole shelf is tested; refused: 27, 28, then 19.
 pub fn shelf_part(shelf: &[u8], j: usize) -> Result<Range<usize>, Refusal> {
-    let [start, end] = raw::shelf_part(shelf, j).map_err(placed)?;
+    let [start, end] = raw::shelf_part(shelf, j)?;
     Ok(start as usize..end as usize)
 }
 
@@ -75,10 +71,7 @@ pub fn shelf_part(shelf: &[u8], j: usize) -> Result<Range<usize>, Refusal> {
 /// up, 28, whose place is the number of the first one that is refused, then 15 with the length needed; the buffer
 /// stands.
 pub fn shelf_write(records: &[u8], lengths: &[u32], buffer: &mut [u8]) -> Result<usize, Refusal> {
-    match raw::shelf_write(records, lengths, buffer) {
-        (0, length) => Ok(length as usize),
-        refused => Err(placed(refused)),
-    }
+    raw::shelf_write(records, lengths, buffer)
 }
 
 /// The shelf of these records, in this order. Refused: 27 where they are more than 4,096, then 28, whose place is the
@@ -95,8 +88,4 @@ pub fn shelf_of(records: &[impl AsRef<[u8]>]) -> Result<Vec<u8>, Refusal> {
     let mut shelf = vec![0; 8 + 4 * lengths.len() + all.len()];
     shelf_write(&all, &lengths, &mut shelf)?;
     Ok(shelf)
-}
-
-fn placed((number, place): (u32, u64)) -> Refusal {
-    Refusal { number, place }
 }

@@ -23,31 +23,21 @@ pub struct Survey {
 impl Survey {
     /// Opens a fresh survey.
     pub fn open() -> Survey {
-        Survey {
-            state: SurveyState::open(),
-        }
+        Survey { state: SurveyState::open() }
     }
 
     /// Feeds a piece of the capture, and gives the piece's length, or refusal 4 to 8, which later feeds and questions
     /// repeat.
     pub fn feed(&mut self, piece: &[u8]) -> Result<usize, Refusal> {
-        match self.state.feed(piece) {
-            (0, length) => Ok(length as usize),
-            (number, place) => Err(Refusal { number, place }),
-        }
+        self.state.feed(piece)
     }
 
     /// Asks what was fed so far: the identifier with most good packets, or refusal 4 to 8, 11 or 21.
     ///
     /// The survey does not change, so feeding may go on.
     pub fn ask(&self) -> Result<Most, Refusal> {
-        match self.state.ask() {
-            (0, pid, packets) => Ok(Most {
-                pid: pid as u32,
-                packets,
-            }),
-            (number, place, _) => Err(Refusal { number, place }),
-        }
+        let (pid, packets) = self.state.ask()?;
+        Ok(Most { pid, packets })
     }
 
     /// How many good packets of an identifier have come whole; 0 of one above 8191. It is read from the lent table,

@@ -3,13 +3,7 @@
 use carolsedge::{sheet, Index, Most, Opening, Record, Refusal, Sample, Scene, Survey, Unit};
 use carolsedge::{NEWEST_EDITION, RECORD_MOST, SHEET_MOST};
 
-const BLACK: Opening = Opening {
-    width: 30,
-    height: 30,
-    time: 40_000,
-    pid: 256,
-    edition: 1,
-};
+const BLACK: Opening = Opening { width: 30, height: 30, time: 40_000, pid: 256, edition: 1 };
 const PICTURE: usize = 900;
 
 fn file_header() -> Vec<u8> {
@@ -42,21 +36,12 @@ fn carrying(packets: &[[u8; 188]]) -> Vec<u8> {
 
 fn packet(pid: u16, start: bool, counter: u8) -> [u8; 188] {
     let mut packet = [0; 188];
-    packet[..4].copy_from_slice(&[
-        0x47,
-        (pid >> 8) as u8 | if start { 0x40 } else { 0 },
-        pid as u8,
-        0x10 | counter,
-    ]);
+    packet[..4].copy_from_slice(&[0x47, (pid >> 8) as u8 | if start { 0x40 } else { 0 }, pid as u8, 0x10 | counter]);
     packet
 }
 
 fn worked_capture() -> Vec<u8> {
-    [
-        file_header(),
-        frame(10, 5, &carrying(&[packet(256, true, 0)])),
-    ]
-    .concat()
+    [file_header(), frame(10, 5, &carrying(&[packet(256, true, 0)]))].concat()
 }
 
 fn refusal(number: u32, place: u64) -> Refusal {
@@ -90,31 +75,10 @@ fn worked_sample() {
     let record = Record::read(&bytes).unwrap();
     let h = record.header();
     assert_eq!(h.edition, 1);
-    assert_eq!(
-        (h.units, h.scenes, h.width, h.height, h.time, h.pid),
-        (1, 1, 30, 30, 40_000, 256)
-    );
-    assert_eq!(
-        (h.pictures, h.frames, h.skipped, h.bad, h.index.to_bits()),
-        (2, 1, 0, 0, 0x4008_0000_0000_0000)
-    );
-    let unit = Unit {
-        least: 10_000_005,
-        greatest: 10_000_005,
-        size: 184,
-        packets: 1,
-        lost: 0,
-        damaged: 0,
-    };
-    let scene = Scene {
-        first: 0,
-        pictures: 2,
-        repeated: 1,
-        longest: 1,
-        score: 0,
-        peak: 0,
-        change: 0,
-    };
+    assert_eq!((h.units, h.scenes, h.width, h.height, h.time, h.pid), (1, 1, 30, 30, 40_000, 256));
+    assert_eq!((h.pictures, h.frames, h.skipped, h.bad, h.index.to_bits()), (2, 1, 0, 0, 0x4008_0000_0000_0000));
+    let unit = Unit { least: 10_000_005, greatest: 10_000_005, size: 184, packets: 1, lost: 0, damaged: 0 };
+    let scene = Scene { first: 0, pictures: 2, repeated: 1, longest: 1, score: 0, peak: 0, change: 0 };
     assert_eq!(record.units().collect::<Vec<_>>(), [unit]);
     assert_eq!(record.scenes().collect::<Vec<_>>(), [scene]);
     assert_eq!((record.unit(0), record.scene(0)), (Ok(unit), Ok(scene)));
@@ -130,18 +94,10 @@ fn worked_sheet() {
     let text = std::str::from_utf8(&buffer[..6_060]).unwrap();
     let lines: Vec<_> = text.split_terminator('\n').collect();
     assert!(lines.len() == 60 && lines.iter().all(|line| line.len() == 100));
-    assert_eq!(
-        lines[0].trim_end(),
-        format!(" {:>11}{:>11}{:>11}{:>21}", 30, 30, 2, "4008000000000000")
-    );
-    let unit = format!(
-        "U{:>11}{:>21}{:>21}{:>11}{:>11}{:>11}",
-        0, 10_000_005, 10_000_005, 184, 1, 0
-    );
+    assert_eq!(lines[0].trim_end(), format!(" {:>11}{:>11}{:>11}{:>21}", 30, 30, 2, "4008000000000000"));
+    let unit = format!("U{:>11}{:>21}{:>21}{:>11}{:>11}{:>11}", 0, 10_000_005, 10_000_005, 184, 1, 0);
     assert_eq!(lines[1].trim_end(), unit);
-    let scene = [0, 0, 2, 1, 1, 0, 0, 0]
-        .map(|figure| format!("{figure:>11}"))
-        .concat();
+    let scene = [0, 0, 2, 1, 1, 0, 0, 0].map(|figure| format!("{figure:>11}")).concat();
     assert_eq!(lines[2].trim_end(), format!("S{scene}"));
     assert!(lines[3..].iter().all(|line| line.trim_end().is_empty()));
 }
@@ -153,12 +109,7 @@ fn refused_sheets() {
     other[0] = NEWEST_EDITION as u8 + 1;
     let mut wrong = bytes.clone();
     wrong[92] = 1;
-    let cases = [
-        (&bytes[..63], 16, 0),
-        (&other, 17, 0),
-        (&wrong, 18, 0),
-        (&bytes, 15, 6_060),
-    ];
+    let cases = [(&bytes[..63], 16, 0), (&other, 17, 0), (&wrong, 18, 0), (&bytes, 15, 6_060)];
     for (record, number, place) in cases {
         for room in [0, 1, 6_059] {
             let mut buffer = vec![0xAA; room];
@@ -172,17 +123,11 @@ fn refused_sheets() {
 fn cuts_do_not_matter() {
     let capture = [
         worked_capture(),
-        frame(
-            11,
-            0,
-            &carrying(&[packet(256, false, 3), packet(256, true, 4)]),
-        ),
+        frame(11, 0, &carrying(&[packet(256, false, 3), packet(256, true, 4)])),
         frame(12, 0, b"another"),
     ]
     .concat();
-    let luma: Vec<u8> = (0..7 * PICTURE)
-        .map(|i| (i / PICTURE * 37 + i % 23) as u8)
-        .collect();
+    let luma: Vec<u8> = (0..7 * PICTURE).map(|i| (i / PICTURE * 37 + i % 23) as u8).collect();
     let whole = sealed(&fed(&capture, &luma)).unwrap();
     let mut sample = Sample::open(BLACK).unwrap();
     let (mut captures, mut lumas) = (capture.chunks(7), luma.chunks(13));
@@ -198,27 +143,15 @@ fn cuts_do_not_matter() {
     }
     assert_eq!(sealed(&sample).unwrap(), whole);
     assert_eq!(
-        Record::read(&whole)
-            .unwrap()
-            .units()
-            .map(|u| (u.packets, u.lost))
-            .collect::<Vec<_>>(),
+        Record::read(&whole).unwrap().units().map(|u| (u.packets, u.lost)).collect::<Vec<_>>(),
         [(2, 2), (1, 0)]
     );
 }
 
 #[test]
 fn openings() {
-    let opened_by = |width, height, time, pid, edition| {
-        Sample::open(Opening {
-            width,
-            height,
-            time,
-            pid,
-            edition,
-        })
-        .map(|_| ())
-    };
+    let opened_by =
+        |width, height, time, pid, edition| Sample::open(Opening { width, height, time, pid, edition }).map(|_| ());
     let opened = |width, height, time, pid| opened_by(width, height, time, pid, 1);
     assert_eq!(opened(1920, 1080, 40_000, 8191), Ok(()));
     assert_eq!(opened(640, 29, 40_000, 256), Err(refusal(1, 0)));
@@ -229,14 +162,8 @@ fn openings() {
         assert_eq!(opened_by(640, 480, 40_000, 256, edition), Ok(()));
     }
     for edition in [0, NEWEST_EDITION + 1, u32::MAX] {
-        assert_eq!(
-            opened_by(640, 480, 40_000, 8192, edition),
-            Err(refusal(3, 0))
-        );
-        assert_eq!(
-            opened_by(640, 480, 40_000, 256, edition),
-            Err(refusal(20, 0))
-        );
+        assert_eq!(opened_by(640, 480, 40_000, 8192, edition), Err(refusal(3, 0)));
+        assert_eq!(opened_by(640, 480, 40_000, 256, edition), Err(refusal(20, 0)));
     }
 }
 
@@ -247,13 +174,9 @@ fn editions() {
     spliced[3..6].copy_from_slice(&[0x35, 1, 0x80]);
     let mut unmarked = spliced;
     unmarked[4] = 0;
-    for (cell, edition, lost) in [
-        (spliced, 1, 4 + 2),
-        (spliced, 2, 2),
-        (spliced, 3, 2),
-        (spliced, 4, 2),
-        (unmarked, 2, 4 + 2),
-    ] {
+    for (cell, edition, lost) in
+        [(spliced, 1, 4 + 2), (spliced, 2, 2), (spliced, 3, 2), (spliced, 4, 2), (unmarked, 2, 4 + 2)]
+    {
         let cells = [packet(256, true, 0), cell, packet(256, false, 8)];
         let capture = [file_header(), frame(10, 5, &carrying(&cells))].concat();
         let mut sample = Sample::open(Opening { edition, ..BLACK }).unwrap();
@@ -284,12 +207,9 @@ fn broken(pid: u16, start: bool, counter: u8) -> [u8; 188] {
 fn damaged() {
     let first = [broken(256, true, 9), packet(256, false, 3)];
     let later = [broken(256, true, 12), packet(256, false, 5)];
-    let frames = [
-        frame(10, 5, &carrying(&first)),
-        frame(9, 0, &carrying(&later[..1])),
-        frame(11, 0, &carrying(&later[1..])),
-    ]
-    .concat();
+    let frames =
+        [frame(10, 5, &carrying(&first)), frame(9, 0, &carrying(&later[..1])), frame(11, 0, &carrying(&later[1..]))]
+            .concat();
     let capture = [file_header(), frames].concat();
     let measured = |edition| {
         let mut sample = Sample::open(Opening { edition, ..BLACK }).unwrap();
@@ -297,14 +217,7 @@ fn damaged() {
         sample.feed_luma(&[0; 2 * PICTURE]).unwrap();
         sealed(&sample).unwrap()
     };
-    let unit = Unit {
-        least: 10_000_005,
-        greatest: 11_000_000,
-        size: 2 * 184,
-        packets: 2,
-        lost: 1,
-        damaged: 1,
-    };
+    let unit = Unit { least: 10_000_005, greatest: 11_000_000, size: 2 * 184, packets: 2, lost: 1, damaged: 1 };
     let bytes = measured(4);
     let record = Record::read(&bytes).unwrap();
     assert_eq!(record.units().collect::<Vec<_>>(), [unit]);
@@ -319,10 +232,7 @@ fn damaged() {
     for edition in 1..4 {
         let bytes = measured(edition);
         let record = Record::read(&bytes).unwrap();
-        let rows: Vec<_> = record
-            .units()
-            .map(|u| (u.packets, u.lost, u.damaged))
-            .collect();
+        let rows: Vec<_> = record.units().map(|u| (u.packets, u.lost, u.damaged)).collect();
         assert_eq!(rows, [(2, 9, 0), (2, 8 + 8, 0)], "edition {edition}");
         assert_eq!(record.header().bad, 0);
         assert_eq!(sheet(&bytes, &mut page), Ok(6060));
@@ -330,9 +240,7 @@ fn damaged() {
     }
     // damaged cells alone begin no unit
     let mut sample = Sample::open(Opening { edition: 4, ..BLACK }).unwrap();
-    sample
-        .feed_capture(&[file_header(), frame(10, 5, &carrying(&first[..1]))].concat())
-        .unwrap();
+    sample.feed_capture(&[file_header(), frame(10, 5, &carrying(&first[..1]))].concat()).unwrap();
     assert_eq!(sealed(&sample), Err(refusal(12, 0)));
 }
 
@@ -340,11 +248,7 @@ fn damaged() {
 // 12.5, a tie; of the third every fourth pixel is higher by 2 (e 0 0 0 2), and it is 86.60.
 #[test]
 fn changes() {
-    let capture = [
-        file_header(),
-        frame(10, 5, &carrying(&[packet(256, true, 0)])),
-    ]
-    .concat();
+    let capture = [file_header(), frame(10, 5, &carrying(&[packet(256, true, 0)]))].concat();
     let mut luma = [100u8; 3 * 512];
     luma[512..516].fill(101);
     luma[516..520].fill(99);
@@ -353,12 +257,7 @@ fn changes() {
         *pixel += 2;
     }
     for (edition, change) in [(1, 12 + 86), (2, 12 + 86), (3, 13 + 87), (4, 13 + 87)] {
-        let opening = Opening {
-            width: 16,
-            height: 32,
-            edition,
-            ..BLACK
-        };
+        let opening = Opening { width: 16, height: 32, edition, ..BLACK };
         let mut sample = Sample::open(opening).unwrap();
         sample.feed_capture(&capture).unwrap();
         sample.feed_luma(&luma).unwrap();
@@ -374,35 +273,17 @@ fn refused_captures() {
     let is_refused = |capture: &[u8], expected: Refusal| {
         let mut sample = Sample::open(BLACK).unwrap();
         assert_eq!(sample.feed_capture(capture), Err(expected));
-        assert_eq!(
-            sample.feed_capture(&[]),
-            Err(expected),
-            "a later feed repeats it"
-        );
-        assert_eq!(
-            sample.feed_luma(&[0; 2 * PICTURE]),
-            Ok(2 * PICTURE),
-            "the other side goes on"
-        );
+        assert_eq!(sample.feed_capture(&[]), Err(expected), "a later feed repeats it");
+        assert_eq!(sample.feed_luma(&[0; 2 * PICTURE]), Ok(2 * PICTURE), "the other side goes on");
         assert_eq!(sealed(&sample), Err(expected));
     };
     is_refused(&[0xA1, 0xB2, 0xC3, 0xD4], refusal(5, 3));
     is_refused(&[&header[..20], &[101, 0, 0, 0]].concat(), refusal(6, 23));
-    is_refused(
-        &[header.clone(), frame(0, 1_000_000, &[])].concat(),
-        refusal(7, 31),
-    );
-    is_refused(
-        &[header.clone(), frame(0, 0, &[0; 65_536])].concat(),
-        refusal(8, 35),
-    );
-    let starts: Vec<u8> = (0..751u32)
-        .flat_map(|i| frame(i, 0, &carrying(&[packet(256, true, i as u8 % 16)])))
-        .collect();
-    is_refused(
-        &[header, starts].concat(),
-        refusal(9, 24 + 750 * 246 + 16 + 42 + 3),
-    );
+    is_refused(&[header.clone(), frame(0, 1_000_000, &[])].concat(), refusal(7, 31));
+    is_refused(&[header.clone(), frame(0, 0, &[0; 65_536])].concat(), refusal(8, 35));
+    let starts: Vec<u8> =
+        (0..751u32).flat_map(|i| frame(i, 0, &carrying(&[packet(256, true, i as u8 % 16)]))).collect();
+    is_refused(&[header, starts].concat(), refusal(9, 24 + 750 * 246 + 16 + 42 + 3));
 }
 
 #[test]
@@ -423,11 +304,7 @@ fn capture_past_its_length() {
 fn refused_luma() {
     let mut sample = fed(&worked_capture(), &[7; 750 * PICTURE]);
     assert_eq!(sample.feed_luma(&[7]), Err(refusal(10, 675_000)));
-    assert_eq!(
-        sample.feed_capture(&frame(11, 0, b"")),
-        Ok(16),
-        "the other side goes on"
-    );
+    assert_eq!(sample.feed_capture(&frame(11, 0, b"")), Ok(16), "the other side goes on");
     assert_eq!(sealed(&sample), Err(refusal(10, 675_000)));
 }
 
@@ -435,23 +312,14 @@ fn refused_luma() {
 fn refused_seals() {
     let black = [0; 2 * PICTURE];
     assert_eq!(sealed(&fed(&[], &black)), Err(refusal(11, 0)));
-    assert_eq!(
-        sealed(&fed(&worked_capture()[..100], &black)),
-        Err(refusal(11, 100))
-    );
+    assert_eq!(sealed(&fed(&worked_capture()[..100], &black)), Err(refusal(11, 100)));
     assert_eq!(sealed(&fed(&file_header(), &black)), Err(refusal(12, 0)));
     assert_eq!(sealed(&fed(&worked_capture(), &[0])), Err(refusal(13, 1)));
     assert_eq!(sealed(&fed(&worked_capture(), &[])), Err(refusal(14, 0)));
     let mut short = [0xAA; 127];
-    assert_eq!(
-        fed(&worked_capture(), &black).seal(&mut short),
-        Err(refusal(15, 128))
-    );
+    assert_eq!(fed(&worked_capture(), &black).seal(&mut short), Err(refusal(15, 128)));
     assert_eq!(short, [0xAA; 127]);
-    assert_eq!(
-        fed(&worked_capture(), &black).seal(&mut []),
-        Err(refusal(15, 128))
-    );
+    assert_eq!(fed(&worked_capture(), &black).seal(&mut []), Err(refusal(15, 128)));
 }
 
 // The index of these counts, each operation once.
@@ -470,15 +338,8 @@ fn bits(index: Index) -> [u64; 3] {
 // it; and so does a picture.
 #[test]
 fn index_while_feeding() {
-    let packets = [
-        packet(256, true, 0),
-        packet(256, false, 3),
-        packet(256, true, 4),
-    ];
-    let frames = [
-        frame(1, 0, &carrying(&packets[..2])),
-        frame(2, 0, &carrying(&packets[2..])),
-    ];
+    let packets = [packet(256, true, 0), packet(256, false, 3), packet(256, true, 4)];
+    let frames = [frame(1, 0, &carrying(&packets[..2])), frame(2, 0, &carrying(&packets[2..]))];
     let capture = [file_header(), frames.concat()].concat();
     let first = 24 + 16 + 42;
     let ends = [first + 188, first + 376, capture.len()];
@@ -582,24 +443,13 @@ fn a_clone_goes_on_by_itself() {
 
 #[test]
 fn words() {
-    let said: Vec<String> = (1..=28)
-        .map(|number| refusal(number, 0).meaning().to_string())
-        .collect();
+    let said: Vec<String> = (1..=28).map(|number| refusal(number, 0).meaning().to_string()).collect();
     for (i, words) in said.iter().enumerate() {
         assert!(!said[..i].contains(words), "two numbers say: {words}");
     }
-    assert_eq!(
-        refusal(15, 128).to_string(),
-        "refused 15: the buffer is too short (128 needed)"
-    );
-    assert_eq!(
-        refusal(6, 23).to_string(),
-        "refused 6: the capture's link type is not 1, Ethernet (at byte 23)"
-    );
-    assert_eq!(
-        refusal(14, 0).to_string(),
-        "refused 14: there is no picture"
-    );
+    assert_eq!(refusal(15, 128).to_string(), "refused 15: the buffer is too short (128 needed)");
+    assert_eq!(refusal(6, 23).to_string(), "refused 6: the capture's link type is not 1, Ethernet (at byte 23)");
+    assert_eq!(refusal(14, 0).to_string(), "refused 14: there is no picture");
     let error: Box<dyn std::error::Error> = refusal(12, 0).into();
     assert_eq!(
         error.to_string(),
@@ -633,40 +483,25 @@ fn surveys() {
     bad[0] = 0x46;
     let damaged = broken(256, false, 0);
     let most = |pid, packets| Ok(Most { pid, packets });
-    assert_eq!(
-        survey(&capture(&[good(257), good(256), good(257)])),
-        most(257, 2)
-    );
+    assert_eq!(survey(&capture(&[good(257), good(256), good(257)])), most(257, 2));
     assert_eq!(survey(&capture(&[good(8191), good(0)])), most(0, 1));
     assert_eq!(survey(&capture(&[good(8191)])), most(8191, 1));
     assert_eq!(survey(&capture(&[bad, bad, good(300)])), most(300, 1));
-    assert_eq!(
-        survey(&capture(&[damaged, damaged, good(300)])),
-        most(300, 1)
-    );
+    assert_eq!(survey(&capture(&[damaged, damaged, good(300)])), most(300, 1));
     assert_eq!(survey(&capture(&[damaged])), Err(refusal(21, 0)));
     assert_eq!(survey(&capture(&[bad])), Err(refusal(21, 0)));
     assert_eq!(survey(&file_header()), Err(refusal(21, 0)));
     assert_eq!(survey(&[]), Err(refusal(11, 0)));
-    assert_eq!(
-        survey(&[capture(&[bad]), vec![0]].concat()),
-        Err(refusal(11, 271))
-    );
+    assert_eq!(survey(&[capture(&[bad]), vec![0]].concat()), Err(refusal(11, 271)));
     assert_eq!(survey(&[0; 30]), Err(refusal(5, 3)));
-    assert_eq!(
-        survey(&[file_header(), frame(0, 1_000_000, &[])].concat()),
-        Err(refusal(7, 31))
-    );
+    assert_eq!(survey(&[file_header(), frame(0, 1_000_000, &[])].concat()), Err(refusal(7, 31)));
     let mut early = Survey::open();
     let bytes = capture(&[good(9)]);
     early.feed(&bytes[..100]).unwrap();
     assert_eq!(early.ask(), Err(refusal(11, 100)));
     let mut other = early.clone();
     early.feed(&bytes[100..]).unwrap();
-    assert_eq!(
-        (early.ask(), other.ask()),
-        (most(9, 1), Err(refusal(11, 100)))
-    );
+    assert_eq!((early.ask(), other.ask()), (most(9, 1), Err(refusal(11, 100))));
     assert_eq!(other.feed(&[]), Ok(0));
 }
 

@@ -1,5 +1,7 @@
 //! Shelves from Rust: those that are made are read back record by record, and every refusal stands at its place.
-use carolsedge::{shelf_of, shelf_part, shelf_write, Refusal, Shelf, NEWEST_EDITION, RECORD_MOST, SHELF_RECORDS_MOST};
+use carolsedge::{
+    shelf_of, shelf_part, shelf_write, Refusal, Shelf, NEWEST_EDITION, RECORD_MOST, SHELF_RECORDS_MOST,
+};
 
 fn words(words: &[u32]) -> Vec<u8> {
     words.iter().flat_map(|word| word.to_le_bytes()).collect()
@@ -29,16 +31,11 @@ fn read(bytes: &[u8]) -> Result<(usize, u64), Refusal> {
 
 #[test]
 fn given_back() {
-    let records: Vec<_> = (0..40)
-        .map(|i| record(1 + i % NEWEST_EDITION, &vec![i; 1 + i as usize % 7]))
-        .collect();
+    let records: Vec<_> = (0..40).map(|i| record(1 + i % NEWEST_EDITION, &vec![i; 1 + i as usize % 7])).collect();
     let bytes = shelf_of(&records).unwrap();
     let shelf = Shelf::read(&bytes).unwrap();
     let lost = (0..40u64).map(|i| i * (1 + i % 7)).sum::<u64>();
-    assert_eq!(
-        (shelf.len(), shelf.is_empty(), shelf.lost()),
-        (40, false, lost)
-    );
+    assert_eq!((shelf.len(), shelf.is_empty(), shelf.lost()), (40, false, lost));
     assert_eq!(shelf.records().collect::<Vec<_>>(), records);
     for (j, record) in records.iter().enumerate() {
         assert_eq!(shelf.record(j), Ok(&record[..]));
@@ -58,12 +55,7 @@ fn without_a_record() {
     assert_eq!(read(&bytes), Ok((0, 0)));
     assert!(Shelf::read(&bytes).unwrap().is_empty());
     assert_eq!(shelf_part(&bytes, 0), Err(refusal(19, 0)));
-    for wrong in [
-        &[][..],
-        &bytes[..7],
-        &[words(&[0, 9]), vec![0]].concat(),
-        &words(&[0, 9]),
-    ] {
+    for wrong in [&[][..], &bytes[..7], &[words(&[0, 9]), vec![0]].concat(), &words(&[0, 9])] {
         assert_eq!(read(wrong), Err(refusal(27, 0)));
         assert_eq!(shelf_part(wrong, 0), Err(refusal(27, 0)));
     }
@@ -75,10 +67,7 @@ fn the_most_that_there_can_be() {
     let records = vec![&one; SHELF_RECORDS_MOST];
     let bytes = shelf_of(&records).unwrap();
     assert_eq!(read(&bytes), Ok((4_096, 4_096 * 3 * u64::from(u32::MAX))));
-    assert_eq!(
-        shelf_part(&bytes, 4_095),
-        Ok(bytes.len() - one.len()..bytes.len())
-    );
+    assert_eq!(shelf_part(&bytes, 4_095), Ok(bytes.len() - one.len()..bytes.len()));
     assert_eq!(shelf_part(&bytes, 4_096), Err(refusal(19, 0)));
     assert_eq!(shelf_of(&vec![&one; 4_097]), Err(refusal(27, 0)));
     // 4,097 records, laid out as they would be
@@ -98,21 +87,8 @@ fn not_laid_out() {
         other
     };
     // the count, the total length, a gap behind the head, an offset not above the one before, one not below the end
-    for (at, word) in [
-        (0, 3),
-        (0, 1),
-        (0, 4_097),
-        (4, 271),
-        (4, 273),
-        (8, 17),
-        (12, 16),
-        (12, 272),
-    ] {
-        assert_eq!(
-            read(&with(at, word)),
-            Err(refusal(27, 0)),
-            "word {at}: {word}"
-        );
+    for (at, word) in [(0, 3), (0, 1), (0, 4_097), (4, 271), (4, 273), (8, 17), (12, 16), (12, 272)] {
+        assert_eq!(read(&with(at, word)), Err(refusal(27, 0)), "word {at}: {word}");
     }
     for length in 0..bytes.len() {
         assert_eq!(read(&bytes[..length]), Err(refusal(27, 0)));
@@ -138,10 +114,7 @@ fn refused_records() {
     // 27 comes first
     bytes[8] += 1;
     assert_eq!(read(&bytes), Err(refusal(27, 0)));
-    assert_eq!(
-        refusal(28, 2).to_string(),
-        "refused 28: the shelf holds a record that is refused (record 2)"
-    );
+    assert_eq!(refusal(28, 2).to_string(), "refused 28: the shelf holds a record that is refused (record 2)");
 }
 
 #[test]
