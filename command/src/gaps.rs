@@ -24,7 +24,7 @@ const MOST: usize = 14 * 15 + 1;
 fn run(words: Vec<OsString>) -> Result<(), Stop> {
     let n = asked(words)?;
     let mut table = [0; MOST];
-    let entries = carolsedge::gap_runs(n, &mut table).map_err(|refusal| Stop::refused(refusal, Vec::new()))?;
+    let entries = carolsedge::gap_runs(n, &mut table)?;
     output::print(&lines(&table[..entries]))
 }
 

@@ -2,7 +2,7 @@
 use crate::stop::Stop;
 use std::ffi::OsStr;
 use std::fs::{File, Metadata};
-use std::io::{self, ErrorKind, Read, Seek};
+use std::io::{self, ErrorKind, IsTerminal, Read, Seek};
 use std::os::fd::AsFd;
 use std::os::unix::fs::MetadataExt;
 
@@ -25,6 +25,14 @@ pub struct Input {
 }
 
 impl Input {
+    /// Standard input, for what is not typed: at a terminal it would wait in silence. `what` names the bytes.
+    pub fn piped(what: &str) -> Result<Input, Stop> {
+        if io::stdin().is_terminal() {
+            return Err(Stop::Usage(format!("{what} come from a file or a pipe, and are not typed")));
+        }
+        Input::open(OsStr::new("-"))
+    }
+
     /// Opens a file, or standard input for `-`.
     pub fn open(word: &OsStr) -> Result<Input, Stop> {
         let name = match word == "-" {
@@ -92,6 +100,11 @@ impl Input {
         bytes.truncate(length);
         Ok(bytes)
     }
+}
+
+/// A little-endian number of at most 8 bytes.
+pub fn little_endian(bytes: &[u8]) -> u64 {
+    bytes.iter().rev().fold(0, |number, &byte| number << 8 | u64::from(byte))
 }
 
 fn opened(word: &OsStr) -> io::Result<File> {

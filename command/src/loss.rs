@@ -1,5 +1,5 @@
 //! carolsedge loss: how far losses spread over the units behind them.
-use crate::input::Input;
+use crate::input::{little_endian, Input};
 use crate::output;
 use crate::show;
 use crate::stop::Stop;
@@ -53,8 +53,9 @@ fn run(words: Vec<OsString>) -> Result<(), Stop> {
     match (words.value("--record"), words.value("--keys")) {
         (None, None) => {
             // No more bytes than it takes to see that they are too many.
-            let bytes = Input::open(OsStr::new("-"))?.up_to(LONGEST + 1)?;
-            print(&given(&bytes), |_| Vec::new())
+            let mut input = Input::piped("LISTS")?;
+            let bytes = input.up_to(LONGEST + 1)?;
+            print(&given(&bytes), |_| Vec::new()).map_err(|stop| stop.of(input.name()))
         }
         (Some(record), Some(keys)) => of_files(record, keys),
         (Some(_), None) => Err(Stop::Usage("--keys FILE is missing: --record is given".into())),
@@ -81,12 +82,13 @@ fn of_files(record: &OsStr, keys: &OsStr) -> Result<(), Stop> {
     }
     let (mut record, mut keys) = (Input::open(record)?, Input::open(keys)?);
     let bytes = show::read(&mut record)?;
-    let read = Record::read(&bytes).map_err(|refusal| Stop::refused(refusal, Vec::new()))?;
+    let read = Record::read(&bytes).map_err(|refusal| show::refused(refusal, &bytes, &mut record))?;
     let losses = read.units().map(|unit| unit.lost).collect();
     let text = keys.up_to(KEYS_LONGEST + 1)?;
     let probabilities = numbers(&text).map_err(|what| Stop::Failed(format!("{}: {what}", keys.name())))?;
     let given = Given { losses, probabilities };
-    print(&given, |refusal| found(refusal.number, &given, record.name(), keys.name()))
+    let printed = print(&given, |refusal| found(refusal.number, &given, record.name(), keys.name()));
+    printed.map_err(|stop| stop.of(keys.name()))
 }
 
 /// A number a line, as Rust reads one; otherwise what is wrong. No more lines than it takes to see that they are too
@@ -136,10 +138,9 @@ fn given(bytes: &[u8]) -> Given {
         return Given::default();
     }
     let (losses, probabilities) = rest.split_at(rest.len() / 3);
-    let bits = |bytes: &[u8]| bytes.iter().rev().fold(0, |bits, &byte| bits << 8 | u64::from(byte));
     Given {
-        losses: losses.chunks_exact(4).map(|loss| bits(loss) as u32).collect(),
-        probabilities: probabilities.chunks_exact(8).map(|p| f64::from_bits(bits(p))).collect(),
+        losses: losses.chunks_exact(4).map(|loss| little_endian(loss) as u32).collect(),
+        probabilities: probabilities.chunks_exact(8).map(|p| f64::from_bits(little_endian(p))).collect(),
     }
 }
 

@@ -10,7 +10,7 @@ mod y4m;
 use crate::input::Input;
 use crate::output;
 use crate::record_file::RecordFile;
-use crate::stop::{Refused, Stop};
+use crate::stop::Stop;
 use crate::walk::Walk;
 use crate::{survey, Subcommand};
 use asked::Asked;
@@ -60,23 +60,32 @@ pub struct Measured {
 }
 
 fn run(words: Vec<OsString>) -> Result<(), Stop> {
-    let mut asked = Asked::read(words)?;
-    let mut capture = Input::open(&asked.capture)?;
+    let asked = Asked::read(words)?;
+    let capture = Input::open(&asked.capture)?;
     if asked.survey && !capture.twice() {
         return Err(needs_pid(capture.name()));
     }
     let pictures = asked.pictures.as_deref().map(Input::open).transpose()?;
     let inputs = [Some(&capture), pictures.as_ref()].into_iter().flatten();
-    let inputs = inputs.map(|input| (input.identity(), input.name().to_string())).collect();
-    let record = RecordFile::new(&asked.record, inputs)?;
+    let inputs: Vec<_> = inputs.map(|input| (input.identity(), input.name().to_string())).collect();
+    let record = RecordFile::new(&asked.record, inputs.clone())?;
+    // A refusal is told with the capture's name, or the pictures' where they are a file and it is about them.
+    let file = asked.pictures.as_deref().is_some_and(|word| word != "-");
+    measure(asked, capture, pictures, &record).map_err(|stop| {
+        let of_pictures = matches!(stop.number(), Some(1 | 2 | 10 | 13 | 14 | 26));
+        stop.of(&inputs[usize::from(file && of_pictures)].1)
+    })
+}
+
+fn measure(mut asked: Asked, mut capture: Input, pictures: Option<Input>, record: &RecordFile) -> Result<(), Stop> {
     if asked.survey {
-        asked.pid = surveyed(&mut capture)?;
+        asked.pid = surveyed(&asked, &mut capture)?;
     }
     let measured = match pictures {
         Some(pictures) => files::measure(&asked, capture, pictures)?,
         None => stream::measure(&asked, capture)?,
     };
-    seal(&asked, &measured, &record)
+    seal(&asked, &measured, record)
 }
 
 /// A capture that can be read only once cannot be surveyed before it is measured.
@@ -87,7 +96,7 @@ fn needs_pid(name: &str) -> Stop {
 
 /// The identifier with most good packets; says that it is taken, and what comes next to it. The capture is then at its
 /// beginning again.
-fn surveyed(capture: &mut Input) -> Result<u32, Stop> {
+fn surveyed(asked: &Asked, capture: &mut Input) -> Result<u32, Stop> {
     let (most, next) = survey::most(capture)?;
     capture.rewind()?;
     let packets = output::count(most.packets, "good packet");
@@ -95,7 +104,7 @@ fn surveyed(capture: &mut Input) -> Result<u32, Stop> {
         Some(next) => format!("the next, {}, has {}", next.pid, output::grouped(next.packets)),
         None => "no other has any".into(),
     };
-    output::say(&format!("--pid {} is taken: a survey found {packets} of it; {next}\n", most.pid));
+    asked.say(&[format!("--pid {} is taken: a survey found {packets} of it; {next}", most.pid)]);
     Ok(most.pid)
 }
 
@@ -108,8 +117,7 @@ fn seal(asked: &Asked, measured: &Measured, file: &RecordFile) -> Result<(), Sto
     })?;
     let bytes = &buffer[..length];
     file.write(bytes)?;
-    let record = Record::read(bytes).map_err(|refusal| Stop::refused(refusal, Vec::new()))?;
-    telling::sealed(&record.header(), measured);
+    asked.say(&telling::sealed(&Record::read(bytes)?.header(), measured));
     output::print(&format!("sealed {length}\n"))?;
     asked.passage.clone().map_or(Ok(()), |passage| tell_repeats(&measured.sample, passage))
 }
@@ -121,7 +129,7 @@ fn tell_repeats(sample: &Sample, passage: Range<u32>) -> Result<(), Stop> {
         Ok(count) => output::print(&format!("repeats {count}\n")),
         Err(refusal) => {
             let line = format!("repeats refused {} {}\n", refusal.number, refusal.place);
-            Err(Stop::Refused(Refused { line, refusal, found: Vec::new() }))
+            Err(Stop::from(refusal).printed(line))
         }
     }
 }

@@ -51,7 +51,7 @@ fn run(words: Vec<OsString>) -> Result<(), Stop> {
     let read = vec![(input.identity(), input.name().to_string())];
     let file = out.map(|out| RecordFile::new(out, read)).transpose()?;
     let bytes = crate::shelf::read(&mut input)?;
-    let page = page(&bytes, input.name())?;
+    let page = page(&bytes, input.name()).map_err(|stop| stop.of(input.name()))?;
     match file {
         Some(file) => file.write(page.as_bytes()),
         None => output::print(&page),
@@ -67,7 +67,7 @@ fn page(bytes: &[u8], name: &str) -> Result<String, Stop> {
     };
     match Shelf::read(bytes) {
         Ok(shelf) => shelf::page(bytes, &shelf, name),
-        Err(other) if other.number == 28 => Err(Stop::refused(other, Vec::new())),
+        Err(other) if other.number == 28 => Err(other.into()),
         Err(other) => {
             let found = vec![explain::mends(refusal.number).into(), format!("nor is it a shelf: {other}")];
             Err(Stop::refused(refusal, found))

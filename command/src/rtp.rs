@@ -1,10 +1,10 @@
 //! carolsedge rtp: the units of RTP packets, which come without transport packets.
 mod capture;
 
-use crate::input::Input;
+use crate::input::{little_endian, Input};
 use crate::output;
 use crate::stop::Stop;
-use crate::words::{number as word, Words};
+use crate::words::{number, Words};
 use crate::Subcommand;
 use carolsedge::Refusal;
 use std::ffi::{OsStr, OsString};
@@ -56,8 +56,8 @@ struct Packets {
 fn run(words: Vec<OsString>) -> Result<(), Stop> {
     let words = Words::part(words, &["--port", "--ssrc"], &[])?;
     let capture = words.plain(&["CAPTURE"], 1)?.remove(0);
-    let port = words.read("--port", |text| word(text)?.try_into().ok(), "a port, 0 to 65535")?;
-    let ssrc = words.read("--ssrc", word, "a source's identifier of 32 bits")?;
+    let port = words.read("--port", |text| number(text)?.try_into().ok(), "a port, 0 to 65535")?;
+    let ssrc = words.read("--ssrc", number, "a source's identifier of 32 bits")?;
     let rows = match (capture, port) {
         (Some(capture), Some(port)) => captured(&capture, port, ssrc)?,
         (Some(_), None) => return Err(Stop::Usage("--port P is missing".into())),
@@ -69,16 +69,19 @@ fn run(words: Vec<OsString>) -> Result<(), Stop> {
 
 /// The unit rows of the packets on standard input.
 fn listed() -> Result<Vec<u8>, Stop> {
-    let bytes = Input::open(OsStr::new("-"))?.up_to(4 + PACKET * (PACKETS_MOST + 1) + 1)?;
+    let mut input = Input::piped("PACKETS")?;
+    let bytes = input.up_to(4 + PACKET * (PACKETS_MOST + 1) + 1)?;
     let unequal = Refusal { number: 25, place: 0 };
-    let packets = given(&bytes).map_err(|found| Stop::refused(unequal, vec![found]))?;
-    packets.units().map_err(|refusal| Stop::refused(refusal, Vec::new()))
+    let packets = given(&bytes).map_err(|found| Stop::refused(unequal, vec![found]).of(input.name()))?;
+    packets.units().map_err(|refusal| Stop::from(refusal).of(input.name()))
 }
 
 /// The unit rows of one source's packets to a port, and says on standard error what was taken and what was left out.
 fn captured(capture: &OsStr, port: u16, ssrc: Option<u32>) -> Result<Vec<u8>, Stop> {
-    let found = capture::find(&mut Input::open(capture)?, port, ssrc)?;
-    let rows = found.packets().units().map_err(|refusal| Stop::refused(refusal, found.refused()))?;
+    let mut input = Input::open(capture)?;
+    let found = capture::find(&mut input, port, ssrc)?;
+    let rows = found.packets().units();
+    let rows = rows.map_err(|refusal| Stop::refused(refusal, found.refused()).of(input.name()))?;
     found.tell();
     Ok(rows)
 }
@@ -113,21 +116,16 @@ fn given(bytes: &[u8]) -> Result<Packets, String> {
     }
     let mut packets = Packets::default();
     for packet in rest.chunks_exact(PACKET) {
-        let [sequence, marker, time, length] = [0..2, 2..4, 4..12, 12..14].map(|part| number(&packet[part]));
+        let [sequence, marker, time, length] = [0..2, 2..4, 4..12, 12..14].map(|part| little_endian(&packet[part]));
         packets.push(sequence as u16, marker != 0, time, length as u16);
     }
     Ok(packets)
 }
 
-/// A little-endian number of at most 8 bytes.
-fn number(bytes: &[u8]) -> u64 {
-    bytes.iter().rev().fold(0, |number, &byte| number << 8 | u64::from(byte))
-}
-
 /// The line of a unit's row.
 fn line(row: &[u8]) -> String {
     let figures = [&row[..8], &row[8..16], &row[16..20], &row[20..24], &row[24..28]];
-    let [least, greatest, size, cells, lost] = figures.map(number);
+    let [least, greatest, size, cells, lost] = figures.map(little_endian);
     format!("{least} {greatest} {size} {cells} {lost}\n")
 }
 

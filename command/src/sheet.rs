@@ -32,6 +32,7 @@ fn run(words: Vec<OsString>) -> Result<(), Stop> {
     let mut input = Input::open(plain[0].as_deref().unwrap_or_default())?;
     let bytes = show::read(&mut input)?;
     let mut pages = vec![0; SHEET_MOST];
-    let length = carolsedge::sheet(&bytes, &mut pages).map_err(|refusal| Stop::refused(refusal, Vec::new()))?;
+    let length = carolsedge::sheet(&bytes, &mut pages);
+    let length = length.map_err(|refusal| show::refused(refusal, &bytes, &mut input))?;
     output::write(&pages[..length])
 }

@@ -1,6 +1,6 @@
 //! carolsedge shelf: many records in one file.
-use crate::input::{Identity, Input};
-use crate::output;
+use crate::input::{little_endian, Identity, Input};
+use crate::output::{self, count};
 use crate::record_file::RecordFile;
 use crate::show;
 use crate::stop::Stop;
@@ -25,7 +25,8 @@ of these tests the whole shelf and every record of it. FILE, or a RECORD, may be
 
   check    prints how many records it holds and how many packets they lost:
            records N lost TOTAL
-  make     makes the shelf OUT of the records, in this order; prints the same
+  make     makes the shelf OUT of the records, in this order; prints the same,
+           and says so where OUT held records, which are then gone
   add      puts the records behind those that the shelf FILE holds; prints the
            same. The new shelf takes FILE's place once it is whole and checked
   take     writes record J, from 0, to standard output
@@ -52,8 +53,8 @@ fn run(words: Vec<OsString>) -> Result<(), Stop> {
 }
 
 fn check(words: &[Option<OsString>]) -> Result<(), Stop> {
-    let bytes = read_word(words)?;
-    print_totals(&Shelf::read(&bytes).map_err(refused)?)
+    let file = Read::word(words)?;
+    output::print(&totals(&file.shelf()?))
 }
 
 fn take(words: &[Option<OsString>]) -> Result<(), Stop> {
@@ -61,16 +62,16 @@ fn take(words: &[Option<OsString>]) -> Result<(), Stop> {
     let Some(j) = word.to_str().and_then(number_or_most) else {
         return Err(Stop::Usage(format!("{}: not the number of a record", word.to_string_lossy())));
     };
-    let bytes = read_word(words)?;
-    output::write(&bytes[shelf_part(&bytes, j as usize).map_err(refused)?])
+    let file = Read::word(words)?;
+    let part = shelf_part(&file.bytes, j as usize).map_err(|refusal| file.refused(refusal))?;
+    output::write(&file.bytes[part])
 }
 
 fn list(words: &[Option<OsString>]) -> Result<(), Stop> {
-    let bytes = read_word(words)?;
-    let shelf = Shelf::read(&bytes).map_err(refused)?;
+    let file = Read::word(words)?;
     let names = "  No.    offset  length  edition  width  height  pictures  units  scenes          lost  index\n";
     let mut text = String::from(names);
-    for (j, line) in lines(&bytes, &shelf)?.iter().enumerate() {
+    for (j, line) in lines(&file.bytes, &file.shelf()?)?.iter().enumerate() {
         let Line { at, length, header: h, lost } = line;
         text += &format!("{j:5} {at:9} {length:7} {:8} {:6} {:7}", h.edition, h.width, h.height);
         text += &format!(" {:9} {:6} {:7} {lost:13}  {:?}\n", h.pictures, h.units, h.scenes, h.index);
@@ -91,9 +92,9 @@ pub fn lines(bytes: &[u8], shelf: &Shelf) -> Result<Vec<Line>, Stop> {
     let mut at = bytes.len() - shelf.records().map(<[u8]>::len).sum::<usize>();
     let mut lines = Vec::new();
     for record in shelf.records() {
-        let header = Record::read(record).map_err(refused)?.header();
+        let header = Record::read(record)?.header();
         // What one record lost is what the shelf of it alone lost.
-        let lost = Shelf::read(&shelf_of(&[record]).map_err(refused)?).map_err(refused)?.lost();
+        let lost = Shelf::read(&shelf_of(&[record])?)?.lost();
         lines.push(Line { at, length: record.len(), header, lost });
         at += record.len();
     }
@@ -104,18 +105,31 @@ fn make(words: &[OsString]) -> Result<(), Stop> {
     let (out, words) = named(words, "OUT")?;
     let given = Given::read(words)?;
     let file = RecordFile::new(out, given.inputs.clone())?;
-    put(&file, Vec::new(), given)
+    let (held, name) = (held(out), out.to_string_lossy());
+    let totals = put(&file, Vec::new(), given).map_err(|stop| stop.of(&name))?;
+    if held > 0 {
+        let records = count(held as u64, "record");
+        output::say(&format!("carolsedge shelf: {name} held {records}, and is replaced\n"));
+    }
+    output::print(&totals)
+}
+
+/// How many records stand there on a shelf; 0 where there is none.
+fn held(out: &OsStr) -> usize {
+    let bytes = Input::open(out).and_then(|mut input| read(&mut input)).unwrap_or_default();
+    Shelf::read(&bytes).map_or(0, |shelf| shelf.len())
 }
 
 fn add(words: &[OsString]) -> Result<(), Stop> {
     let (out, words) = named(words, "FILE")?;
     // It stays open, so that no other file gets its number before it is replaced.
     let mut input = Input::open(out)?;
-    let bytes = read(&mut input)?;
-    let shelf = Shelf::read(&bytes).map_err(refused)?;
+    let old = Read::all(&mut input)?;
+    let shelf = old.shelf()?;
     let given = Given::read(words)?;
     let file = RecordFile::new(out, given.inputs.clone())?.in_place_of(input.identity())?;
-    put(&file, shelf.records().map(<[u8]>::to_vec).collect(), given)
+    let totals = put(&file, shelf.records().map(<[u8]>::to_vec).collect(), given);
+    output::print(&totals.map_err(|stop| stop.of(input.name()))?)
 }
 
 /// The shelf that is to be written, and the words for records behind it.
@@ -148,14 +162,14 @@ impl Given {
     }
 }
 
-/// Puts a shelf of the old records and of the given ones behind them in its place, and prints its totals.
-fn put(file: &RecordFile, mut records: Vec<Vec<u8>>, given: Given) -> Result<(), Stop> {
+/// Puts a shelf of the old records and of the given ones behind them in its place, and gives its totals.
+fn put(file: &RecordFile, mut records: Vec<Vec<u8>>, given: Given) -> Result<String, Stop> {
     let first = records.len();
     records.extend(given.records);
     let bytes = shelf_of(&records).map_err(|refusal| not_made(refusal, first, &given.inputs, &records))?;
-    let shelf = Shelf::read(&bytes).map_err(refused)?;
+    let shelf = Shelf::read(&bytes)?;
     file.write(&bytes)?;
-    print_totals(&shelf)
+    Ok(totals(&shelf))
 }
 
 /// A refusal of making, with the file of the record that is refused and why it is. The inputs are the records from
@@ -169,30 +183,53 @@ fn not_made(refusal: Refusal, first: usize, inputs: &[(Identity, String)], recor
     Stop::refused(refusal, found)
 }
 
-fn print_totals(shelf: &Shelf) -> Result<(), Stop> {
-    output::print(&format!("records {} lost {}\n", shelf.len(), shelf.lost()))
+fn totals(shelf: &Shelf) -> String {
+    format!("records {} lost {}\n", shelf.len(), shelf.lost())
 }
 
-fn refused(refusal: Refusal) -> Stop {
-    Stop::refused(refusal, Vec::new())
+/// The bytes of a file that should be a shelf, and its name.
+struct Read {
+    bytes: Vec<u8>,
+    name: String,
 }
 
-/// All bytes of the word FILE.
-fn read_word(words: &[Option<OsString>]) -> Result<Vec<u8>, Stop> {
-    read(&mut Input::open(words[1].as_deref().unwrap_or(OsStr::new("")))?)
+impl Read {
+    /// Of the word FILE.
+    fn word(words: &[Option<OsString>]) -> Result<Read, Stop> {
+        Read::all(&mut Input::open(words[1].as_deref().unwrap_or_default())?)
+    }
+
+    fn all(input: &mut Input) -> Result<Read, Stop> {
+        Ok(Read { bytes: read(input)?, name: input.name().to_string() })
+    }
+
+    fn shelf(&self) -> Result<Shelf<'_>, Stop> {
+        Shelf::read(&self.bytes).map_err(|refusal| self.refused(refusal))
+    }
+
+    /// What is said of a refused shelf: a record is told from a shelf that was altered.
+    fn refused(&self, refusal: Refusal) -> Stop {
+        let record = Record::read(&self.bytes).ok();
+        let found = record.map(|_| "It is a record, no shelf: carolsedge show FILE".to_string());
+        Stop::refused(refusal, found.into_iter().collect()).of(&self.name)
+    }
 }
 
-/// All bytes, but no more than it takes to see that they are too many: a shelf has as many as its word at 4 says, and
-/// no record has more than `RECORD_MOST`. With one more than both, each reader gives the refusal that all of them get. A
-/// head that says more records than a shelf may have is refused whatever stands behind it.
+/// All bytes, but no more than it takes to see that they are too many.
 pub fn read(input: &mut Input) -> Result<Vec<u8>, Stop> {
     let mut bytes = input.up_to(8)?;
-    let word = |bytes: [u8; 4]| u32::from_le_bytes(bytes) as usize;
-    let said = match bytes[..] {
-        [a, b, c, d, e, f, g, h] if word([a, b, c, d]) <= SHELF_RECORDS_MOST => word([e, f, g, h]),
+    read_on(input, &mut bytes)?;
+    Ok(bytes)
+}
+
+/// The same behind the first bytes, 8 at least, or all that there are. A shelf has as many as its word at 4 says, and
+/// no record has more than `RECORD_MOST`. With one more than both, each reader gives the refusal that all of them get.
+/// A head that says more records than a shelf may have is refused whatever stands behind it.
+pub fn read_on(input: &mut Input, bytes: &mut Vec<u8>) -> Result<(), Stop> {
+    let said = match bytes.get(..8).map(|head| head.split_at(4)) {
+        Some((records, length)) if little_endian(records) <= SHELF_RECORDS_MOST as u64 => little_endian(length),
         _ => 0,
     };
-    let most = said.max(RECORD_MOST) as u64 + 1;
-    input.append(&mut bytes, most - 8)?;
-    Ok(bytes)
+    let most = said.max(RECORD_MOST as u64) + 1;
+    input.append(bytes, most.saturating_sub(bytes.len() as u64))
 }

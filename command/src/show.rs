@@ -4,11 +4,11 @@ mod page;
 pub mod tables;
 
 use crate::input::Input;
-use crate::output;
-use crate::stop::{Refused, Stop};
+use crate::output::{self, count};
+use crate::stop::Stop;
 use crate::words::Words;
-use crate::Subcommand;
-use carolsedge::{Record, Refusal, RECORD_MOST};
+use crate::{shelf, Subcommand};
+use carolsedge::{Record, Refusal, Shelf, RECORD_MOST};
 use std::ffi::OsString;
 
 pub const SUBCOMMAND: Subcommand =
@@ -43,7 +43,14 @@ fn run(words: Vec<OsString>) -> Result<(), Stop> {
     let mut input = Input::open(plain[0].as_deref().unwrap_or_default())?;
     let bytes = read(&mut input)?;
     let form = forms.first().copied();
-    let record = Record::read(&bytes).map_err(|refusal| refused(refusal, form))?;
+    let record = Record::read(&bytes).map_err(|refusal| {
+        let stop = refused(refusal, &bytes, &mut input);
+        match form {
+            // The program show prints the number alone.
+            Some("--lines") => stop.printed(format!("refused {}\n", refusal.number)),
+            _ => stop,
+        }
+    })?;
     output::print(&match form {
         Some("--lines") => tables::lines(&record),
         Some("--json") => tables::json(&record),
@@ -57,13 +64,13 @@ pub fn read(input: &mut Input) -> Result<Vec<u8>, Stop> {
     input.up_to(RECORD_MOST + 1)
 }
 
-/// A refused record; among lines the program show prints the number alone.
-fn refused(refusal: Refusal, form: Option<&str>) -> Stop {
-    match form {
-        Some("--lines") => {
-            let line = format!("refused {}\n", refusal.number);
-            Stop::Refused(Refused { line, refusal, found: Vec::new() })
-        }
-        _ => Stop::refused(refusal, Vec::new()),
-    }
+/// What is said of an input whose first bytes are refused as a record: a shelf is told from a record that was altered.
+pub fn refused(refusal: Refusal, bytes: &[u8], input: &mut Input) -> Stop {
+    let mut bytes = bytes.to_vec();
+    let shelf = shelf::read_on(input, &mut bytes).ok().and_then(|()| Shelf::read(&bytes).ok());
+    let found = shelf.map(|shelf| {
+        let records = count(shelf.len() as u64, "record");
+        format!("It is a shelf of {records}: carolsedge shelf list FILE, carolsedge shelf take FILE J")
+    });
+    Stop::refused(refusal, found.into_iter().collect()).of(input.name())
 }

@@ -16,9 +16,17 @@ pub enum Stop {
 
 /// A refusal as it is printed: `line` on standard output, the rest on standard error.
 pub struct Refused {
-    pub line: String,
-    pub refusal: Refusal,
-    pub found: Vec<String>,
+    line: String,
+    refusal: Refusal,
+    /// The name of what was refused, where it has one.
+    of: Option<String>,
+    found: Vec<String>,
+}
+
+impl From<Refusal> for Stop {
+    fn from(refusal: Refusal) -> Stop {
+        Stop::refused(refusal, Vec::new())
+    }
 }
 
 impl Stop {
@@ -30,7 +38,34 @@ impl Stop {
     /// A refusal, with what was found; without that, what usually mends it is said.
     pub fn refused(refusal: Refusal, found: Vec<String>) -> Stop {
         let line = format!("refused {} {}\n", refusal.number, refusal.place);
-        Stop::Refused(Refused { line, refusal, found })
+        Stop::Refused(Refused { line, refusal, of: None, found })
+    }
+
+    /// The same, with another line on standard output where it is a refusal.
+    pub fn printed(self, line: String) -> Stop {
+        match self {
+            Stop::Refused(refused) => Stop::Refused(Refused { line, ..refused }),
+            other => other,
+        }
+    }
+
+    /// The same, with the name of what was refused where it is a refusal that has none yet.
+    pub fn of(self, name: &str) -> Stop {
+        match self {
+            Stop::Refused(refused) => {
+                let of = refused.of.or_else(|| Some(name.to_string()));
+                Stop::Refused(Refused { of, ..refused })
+            }
+            other => other,
+        }
+    }
+
+    /// The number, where it is a refusal.
+    pub fn number(&self) -> Option<u32> {
+        match self {
+            Stop::Refused(refused) => Some(refused.refusal.number),
+            _ => None,
+        }
     }
 }
 
@@ -61,15 +96,15 @@ pub fn status(name: &str, done: Result<(), Stop>) -> ExitCode {
     }
 }
 
+/// What is said goes out in one piece, so that it stays together where many runs have one standard error.
 fn say_refused(name: &str, refused: &Refused) -> ExitCode {
     let printed = output::print(&refused.line);
-    output::say(&format!("{name}: {}\n", refused.refusal));
-    for line in &refused.found {
-        output::say(&format!("{line}\n"));
-    }
-    if refused.found.is_empty() {
-        output::say(&format!("{}\n", explain::mends(refused.refusal.number)));
-    }
+    let of = refused.of.as_ref().map(|of| format!(": {of}")).unwrap_or_default();
+    let found = match refused.found.is_empty() {
+        true => explain::mends(refused.refusal.number).to_string(),
+        false => refused.found.join("\n"),
+    };
+    output::say(&format!("{name}: {}{of}\n{found}\n", refused.refusal));
     match printed {
         Ok(()) => ExitCode::from(1),
         Err(stop) => status(name, Err(stop)),

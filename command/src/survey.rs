@@ -53,7 +53,7 @@ pub fn most(input: &mut Input) -> Result<(Most, Option<Most>), Stop> {
     }
     let most = survey.ask().map_err(|refusal| {
         let found = if refusal.number == 21 { walk.nothing_good() } else { Vec::new() };
-        Stop::refused(refusal, found)
+        Stop::refused(refusal, found).of(input.name())
     })?;
     let others = (0..8192).filter(|&pid| pid != most.pid).map(|pid| Most { pid, packets: survey.packets(pid) });
     let next = others.filter(|other| other.packets > 0).min_by_key(|other| Reverse(other.packets));

@@ -68,10 +68,10 @@ impl Walk {
         all.collect::<Vec<_>>().join(", ")
     }
 
-    /// What mends each reason that may have cost packets.
+    /// What mends each reason that may have cost packets: lines that stand below the reasons.
     pub fn mends(&self) -> Vec<String> {
         let all = self.skipped.reasons().filter(|reason| !reason.2.is_empty());
-        all.map(|(_, words, mends)| format!("{words}: {mends}")).collect()
+        all.map(|(_, words, mends)| format!("  {words}: {mends}")).collect()
     }
 
     /// How many packets the receiver marked as damaged, of all identifiers, if any.
@@ -89,7 +89,7 @@ impl Walk {
         if self.carrying == 0 {
             let frames = count(self.skipped(), "frame");
             let mut lines = vec![format!("No frame carries transport packets. Of {frames}: {}.", self.reasons())];
-            lines.extend(self.mends().iter().map(|line| format!("  {line}")));
+            lines.extend(self.mends());
             return lines;
         }
         let (frames, bads) = (count(self.carrying, "frame"), count(self.bad, "packet"));

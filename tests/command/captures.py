@@ -2,8 +2,8 @@
 import random
 import re
 import struct
-from common import capture, carrying, check, counted, ethernet, expect, good, ipv4, packets, proved, read, run, udp
-from common import write
+from common import (WHOLE, capture, carrying, check, counted, ethernet, expect, good, ipv4, packets, proved, read, run,
+                    udp, write)
 
 RAW = ["--size", "30x30", "--time", "40000", "--pid", "256"]
 
@@ -41,65 +41,76 @@ SKIPPED = {
 }
 
 
-def named():
-    """A refusal 12, and a warning behind a seal, by what was really found."""
-    pictures = write("black.y", bytes(900))
-    words = ["measure", "capture.pcap", pictures, "-o", "record", *RAW]
+def measured(name, frames, status, line, said, pid="256", snap=65535):
+    """A capture of these frames; said is all that is to be found in what is told."""
+    write("capture.pcap", capture(frames, snap))
+    words = ["measure", "capture.pcap", "black.y", "-o", "record", *RAW[:-1], pid]
+    return expect(name, status, line, said, *words)[2]
+
+
+def unhinted(name, frames, said, **how):
+    """The same, refused with 12, and no identifier is proposed."""
+    told = measured(name, frames, 1, b"refused 12 0\n", said, **how)
+    check("--pid" not in told, name + ": a hint about the identifier: " + told)
+
+
+def skipped():
+    """Frames that carry nothing, alone and beside the stream: why, and what mends it."""
     for name, (frames, snap, reason, mends) in SKIPPED.items():
-        write("capture.pcap", capture(frames, snap))
-        said = ["refused 12", "No frame carries transport packets", reason, mends]
-        got = expect(name, 1, b"refused 12 0\n", said, *words)
-        check("--pid" not in got[2], name + ": a hint about the identifier: " + got[2])
-        expect(name + ", surveyed", 1, b"refused 21 0\n", ["refused 21", *said[1:]], "survey", "capture.pcap")
+        said = ["No frame carries transport packets", reason, mends]
+        unhinted(name, frames, ["refused 12", *said], snap=snap)
+        expect(name + ", surveyed", 1, b"refused 21 0\n", ["refused 21", *said], "survey", "capture.pcap")
         write("capture.pcap", capture(frames, snap) + capture(good(1))[24:])
-        said = "warning: %d of %d frames skipped" % (len(frames), len(frames) + 1)
-        said = ["1 picture beside 1 unit", said, reason, mends]
+        said = "record: warning: %d of %d frames skipped" % (len(frames), len(frames) + 1)
+        said = ["1 picture beside 1 unit", said, reason, "record:   " if mends else "", mends]
+        words = ["measure", "capture.pcap", "black.y", "-o", "record", *RAW]
         expect(name + " beside the stream", 0, b"sealed 128\n", said, *words)
-    write("capture.pcap", capture([]))
-    got = expect("no frames", 1, b"refused 12 0\n", ["The capture has no frames"], *words)
-    check("--pid" not in got[2], "no frames: a hint about the identifier")
-    write("capture.pcap", b"")
-    expect("nothing at all", 1, b"refused 11 0\n", ["cut short"], *words)
-    write("capture.pcap", capture([carrying(packets(7, sync=0x48))] * 3))
-    got = expect("all bad", 1, b"refused 12 0\n", ["All 21 packets in 3 frames are bad"], *words)
-    check("--pid" not in got[2], "all bad: a hint about the identifier")
+
+
+def none():
+    """No packet of the identifier: what there is instead."""
+    unhinted("no frames", [], ["The capture has no frames"])
+    unhinted("all bad", [carrying(packets(7, sync=0x48))] * 3, ["All 21 packets in 3 frames are bad"])
     others = [carrying(packets(7, pid=pid)) for pid in (0, 0, 0, 8191, 8191, 8191, 8191, 300, 300, 17)]
-    write("capture.pcap", capture(others))
     most = "8191 (28 packets), 0 (21 packets), 300 (14 packets)"
     said = ["No packet in 10 frames has identifier 256", most, "Most likely: --pid 300"]
-    expect("another identifier", 1, b"refused 12 0\n", said, *words)
-    write("capture.pcap", capture([carrying(packets(5, pid=300, damaged=True))] * 2 + [carrying(packets(5))]))
+    measured("another identifier", others, 1, b"refused 12 0\n", said)
+    more = [carrying(packets(5, pid=300, damaged=True))] * 2 + [carrying(packets(5))]
     said = ["No packet in 3 frames has identifier 99. There are: 256 (5 packets).", "marked 10 packets as damaged"]
-    other = [*words[:-1], "99"]
-    expect("more damaged packets than good ones", 1, b"refused 12 0\n", [*said, "Most likely: --pid 256"], *other)
+    said.append("Most likely: --pid 256")
+    measured("more damaged packets than good ones", more, 1, b"refused 12 0\n", said, pid="99")
     expect("as the survey has it", 0, b"survey 256 5\n", None, "survey", "capture.pcap")
     said = "The receiver marked 10 packets of identifier 300 as damaged, and there is no other of it."
-    expect("damaged packets beside good ones", 1, b"refused 12 0\n", [said], *words[:-1], "300")
-    write("capture.pcap", capture([carrying(packets(2, pid=300, damaged=True) + packets(1, sync=0x48))]))
+    measured("damaged packets beside good ones", more, 1, b"refused 12 0\n", [said], pid="300")
+    frames = [carrying(packets(2, pid=300, damaged=True) + packets(1, sync=0x48))]
     said = ["No packet in 1 frame is good: 1 packet without 0x47.", "marked 2 packets as damaged"]
-    got = expect("no good packet", 1, b"refused 12 0\n", said, *other)
-    check("--pid" not in got[2], "no good packet: a hint about the identifier")
-    write("capture.pcap", capture(good(1) + [carrying(packets(2, sync=0))]))
-    expect("bad packets", 0, b"sealed 128\n", ["2 bad packets", "warning: 2 packets without 0x47"], *words)
-    broken = carrying(packets(3, damaged=True))
-    write("capture.pcap", capture([broken] + good(1) + [carrying(packets(2, sync=0)), broken]))
+    unhinted("no good packet", frames, said, pid="99")
+
+
+def warned():
+    """Bad and damaged packets beside the stream, and damaged ones alone."""
+    bad, broken = carrying(packets(2, sync=0)), carrying(packets(3, damaged=True))
+    said = ["2 bad packets", "record: warning: 2 packets without 0x47"]
+    measured("bad packets", good(1) + [bad], 0, b"sealed 128\n", said)
     said = ["5 bad packets", "warning: 2 packets without 0x47", "warning: 3 packets marked as damaged before the"]
-    expect("damaged packets", 0, b"sealed 128\n", said, *words)
-    write("capture.pcap", capture([broken] * 2))
-    said = ["The receiver marked 6 packets of identifier 256 as damaged"]
-    got = expect("damaged packets alone", 1, b"refused 12 0\n", said, *words)
-    check("--pid" not in got[2], "damaged packets alone: a hint about the identifier")
-    whole = capture(good(1))
+    measured("damaged packets", [broken] + good(1) + [bad, broken], 0, b"sealed 128\n", said)
+    unhinted("damaged packets alone", [broken] * 2, ["The receiver marked 6 packets of identifier 256 as damaged"])
+
+
+def broken():
+    """What is no capture, or one cut short."""
+    words = ["measure", "capture.pcap", "black.y", "-o", "record", *RAW]
     for name, data, line, said in (
-        ("big-endian", b"\xa1\xb2\xc3\xd4" + whole[4:], b"refused 5 3\n", "editcap -F pcap"),
-        ("nanoseconds", b"\x4d\x3c\xb2\xa1" + whole[4:], b"refused 5 3\n", "editcap -F pcap"),
-        ("another link", whole[:20] + b"\x71" + whole[21:], b"refused 6 23\n", "not -i any"),
-        ("microseconds", whole[:28] + struct.pack("<I", 10**6) + whole[32:], b"refused 7 31\n", "damaged"),
-        ("a frame's length", whole[:32] + struct.pack("<I", 65536) + whole[36:], b"refused 8 35\n", "damaged"),
-        ("cut short", whole[:1000], b"refused 11 1000\n", "cut short"),
+        ("nothing at all", b"", b"refused 11 0\n", "cut short"),
+        ("big-endian", b"\xa1\xb2\xc3\xd4" + WHOLE[4:], b"refused 5 3\n", "editcap -F pcap"),
+        ("nanoseconds", b"\x4d\x3c\xb2\xa1" + WHOLE[4:], b"refused 5 3\n", "editcap -F pcap"),
+        ("another link", WHOLE[:20] + b"\x71" + WHOLE[21:], b"refused 6 23\n", "not -i any"),
+        ("microseconds", WHOLE[:28] + struct.pack("<I", 10**6) + WHOLE[32:], b"refused 7 31\n", "damaged"),
+        ("a frame's length", WHOLE[:32] + struct.pack("<I", 65536) + WHOLE[36:], b"refused 8 35\n", "damaged"),
+        ("cut short", WHOLE[:1000], b"refused 11 1000\n", "cut short"),
     ):
         write("capture.pcap", data)
-        expect(name, 1, line, [said], *words)
+        expect(name, 1, line, [": capture.pcap\n", said], *words)
 
 
 def mixed(pick):
@@ -117,15 +128,14 @@ def mixed(pick):
 
 def counts():
     """On random captures the reasons add up to the record's count of skipped frames, which the library made."""
-    pictures = write("black.y", bytes(900))
     sealed = 0
     for seed in range(150):
         write("capture.pcap", mixed(random.Random(seed)))
-        status, out, err = run("measure", "capture.pcap", pictures, "-o", "record", *RAW)
+        status, out, err = run("measure", "capture.pcap", "black.y", "-o", "record", *RAW)
         if status == 1:
             check(out == b"refused 12 0\n", "seed %d: %r" % (seed, out))
             continue
-        record, line = proved(30, 30, 40000, 256, "capture.pcap", pictures)
+        record, line = proved(30, 30, 40000, 256, "capture.pcap", "black.y")
         check((out, read("record")) == (line, record), "seed %d: another record" % seed)
         skipped = int.from_bytes(record[48:52], "little")
         told = re.search(r"warning: .* skipped: (.*)", err)
@@ -137,6 +147,10 @@ def counts():
 
 
 def test():
-    named()
+    write("black.y", bytes(900))
+    skipped()
+    none()
+    warned()
+    broken()
     sealed = counts()
     return "captures: %d runs; on %d random captures the reasons add up to the skipped frames" % (counted(), sealed)

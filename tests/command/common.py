@@ -1,10 +1,14 @@
 # What the cases share: running the command, judging what it did, and making captures and y4m files.
+import fcntl
 import os
+import pty
 import shutil
 import struct
 import subprocess
 import sys
 import tempfile
+import termios
+import time
 
 ROOT = os.path.dirname(os.path.dirname(os.path.dirname(os.path.abspath(__file__))))
 STREAMS = os.path.join(ROOT, "tests", "streams")
@@ -56,11 +60,41 @@ def expect(name, status, out, err, *words, **how):
     check(err != [] or got[2] == "", "silence wanted: " + detail)
     for part in err or []:
         check(part in got[2], "%r wanted: %s" % (part, detail))
+    check(status != 1 or named(words, got[2]), "a refusal without its input's name: " + detail)
     expect.count += 1
     return got
 
 
+def named(words, err):
+    """Whether a refusal is told with the name of an input, a word of the run; gaps has none."""
+    names = ["standard input"] + [os.fsdecode(word).split("=")[-1] for word in words]
+    told = [line for line in err.splitlines() if line.startswith("carolsedge %s: refused " % words[0])]
+    return words[0] == "gaps" or any(line.endswith(": " + name) for line in told for name in names)
+
+
 expect.count = 0
+
+
+def typed(what, *words):
+    """Bytes are not typed: at a terminal the run asks for a file or a pipe, and does not wait."""
+    main, side = pty.openpty()
+    done = subprocess.run([PROGRAMS["carolsedge"], *words], stdin=side, capture_output=True, timeout=60)
+    os.close(main)
+    os.close(side)
+    said = "carolsedge %s: %s come from a file or a pipe" % (words[0], what)
+    right = done.returncode == 2 and done.stdout == b"" and said in done.stderr.decode()
+    check(right, "%s at a terminal: status %d, %r" % (words, done.returncode, done.stderr))
+    expect.count += 1
+
+
+def taken(run):
+    """Waits until a run that was started has read all that was written to its standard input."""
+    run.stdin.flush()
+    for _ in range(6000):
+        if fcntl.ioctl(run.stdin, termios.FIONREAD, bytes(4)) == bytes(4):
+            return
+        time.sleep(0.01)
+    fail("standard input was not read")
 
 
 def counted():
@@ -82,6 +116,15 @@ def write(name, data):
 
 def stream(name, ending):
     return os.path.join(STREAMS, name + ending)
+
+
+def streams():
+    """Every stored stream: its name, and width, height, display time and identifier."""
+    with open(stream("counts", ".txt")) as file:
+        for line in file:
+            if line.strip() and not line.startswith("#"):
+                name, *opening = line.split()[:5]
+                yield name, *map(int, opening)
 
 
 def identifiers():
@@ -158,6 +201,17 @@ def good(frames):
     """So many frames that carry a unit of seven packets each."""
     return [carrying(packets(7, counter=7 * i)) for i in range(frames)]
 
+
+# Captures that are refused whatever is asked of them: a name, the bytes, number and place.
+WHOLE = capture(good(1))
+FAULTY = [
+    ("empty", b"", 11, 0),
+    ("inside a frame", WHOLE[:-1], 11, len(WHOLE) - 1),
+    ("another magic", b"\0" + WHOLE[1:], 5, 3),
+    ("another link", WHOLE[:20] + b"\x71" + WHOLE[21:], 6, 23),
+    ("microseconds", WHOLE[:28] + b"\xff" * 4 + WHOLE[32:], 7, 31),
+    ("a length", WHOLE[:32] + b"\xff" * 4 + WHOLE[36:], 8, 35),
+]
 
 # ---- pictures
 

@@ -8,8 +8,8 @@ import struct
 import subprocess
 import time
 from captures import mixed
-from common import PROGRAMS, capture, carrying, check, counted, expect, good, proved, read, run, same_record, stream
-from common import write, y4m
+from common import (PROGRAMS, capture, carrying, check, counted, expect, good, proved, read, run, same_record, stream,
+                    streams, write, y4m)
 
 OUT = ["-o", "record", "--pid", "256"]
 # What the stand-in does: keeps its words and its input, gives the file `gives`, says and ends as it is told.
@@ -50,20 +50,17 @@ def stand_in(**told):
 
 def given():
     """Everything that ffmpeg is given, and what comes of its pictures."""
-    for line in open(stream("counts", ".txt")):
-        if line.startswith("#") or not line.strip():
-            continue
-        name, width, height, d, pid = line.split()[:5]
+    for name, width, height, d, pid in streams():
         cap, luma = stream(name, ".pcap"), stream(name, ".y")
         record, sealed = proved(width, height, d, pid, cap, luma)
-        write("gives", y4m(read(luma), int(width), int(height), "mono", rate="1000000:" + d))
+        write("gives", y4m(read(luma), width, height, "mono", rate="1000000:%d" % d))
         for way in ("after", "together"):
             for words, data in (([cap], b""), (["-"], read(cap))):
-                words += ["-o", "record", "--pid", pid]
+                words += ["-o", "record", "--pid", str(pid)]
                 expect(name, 0, sealed, None, "measure", *words, stdin=data, **stand_in(WAY=way))
                 same_record(name + ", decoded", record)
                 check(read("got") == transport(read(cap)), name + ": ffmpeg was given something else")
-                check("-map 0:i:%s " % pid in read("words").decode(), "ffmpeg's words are " + read("words").decode())
+                check("-map 0:i:%d " % pid in read("words").decode(), "ffmpeg's words are " + read("words").decode())
     write("gives", y4m(bytes(900), 30, 30, "mono"))
     for seed in range(40):
         write("mixed.pcap", mixed(random.Random(1000 + seed)))
@@ -85,12 +82,13 @@ def large():
     same_record("an ffmpeg that does not listen", record)
 
 
-def troubles():
+def without():
+    """No picture comes: what is refused then, and what is said of it."""
     cap = write("capture.pcap", capture(good(4)))
-    words = ["measure", cap, *OUT]
     write("gives", b"")
     told = {"SAYS": "no idea", "STATUS": "1"}
-    expect("no pictures", 1, b"refused 14 0\n", ["ffmpeg decoded no picture: no idea"], *words, **stand_in(**told))
+    said = ["there is no picture: capture.pcap\nffmpeg decoded no picture: no idea"]
+    expect("no pictures", 1, b"refused 14 0\n", said, "measure", cap, *OUT, **stand_in(**told))
     told["SAYS"] = "the cause\nwhat came of it"
     odd = ["ffmpeg decoded no picture: the cause\nOf 5 frames, 1 skipped: 1 whose bytes are no multiple of 188\n"]
     write("odd.pcap", capture([*good(4), carrying(bytes(1472))]))
@@ -106,20 +104,27 @@ def troubles():
     expect("no identifier", 1, b"refused 3 0\n", ["refused 3"], *other, "8192", **stand_in(**told))
     write("no.pcap", b"no capture at all, though it has some bytes")
     expect("no capture", 1, b"refused 5 3\n", ["editcap"], "measure", "no.pcap", *OUT, **stand_in(**told))
+
+
+def troubles():
+    """Pictures come, and something is wrong with them or with ffmpeg."""
+    cap = write("capture.pcap", capture(good(4)))
+    words = ["measure", cap, *OUT]
     whole = y4m(bytes(4 * 900), 30, 30, "mono")
     write("gives", whole[:-900])
-    expect("a failure", 2, b"", ["ffmpeg failed: no idea"], *words, **stand_in(**told))
+    told = {"SAYS": "no idea", "STATUS": "1"}
+    expect("a failure", 2, b"", ["capture.pcap: ffmpeg failed: no idea"], *words, **stand_in(**told))
     write("gives", whole[:-1])
     expect("a picture cut", 1, b"refused 13 3599\n", ["refused 13"], *words, **stand_in())
     write("gives", whole.replace(b"Cmono", b"Cmono10"))
-    said = ["the stream of PID 256: its format is mono10, deeper than 8 bits"]
+    said = ["capture.pcap: the stream of PID 256: its format is mono10, deeper than 8 bits"]
     expect("10 bits", 2, b"", said, *words, **stand_in())
     write("gives", whole.replace(b"W30 H30", b"W30 H20"))
     expect("a size", 1, b"refused 1 0\n", ["refused 1"], *words, **stand_in())
     write("gives", y4m(bytes(751 * 900), 30, 30, "mono"))
     expect("751 pictures", 1, b"refused 10 675000\n", ["750 pictures"], *words, **stand_in())
     write("gives", whole.replace(b"F25:1", b"F30000:1001"))
-    expect("a rate", 0, None, ["rounded to 33367"], *words, **stand_in())
+    expect("a rate", 0, None, ["record: 30000/1001 pictures a second", "rounded to 33367"], *words, **stand_in())
     expect("another rate", 0, None, None, *words, "--rate", "25", **stand_in())
     expect("another size", 2, b"", ["--size 31x30: the pictures are 30x30"], *words, "--size", "31x30", **stand_in())
     os.remove("record")
@@ -158,37 +163,45 @@ def ffmpeg(*words):
     return subprocess.run(["ffmpeg", "-nostdin", "-v", "error", "-y", *words], capture_output=True).returncode == 0
 
 
+PASSING = ["-fps_mode", "passthrough"]
+PLANE = ["-vf", "extractplanes=y", *PASSING, "-f", "rawvideo", "luma.y"]
+
+
 def real():
     """The real ffmpeg: it decodes as it does by hand, and its y4m files give the luma that it extracts."""
     if not shutil.which("ffmpeg"):
         return "ffmpeg is not installed: the stand-in alone was used"
-    passing = ["-fps_mode", "passthrough"]
-    if not ffmpeg("-f", "lavfi", "-i", "testsrc2=size=66x50:rate=25:duration=1", *passing, "test.y4m"):
+    if not ffmpeg("-f", "lavfi", "-i", "testsrc2=size=66x50:rate=25:duration=1", *PASSING, "test.y4m"):
         return "the ffmpeg here does not know -fps_mode: the stand-in alone was used"
-    for line in open(stream("counts", ".txt")):
-        if line.startswith("#") or not line.strip():
-            continue
-        name, width, height, d, pid = line.split()[:5]
+    for name, width, height, d, pid in streams():
         write("stream.ts", transport(read(stream(name, ".pcap"))))
-        plane = ["-vf", "extractplanes=y", *passing, "-f", "rawvideo", "luma.y"]
-        ffmpeg("-i", "stream.ts", "-map", "0:i:" + pid, *plane)
+        ffmpeg("-i", "stream.ts", "-map", "0:i:%d" % pid, *PLANE)
         record, sealed = proved(width, height, d, pid, stream(name, ".pcap"), "luma.y")
-        expect(name, 0, sealed, None, "measure", stream(name, ".pcap"), "-o", "record", "--pid", pid)
+        expect(name, 0, sealed, None, "measure", stream(name, ".pcap"), "-o", "record", "--pid", str(pid))
         same_record(name + ", decoded by ffmpeg", record)
     cap = write("capture.pcap", capture(good(25)))
     for form in ("yuv420p", "yuvj420p", "yuv422p", "yuv444p", "yuv411p", "gray"):
         ffmpeg("-i", "test.y4m", "-pix_fmt", form, "-strict", "-1", "form.y4m")
-        ffmpeg("-i", "form.y4m", *plane)
+        ffmpeg("-i", "form.y4m", *PLANE)
         record, sealed = proved(66, 50, 40000, 256, cap, "luma.y")
         expect(form, 0, sealed, ["25 pictures beside 25 units"], "measure", cap, "form.y4m", *OUT)
         same_record("ffmpeg's " + form, record)
-    deep = random.Random(5).randbytes(2 * 66 * 50)
-    deep = b"".join(((a | b << 8) & 1023).to_bytes(2, "little") for a, b in zip(deep[::2], deep[1::2]))
-    write("deep.y", deep)
-    upper = ["-vf", "extractplanes=y,scale=sws_dither=none,format=gray", *passing]
+    deep(cap)
+    words = ["measure", stream("clip", ".pcap"), "-o", "record", "--pid", "0"]
+    expect("tables alone", 1, b"refused 14 0\n", ["ffmpeg decoded no picture"], *words)
+    return subprocess.run(["ffmpeg", "-version"], capture_output=True).stdout.decode().split(" Copyright")[0]
+
+
+def deep(cap):
+    """Samples deeper than 8 bits are refused; the command that is named gives their upper 8 bits."""
+    samples = random.Random(5).randbytes(2 * 66 * 50)
+    samples = b"".join(((a | b << 8) & 1023).to_bytes(2, "little") for a, b in zip(samples[::2], samples[1::2]))
+    write("deep.y", samples)
+    upper = ["-vf", "extractplanes=y,scale=sws_dither=none,format=gray", *PASSING]
     raw = ["-f", "rawvideo"]
     ffmpeg(*raw, "-pix_fmt", "gray10le", "-s", "66x50", "-i", "deep.y", *upper, *raw, "upper.y")
-    check(read("upper.y") == bytes(a >> 2 | b << 6 for a, b in zip(deep[::2], deep[1::2])), "not the upper 8 bits")
+    wanted = bytes(a >> 2 | b << 6 for a, b in zip(samples[::2], samples[1::2]))
+    check(read("upper.y") == wanted, "not the upper 8 bits")
     for form in ("yuv420p10le", "gray10le", "yuv444p12le"):
         ffmpeg("-i", "test.y4m", "-pix_fmt", form, "-strict", "-1", "form.y4m")
         expect(form, 2, b"", ["deeper than 8 bits"], "measure", cap, "form.y4m", *OUT)
@@ -196,9 +209,6 @@ def real():
         data = read("deep.ts")
         write("deep.pcap", capture([carrying(data[at : at + 1316]) for at in range(0, len(data), 1316)]))
         expect("a deep stream", 2, b"", ["the stream of PID 256: its format is mono10"], "measure", "deep.pcap", *OUT)
-    words = ["measure", stream("clip", ".pcap"), "-o", "record", "--pid", "0"]
-    expect("tables alone", 1, b"refused 14 0\n", ["ffmpeg decoded no picture"], *words)
-    return subprocess.run(["ffmpeg", "-version"], capture_output=True).stdout.decode().split(" Copyright")[0]
 
 
 def test():
@@ -208,6 +218,7 @@ def test():
     os.chmod("stand-in/ffmpeg", 0o755)
     given()
     large()
+    without()
     troubles()
     interrupted()
     which = real()

@@ -2,7 +2,7 @@
 # lines, beside the same numbers on standard input. tests/loss compares at random.
 import random
 import struct
-from common import check, counted, expect, proved, run, stream, write
+from common import check, counted, expect, proved, run, stream, typed, write
 
 NOT_A_NUMBER = float("nan")
 
@@ -123,4 +123,5 @@ def test():
     expect("a name that is no text", 0, None, [], "loss", b"--record=\xff.record", "--keys=keys")
     wrong_files(record, len(losses))
     wrong_words()
+    typed("LISTS", "loss")
     return "loss: %d runs: lists worked by hand, a record's losses, and refusals" % counted()

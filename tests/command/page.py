@@ -9,7 +9,7 @@ import subprocess
 import zlib
 from html.parser import HTMLParser
 from common import (NEWEST, ROOT, capture, carrying, check, counted, expect, packets, proved, read, run, stream,
-                    write)
+                    streams, write)
 from shelf import laid_out
 from show import DAMAGED, SAMPLE, figures, made
 
@@ -343,12 +343,10 @@ def greatest():
 
 
 def test():
-    for line in open(stream("counts", ".txt")):
-        if not line.startswith("#") and line.strip():
-            name, *opening = line.split()[:5]
-            for edition in range(1, NEWEST + 1):
-                record = proved(*opening, stream(name, ".pcap"), stream(name, ".y"), edition)[0]
-                whole("%s, edition %d" % (name, edition), record)
+    for name, *opening in streams():
+        for edition in range(1, NEWEST + 1):
+            record = proved(*opening, stream(name, ".pcap"), stream(name, ".y"), edition)[0]
+            whole("%s, edition %d" % (name, edition), record)
     pages = {}
     damaged = proved(64, 48, 40000, 256, stream("damaged", ".pcap"), stream("dropped", ".y"))[0]
     for name, record in (("damaged", damaged), ("greatest", greatest())):

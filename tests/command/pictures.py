@@ -1,7 +1,8 @@
 # Pictures: raw and y4m, from files and standard input, make the proved program's record; doubts are told.
 import os
 import random
-from common import CHROMA, check, counted, expect, good, proved, read, same_record, stream, write, y4m, capture
+from common import (CHROMA, capture, check, counted, expect, good, proved, read, same_record, stream, streams, write,
+                    y4m)
 
 RAW = ["--size", "64x48", "--time", "40000", "--pid", "256"]
 OUT = ["-o", "record"]
@@ -9,25 +10,27 @@ OUT = ["-o", "record"]
 
 def stored():
     """Every stored stream, raw and as y4m, by name and on standard input."""
-    for line in open(stream("counts", ".txt")):
-        if line.startswith("#") or not line.strip():
-            continue
-        name, width, height, time, pid = line.split()[:5]
-        w, h, cap, luma = int(width), int(height), stream(name, ".pcap"), stream(name, ".y")
+    for name, w, h, time, pid in streams():
+        cap, luma, size = stream(name, ".pcap"), stream(name, ".y"), "%dx%d" % (w, h)
         record, sealed = proved(w, h, time, pid, cap, luma)
-        words = [*OUT, "--pid", pid]
-        raw = [*words, "--size", "%sx%s" % (width, height), "--time", time]
-        file = write("pictures.y4m", y4m(read(luma), w, h, rate="%d:%d" % (1000000, int(time))))
+        words = [*OUT, "--pid", str(pid)]
+        raw = [*words, "--size", size, "--time", str(time)]
+        file = write("pictures.y4m", y4m(read(luma), w, h, rate="1000000:%d" % time))
         for how, stdin, *given in (
             ("raw", b"", cap, luma, *raw),
             ("luma on standard input", read(luma), cap, "-", *raw),
             ("capture on standard input", read(cap), "-", luma, *raw),
             ("y4m", b"", cap, file, *words),
             ("y4m on standard input", read(file), cap, "-", *words),
-            ("y4m with its own size", b"", cap, file, *words, "--size", "%sx%s" % (width, height)),
+            ("y4m with its own size", b"", cap, file, *words, "--size", size),
         ):
-            expect(name + ", " + how, 0, sealed, [" beside "], "measure", *given, stdin=stdin)
+            got = expect(name + ", " + how, 0, sealed, [" beside "], "measure", *given, stdin=stdin)
+            lines = got[2].splitlines()
+            check(all(line.startswith("record: ") for line in lines), "lines without the record's name: " + got[2])
             same_record(name + ", " + how, record)
+
+
+Y4M = ["measure", "capture.pcap", "pictures.y4m", *OUT, "--pid", "256"]
 
 
 def formats():
@@ -40,16 +43,20 @@ def formats():
             for line in (b"FRAME\n", b"FRAME Ip XCAROL\n"):
                 write("pictures.y4m", y4m(luma, w, h, form, line=line, more="Ip  A1:1 XYSCSS=420JPEG"))
                 name = "%s of %d x %d" % (form, w, h)
-                words = ["measure", cap, "pictures.y4m", *OUT, "--pid", "256"]
-                expect(name, 0, sealed, ["9 pictures beside 9 units"], *words)
+                expect(name, 0, sealed, ["9 pictures beside 9 units"], *Y4M)
                 same_record(name, record)
+
+
+def other_formats():
+    """y4m files that are not measured, and why; those without a rate, and cut ones."""
+    write("capture.pcap", capture(good(9)))
     whole = y4m(bytes(9 * 900), 30, 30)
     for form in ("420p10", "422p12", "444p16", "420p9", "mono10", "mono16", "mono12"):
         write("pictures.y4m", whole.replace(b"C420jpeg", b"C" + form.encode()))
-        expect(form, 2, b"", ["pictures.y4m: its format is %s, deeper than 8 bits" % form, "format=gray"], *words)
+        expect(form, 2, b"", ["pictures.y4m: its format is %s, deeper than 8 bits" % form, "format=gray"], *Y4M)
     for form in ("rgb", "yuyv", "420x"):
         write("pictures.y4m", whole.replace(b"C420jpeg", b"C" + form.encode()))
-        expect(form, 2, b"", ["pictures.y4m: its format %s is not known" % form, "extractplanes=y"], *words)
+        expect(form, 2, b"", ["pictures.y4m: its format %s is not known" % form, "extractplanes=y"], *Y4M)
     for name, data, said in (
         ("no frame line", whole.replace(b"FRAME\n", b"FRAMES\n"), "no line FRAME"),
         ("half a frame line", whole.replace(b"FRAME\n", b"FRA\n"), "no line FRAME"),
@@ -60,17 +67,20 @@ def formats():
         ("a rate that is none", whole.replace(b"F25:1", b"F25"), "no number in F25"),
     ):
         write("pictures.y4m", data)
-        expect(name, 2, b"", ["pictures.y4m: ", said], *words)
+        expect(name, 2, b"", ["pictures.y4m: ", said], *Y4M)
+    for form in ("444", "444alpha"):
+        write("pictures.y4m", b"YUV4MPEG2 W4294967295 H4294967295 F25:1 C%s\n" % form.encode())
+        expect("the greatest size", 1, b"refused 1 0\n", [": pictures.y4m\n"], *Y4M)
     write("pictures.y4m", whole.replace(b"F25:1", b"F0:0"))
-    expect("no rate", 2, b"", ["--time or --rate is missing"], *words)
-    words += ["--rate", "25"]
+    expect("no rate", 2, b"", ["--time or --rate is missing"], *Y4M)
+    words = [*Y4M, "--rate", "25"]
     expect("no rate but --rate", 0, None, None, *words)
     expect("another size", 2, b"", ["--size 30x31: the pictures are 30x30"], *words, "--size", "30x31")
     os.remove("record")
     write("pictures.y4m", whole[:-700])
-    expect("cut inside the luma", 1, b"refused 13 7850\n", ["refused 13"], *words)
+    expect("cut inside the luma", 1, b"refused 13 7850\n", ["refused 13", ": pictures.y4m\n"], *words)
     write("pictures.y4m", whole[:-100])
-    expect("cut inside the chroma", 0, None, ["warning: pictures.y4m ends inside a picture"], *words)
+    expect("cut inside the chroma", 0, None, ["record: warning: pictures.y4m ends inside a picture"], *words)
 
 
 def doubtful():
@@ -115,18 +125,23 @@ def refusals():
     ):
         given = [*given[:3], "-o", "none", *[w for w in given[3:] if w not in ("-o", "none")]]
         line = ("refused %s\n" % number).encode()
-        expect(name, 1, line, ["carolsedge measure: refused %s: " % number.split()[0]], *given)
+        of = ": %s\n" % (luma if number < "3" else given[1])
+        expect(name, 1, line, ["carolsedge measure: refused %s: " % number.split()[0], of], *given)
     write("long.y", bytes(64 * 48 * 750 + 1))
     expect("751 pictures", 1, b"refused 10 2304000\n", ["750 pictures"], "measure", cap, "long.y", "-o", "none", *RAW)
     write("cut.y", bytes(5000))
     expect("inside a picture", 1, b"refused 13 5000\n", ["--size"], "measure", cap, "cut.y", "-o", "none", *RAW)
     expect("no picture", 1, b"refused 14 0\n", ["extractplanes=y"], "measure", cap, "/dev/null", "-o", "none", *RAW)
+    said = ["carolsedge measure: refused 13: ", ": %s\n" % cap]
+    piped = ["measure", cap, "-", "-o", "none", *RAW]
+    expect("inside a picture, piped", 1, b"refused 13 5000\n", said, *piped, stdin=bytes(5000))
     check(not os.path.lexists("none"), "a refused run made a record")
 
 
 def test():
     stored()
     formats()
+    other_formats()
     doubtful()
     refusals()
     return "pictures: %d runs: raw luma and %d formats of y4m make the proved program's records; doubts are told" % (

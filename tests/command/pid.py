@@ -2,32 +2,29 @@
 # only once needs --pid; a refused survey makes no record.
 import os
 import subprocess
-from common import PROGRAMS, capture, carrying, check, counted, expect, good, identifiers, packets, proved
-from common import read, same_record, stream, write, y4m
+from common import (FAULTY, PROGRAMS, capture, carrying, check, counted, expect, good, identifiers, packets, proved,
+                    read, same_record, stream, streams, write, y4m)
 
 OUT = ["-o", "record"]
 
 
 def told(most, next):
-    """The line behind a survey: an identifier and its count, and the next one, if there is."""
+    """The line behind a survey, with the record's name: an identifier and its count, and the next one, if any."""
     packets = "1 good packet" if most[1] == 1 else "%d good packets" % most[1]
     behind = "the next, %d, has %d" % next if next else "no other has any"
-    return "--pid %d is taken: a survey found %s of it; %s\n" % (most[0], packets, behind)
+    return "record: --pid %d is taken: a survey found %s of it; %s\n" % (most[0], packets, behind)
 
 
 def stored():
     """Every stored stream: the record is the proved program's with the identifier that tshark finds most often."""
     surveyed = identifiers()
-    for line in open(stream("counts", ".txt")):
-        if line.startswith("#") or not line.strip():
-            continue
-        name, width, height, time = line.split()[:4]
-        cap, luma, size = stream(name, ".pcap"), stream(name, ".y"), "%sx%s" % (width, height)
+    for name, width, height, time, _ in streams():
+        cap, luma = stream(name, ".pcap"), stream(name, ".y")
         most, next = surveyed[name]
         pid = most[0]
         record, sealed = proved(width, height, time, pid, cap, luma)
-        file = write("pictures.y4m", y4m(read(luma), int(width), int(height), rate="1000000:" + time))
-        raw = ["--size", size, "--time", time]
+        file = write("pictures.y4m", y4m(read(luma), width, height, rate="1000000:%d" % time))
+        raw = ["--size", "%dx%d" % (width, height), "--time", str(time)]
         for how, stdin, *words in (
             ("raw", b"", cap, luma, *raw),
             ("raw on standard input", read(luma), cap, "-", *raw),
@@ -97,15 +94,9 @@ def once(raw):
 
 def refused(raw):
     """A refused survey: its number and place, the reason, and RECORD as it was, whether there was one or not."""
-    whole = capture([carrying(packets(2))])
     for name, data, number, place in (
-        ("empty", b"", 11, 0),
-        ("inside a frame", whole[:-1], 11, len(whole) - 1),
-        ("another magic", b"\0" + whole[1:], 5, 3),
-        ("another link", whole[:20] + b"\x71" + whole[21:], 6, 23),
-        ("microseconds", whole[:28] + b"\xff" * 4 + whole[32:], 7, 31),
-        ("a length", whole[:32] + b"\xff" * 4 + whole[36:], 8, 35),
-        ("no frame", whole[:24], 21, 0),
+        *FAULTY,
+        ("no frame", capture([]), 21, 0),
         ("no good packet", capture([carrying(packets(1, sync=0))]), 21, 0),
     ):
         write("capture", data)

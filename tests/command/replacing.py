@@ -131,5 +131,5 @@ def test():
     inputs(cap, luma)
     modes(cap, luma)
     early = unwritable(cap)
-    said = "replacing: %d runs: links, FIFOs, sockets, folders (%s), inputs by any name are left alone; modes follow; %s"
-    return said % (counted(), device, early)
+    said = "links, FIFOs, sockets, folders (%s), inputs by any name are left alone; modes follow" % device
+    return "replacing: %d runs: %s; %s" % (counted(), said, early)

@@ -2,7 +2,8 @@
 # compares random packets with the independent program; of the stored streams tshark says the same.
 import random
 import struct
-from common import capture, carrying, check, counted, ethernet, expect, ipv4, stream, udp, write
+from common import (FAULTY, capture, carrying, check, counted, ethernet, expect, ipv4, stream, typed, udp,
+                    write)
 
 
 def packets(*rows, count=None):
@@ -110,15 +111,7 @@ def sources():
 
 def strangers():
     """Captures that are refused, ports without packets, too many packets, and wrong words."""
-    whole = capture([carrying(rtp(1))])
-    for name, data, number, place in (
-        ("empty", b"", 11, 0),
-        ("inside a frame", whole[:-1], 11, len(whole) - 1),
-        ("another magic", b"\0" + whole[1:], 5, 3),
-        ("another link", whole[:20] + b"\x71" + whole[21:], 6, 23),
-        ("microseconds", whole[:28] + b"\xff" * 4 + whole[32:], 7, 31),
-        ("a length", whole[:32] + b"\xff" * 4 + whole[36:], 8, 35),
-    ):
+    for name, data, number, place in FAULTY:
         write("capture", data)
         said = ["carolsedge rtp: refused %d: " % number]
         expect(name, 1, b"refused %d %d\n" % (number, place), said, "rtp", "capture", "--port", "5004")
@@ -186,5 +179,6 @@ def test():
     strangers()
     shuffled()
     many = stored()
+    typed("PACKETS", "rtp")
     said = "units of packets and of captures, %d streams as tshark has them, refusal 25" % many
     return "rtp: %d runs: %s" % (counted(), said)

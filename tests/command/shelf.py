@@ -5,8 +5,7 @@ import random
 import resource
 import struct
 import subprocess
-import time
-from common import NEWEST, PROGRAMS, check, counted, expect, read, write
+from common import NEWEST, PROGRAMS, check, counted, expect, read, taken, write
 from show import made
 
 
@@ -30,6 +29,8 @@ def whole(records):
     names = [write("%d.record" % i, record) for i, record in enumerate(records)]
     totals = b"records %d lost %d\n" % (len(records), sum(map(lost_of, records)))
     shelf = laid_out(records)
+    if os.path.lexists("shelf"):
+        os.remove("shelf")
     expect("make", 0, totals, [], "shelf", "make", "shelf", *names)
     check(read("shelf") == shelf, "the shelf is laid out otherwise")
     expect("check", 0, totals, [], "shelf", "check", "shelf")
@@ -64,8 +65,11 @@ def refused(records):
     ):
         write("shelf", data)
         said = ["carolsedge shelf: refused %s: " % line.split()[1].decode()]
-        for words in (["check", "shelf"], ["list", "shelf"], ["take", "shelf", "0"], ["take", "shelf", "9"]):
-            expect(name, 1, line, said, "shelf", *words)
+        for words in (["check", "shelf"], ["list", "shelf"], ["take", "shelf", "0"], ["take", "shelf", "9"],
+                      ["add", "shelf", "shelf"]):
+            got = expect(name, 1, line, said, "shelf", *words)
+            record = "It is a record, no shelf: carolsedge show FILE" in got[2]
+            check(record == (name == "a record"), "%s: said %s" % (name, got[2]))
     write("good", records[0])
     write("bad", bad[2])
     write("empty", b"")
@@ -80,6 +84,31 @@ def refused(records):
     lost = b"records 4096 lost %d\n" % (4096 * lost_of(records[0]))
     expect("4,096 records", 0, lost, [], "shelf", "make", "shelf", *["good"] * 4096)
     expect("4,096 records", 0, lost, [], "shelf", "check", "shelf")
+
+
+def replaced(records):
+    """make goes over what stands there; that a shelf with records is gone is said, once it is."""
+    write("0.record", records[0])
+    one = b"records 1 lost %d\n" % lost_of(records[0])
+    for name, old, said in (
+        ("no records", laid_out([]), []),
+        ("a record", laid_out(records[:1]), ["carolsedge shelf: old held 1 record, and is replaced\n"]),
+        ("seven", laid_out(records), ["carolsedge shelf: old held 7 records, and is replaced\n"]),
+        ("a shelf that is none", laid_out(records) + b"\0", []),
+        ("another file", b"old", []),
+        ("an empty file", b"", []),
+    ):
+        write("old", old)
+        expect(name, 0, one, said, "shelf", "make", "old", "0.record")
+        write("old", old)
+        os.chmod("old", 0o444)
+        expect(name + ", for none", 0, b"records 0 lost 0\n", said, "shelf", "make", "old")
+        os.chmod("old", 0o644)
+        write("old", old)
+        got = expect(name + ", refused", 1, b"refused 28 1\n", None, "shelf", "make", "old", "0.record", "/dev/null")
+        check("is replaced" not in got[2] and read("old") == old, name + ": a refused shelf: " + got[2])
+    os.remove("0.record")
+    os.remove("old")
 
 
 def long():
@@ -144,7 +173,7 @@ def added(records):
         expect(name, status, line, [said], "shelf", "add", "shelf", *words)
         check(read("shelf") == shelf, name + ": the shelf has changed")
         check(sorted(os.listdir(".")) == before, name + ": something was left")
-    expect("4,096 records", 0, None, [], "shelf", "make", "shelf", *["0.record"] * 4095)
+    expect("4,095 records", 0, None, None, "shelf", "make", "shelf", *["0.record"] * 4095)
     totals = b"records 4096 lost %d\n" % (4096 * lost_of(records[0]))
     expect("4,096 records", 0, totals, [], "shelf", "add", "shelf", "0.record")
     os.symlink("shelf", "link")
@@ -161,9 +190,10 @@ def meanwhile(records):
         write("shelf", laid_out(records[:1]))
         words = [PROGRAMS["carolsedge"], "shelf", "add", "shelf", "-"]
         run = subprocess.Popen(words, stdin=subprocess.PIPE, stdout=subprocess.PIPE, stderr=subprocess.PIPE)
-        time.sleep(0.3)
+        run.stdin.write(records[1][:1])
+        taken(run)  # which comes behind reading the shelf
         os.remove("shelf") if other is None else os.replace(write("other", other), "shelf")
-        out, err = run.communicate(records[1], timeout=20)
+        out, err = run.communicate(records[1][1:], timeout=20)
         said = b"another file than the one that was read" if other else b"No such file"
         check((run.returncode, out) == (2, b"") and said in err, "%s: %d %r %r" % (name, run.returncode, out, err))
         check((read("shelf") if other else os.path.lexists("shelf")) == (other or False), name + ": it was replaced")
@@ -200,6 +230,7 @@ def test():
     whole([])
     added(records)
     refused(records)
+    replaced(records)
     long()
     wrong_words()
     expect("from standard input", 0, None, [], "shelf", "make", "new", "-", "good", stdin=records[1])

@@ -6,7 +6,7 @@ import json
 import math
 import random
 import struct
-from common import NEWEST, check, counted, expect, proved, read, run, stream, write
+from common import NEWEST, check, counted, expect, proved, read, run, stream, streams, write
 
 UNIT = ["least", "greatest", "size", "packets", "lost"]  # as the lines have them
 DAMAGED = 4  # the edition from which on damaged packets are known
@@ -100,6 +100,29 @@ def every_form(name, record):
     on_page(name, expect(name, 0, None, [], "show", "record")[1], *told)
 
 
+def shelved():
+    """A shelf is not told to be an altered record, but to be a shelf; one that was altered is."""
+    record = made(random.Random(1))
+    many = 40  # more bytes than a record may have
+    for n in (0, 1, 2, many):
+        place = 8 + 4 * n
+        offsets = [place + len(record) * j for j in range(n)]
+        shelf = struct.pack("<%dI" % (2 + n), n, place + n * len(record), *offsets) + record * n
+        number = 16 if n == 0 else 18 if n < 5 else 17
+        write("shelf", shelf)
+        write("keys", b"0\n")
+        told = "It is a shelf of %s: carolsedge shelf list FILE" % (
+            "no records" if n == 0 else "1 record" if n == 1 else "%d records" % n)
+        for words in (["show", "shelf"], ["show", "shelf", "--lines"], ["sheet", "shelf"],
+                      ["loss", "--record", "shelf", "--keys", "keys"]):
+            line = b"refused %d\n" % number if "--lines" in words else b"refused %d 0\n" % number
+            expect("a shelf of %d" % n, 1, line, [": shelf\n" + told], *words)
+        expect("a shelf of %d, piped" % n, 1, b"refused %d 0\n" % number, [told], "show", "-", stdin=shelf)
+        write("shelf", shelf + b"\0")
+        got = expect("an altered shelf", 1, None, None, "show", "shelf")
+        check("shelf of" not in got[2], "a shelf with a byte more: " + got[2])
+
+
 def broken():
     whole = made(random.Random(1))
     for name, data, number, said in (
@@ -116,16 +139,15 @@ def broken():
             expect(name, 1, b"refused %d 0\n" % number, told, "show", *words)
         expect(name, 1, run(program="show", stdin=data)[1], ["refused %d" % number], "show", "record", "--lines")
     expect("an endless file", 1, b"refused 17 0\n", None, "show", "/dev/zero")
+    shelved()
     expect("no file", 2, b"", ["nowhere: No such file or directory"], "show", "nowhere")
     expect("a folder", 2, b"", [".: Is a directory"], "show", ".")
 
 
 def test():
-    for line in open(stream("counts", ".txt")):
-        if not line.startswith("#") and line.strip():
-            name, *opening = line.split()[:5]
-            for edition in range(1, NEWEST + 1):
-                every_form(name, proved(*opening, stream(name, ".pcap"), stream(name, ".y"), edition)[0])
+    for name, *opening in streams():
+        for edition in range(1, NEWEST + 1):
+            every_form(name, proved(*opening, stream(name, ".pcap"), stream(name, ".y"), edition)[0])
     for seed in range(20):
         every_form("seed %d" % seed, made(random.Random(seed), edition=1 + seed % NEWEST))
     for bits in (0, 1, 0x7FF << 52, 0xFFF << 52, 0x7FF8000000000001, 1 << 63, 0x4013D70A3D70A3D7, (0x7FF << 52) - 1):

@@ -6,7 +6,7 @@ import signal
 import struct
 import subprocess
 import time
-from common import PROGRAMS, check, counted, expect, fail, proved, read, same_record, stream, write
+from common import PROGRAMS, check, counted, expect, fail, proved, read, stream, taken, write
 
 RAW = ["--size", "64x48", "--time", "40000", "--pid", "256"]
 SLOW = b"""
@@ -77,8 +77,7 @@ def interrupted_reading(cap, luma):
             before = sorted(os.listdir("."))
             run = started("measure", *words, "-o", "record", *RAW, stdin=subprocess.PIPE)
             run.stdin.write(data[:100000])
-            run.stdin.flush()
-            time.sleep(0.2)
+            taken(run)
             run.send_signal(number)
             check(run.wait(10) == -number, "interrupted while reading: status %d" % run.returncode)
             run.stdin.close()

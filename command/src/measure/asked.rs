@@ -60,6 +60,13 @@ impl Asked {
         Ok(Asked { capture, pictures, record, pid, passage, survey, edition, size, time })
     }
 
+    /// Says lines on standard error, each behind the record's name, in one piece: many runs may have one standard
+    /// error.
+    pub fn say(&self, lines: &[String]) {
+        let name = self.record.to_string_lossy();
+        output::say(&lines.iter().map(|line| format!("{name}: {line}\n")).collect::<String>());
+    }
+
     /// The opening for pictures that say nothing of themselves.
     pub fn opening(&self) -> Result<Opening, Stop> {
         let Some((width, height)) = self.size else {
@@ -68,7 +75,7 @@ impl Asked {
         let Some(time) = self.time else {
             return Err(Stop::Usage("--time or --rate is missing: raw luma does not say it".into()));
         };
-        Ok(Opening { width, height, time: microseconds(time), pid: self.pid, edition: self.edition })
+        Ok(Opening { width, height, time: self.microseconds(time), pid: self.pid, edition: self.edition })
     }
 
     /// The opening for pictures with a heading. What the words say of the time prevails.
@@ -83,14 +90,30 @@ impl Asked {
         let Some(time) = self.time.or(rate.map(|(number, divisor)| Time::Rate(number, divisor))) else {
             return Err(Stop::Usage("--time or --rate is missing: the pictures do not say it".into()));
         };
-        Ok(Opening { width, height, time: microseconds(time), pid: self.pid, edition: self.edition })
+        Ok(Opening { width, height, time: self.microseconds(time), pid: self.pid, edition: self.edition })
     }
 
     /// An opening for a stream of which no picture came: its seal says what is wrong with the capture.
     pub fn opening_without(&self) -> Opening {
         let (width, height) = self.size.unwrap_or((64, 48));
-        let time = microseconds(self.time.unwrap_or(Time::Microseconds(40_000)));
+        let time = self.microseconds(self.time.unwrap_or(Time::Microseconds(40_000)));
         Opening { width, height, time, pid: self.pid, edition: self.edition }
+    }
+
+    /// Microseconds a picture, the nearest whole number; says so where they had to be rounded.
+    fn microseconds(&self, time: Time) -> u32 {
+        let (pictures, seconds) = match time {
+            Time::Microseconds(time) => return time,
+            Time::Rate(pictures, seconds) => (u64::from(pictures), u64::from(seconds)),
+        };
+        let all = 1_000_000 * seconds;
+        let nearest = (2 * all + pictures) / (2 * pictures);
+        if all % pictures != 0 {
+            let exact = all as f64 / pictures as f64;
+            let rate = format!("{pictures}/{seconds} pictures a second");
+            self.say(&[format!("{rate} are {exact:.3} microseconds each, rounded to {nearest}")]);
+        }
+        u32::try_from(nearest).unwrap_or(u32::MAX)
     }
 }
 
@@ -111,20 +134,4 @@ fn rate(text: &str) -> Option<Time> {
     let (pictures, seconds) = text.split_once('/').unwrap_or((text, "1"));
     let (pictures, seconds) = (number(pictures)?, number(seconds)?);
     (pictures > 0 && seconds > 0).then_some(Time::Rate(pictures, seconds))
-}
-
-/// Microseconds a picture, the nearest whole number; says so where they had to be rounded.
-fn microseconds(time: Time) -> u32 {
-    let (pictures, seconds) = match time {
-        Time::Microseconds(time) => return time,
-        Time::Rate(pictures, seconds) => (u64::from(pictures), u64::from(seconds)),
-    };
-    let all = 1_000_000 * seconds;
-    let nearest = (2 * all + pictures) / (2 * pictures);
-    if all % pictures != 0 {
-        let exact = all as f64 / pictures as f64;
-        let rate = format!("{pictures}/{seconds} pictures a second");
-        output::say(&format!("{rate} are {exact:.3} microseconds each, rounded to {nearest}\n"));
-    }
-    u32::try_from(nearest).unwrap_or(u32::MAX)
 }

@@ -41,7 +41,7 @@ impl Far {
 pub fn measure(asked: &Asked, mut capture: Input, pictures: Input) -> Result<Measured, Stop> {
     let total = capture.length().zip(pictures.length()).map(|(a, b)| a + b);
     let (mut pictures, opening) = begin(asked, pictures)?;
-    let mut sample = Sample::open(opening).map_err(|refusal| Stop::refused(refusal, Vec::new()))?;
+    let mut sample = Sample::open(opening)?;
     let picture = u64::from(opening.width) * u64::from(opening.height);
     let mut far = Far { bytes: 0, luma: 0, picture, progress: Progress::of(total) };
     let mut walk = Walk::new();

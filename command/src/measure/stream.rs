@@ -27,7 +27,7 @@ struct Feeding {
 
 impl Feeding {
     fn open(&mut self, opening: Opening) -> Result<(), Stop> {
-        let mut sample = Sample::open(opening).map_err(|refusal| Stop::refused(refusal, Vec::new()))?;
+        let mut sample = Sample::open(opening)?;
         // A refusal is kept by the sample: its next feed and its seal repeat it.
         let _ = sample.feed_capture(&std::mem::take(&mut self.waiting));
         self.sample = Some(sample);
@@ -57,20 +57,20 @@ pub fn measure(asked: &Asked, capture: Input) -> Result<Measured, Stop> {
     let mut ffmpeg = start(asked.pid)?;
     let (into, from, said) = (ffmpeg.stdin.take(), ffmpeg.stdout.take(), ffmpeg.stderr.take());
     let shared = Shared::default();
-    let progress = Progress::of(capture.length());
+    let (name, progress) = (capture.name().to_string(), Progress::of(capture.length()));
     let feeder = thread::spawn({
         let shared = shared.clone();
         move || feed(capture, into, &shared)
     });
     let teller = thread::spawn(move || said.and_then(|said| first_line(BufReader::new(said))));
-    let drawn = from.map_or(Ok(Drawn::Nothing), |from| draw(asked, from, &shared, progress));
+    let drawn = from.map_or(Ok(Drawn::Nothing), |from| draw(asked, &name, from, &shared, progress));
     if drawn.is_err() {
         let _ = ffmpeg.kill();
     }
     let drawn = drawn?;
     let walk = feeder.join().unwrap_or_else(|_| Err(Stop::Failed("reading the capture failed".into())))?;
     let said = teller.join().unwrap_or_default();
-    let doubts = ended(&mut ffmpeg, drawn, said)?;
+    let doubts = ended(&mut ffmpeg, &name, drawn, said)?;
     let mut feeding = locked(&shared);
     if feeding.sample.is_none() {
         feeding.open(asked.opening_without())?;
@@ -124,9 +124,15 @@ enum Drawn {
     Refused,
 }
 
-/// Reads ffmpeg's pictures and feeds their luma.
-fn draw(asked: &Asked, from: ChildStdout, shared: &Shared, mut progress: Progress) -> Result<Drawn, Stop> {
-    let failed = |why: String| Stop::Failed(format!("the stream of PID {}: {why}", asked.pid));
+/// Reads ffmpeg's pictures of the capture with this name, and feeds their luma.
+fn draw(
+    asked: &Asked,
+    name: &str,
+    from: ChildStdout,
+    shared: &Shared,
+    mut progress: Progress,
+) -> Result<Drawn, Stop> {
+    let failed = |why: String| Stop::Failed(format!("{name}: the stream of PID {}: {why}", asked.pid));
     let mut from = BufReader::with_capacity(PIECE, from);
     let mut line = Vec::new();
     let read = from.by_ref().take(y4m::LINE_MOST as u64).read_until(b'\n', &mut line);
@@ -162,12 +168,12 @@ fn draw(asked: &Asked, from: ChildStdout, shared: &Shared, mut progress: Progres
 
 /// Sees how ffmpeg ended. What it says of a stream without pictures is kept; a failure behind the first picture means
 /// that some may be missing. Behind a refusal its pipe is closed, and it may well complain.
-fn ended(ffmpeg: &mut Child, drawn: Drawn, said: Option<String>) -> Result<Vec<String>, Stop> {
+fn ended(ffmpeg: &mut Child, name: &str, drawn: Drawn, said: Option<String>) -> Result<Vec<String>, Stop> {
     let status = ffmpeg.wait().map_err(|error| Stop::file("ffmpeg", &error))?;
     let said = said.unwrap_or_else(|| status.to_string());
     match drawn {
         Drawn::Nothing => Ok(vec![format!("ffmpeg decoded no picture: {said}")]),
-        Drawn::All if !status.success() => Err(Stop::Failed(format!("ffmpeg failed: {said}"))),
+        Drawn::All if !status.success() => Err(Stop::Failed(format!("{name}: ffmpeg failed: {said}"))),
         _ => Ok(Vec::new()),
     }
 }

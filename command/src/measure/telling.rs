@@ -1,45 +1,39 @@
-//! What is said on standard error of a run: behind a seal what was measured and what looks doubtful; behind a refusal
-//! what was really found.
+//! What is to be said on standard error of a run: behind a seal what was measured and what looks doubtful; behind a
+//! refusal what was really found.
 use super::Measured;
 use crate::explain;
-use crate::output::{count, grouped, say};
+use crate::output::{count, grouped};
 use crate::walk::Walk;
 use carolsedge::{Header, Refusal};
 
-/// Says what a sealed record holds, and warns where that may not be what was meant.
-pub fn sealed(header: &Header, measured: &Measured) {
+/// What a sealed record holds, and warnings where that may not be what was meant.
+pub fn sealed(header: &Header, measured: &Measured) -> Vec<String> {
     let Header { edition, units, pictures, frames, skipped, bad, .. } = *header;
     let (units, pictures) = (units as u64, u64::from(pictures));
     let both = format!("{} beside {}", count(pictures, "picture"), count(units, "unit"));
     let skips = if skipped == 0 { "none".into() } else { grouped(skipped.into()) };
     let frames = count(frames.into(), "frame");
     let bads = count(bad.into(), "bad packet");
-    say(&format!("{both}; {frames}, {skips} skipped; {bads}; edition {edition} of the rules\n"));
+    let mut lines = vec![format!("{both}; {frames}, {skips} skipped; {bads}; edition {edition} of the rules")];
     if pictures != units {
-        say(&format!("warning: {both}: {}\n", differ(pictures, units, measured.raw)));
+        lines.push(format!("warning: {both}: {}", differ(pictures, units, measured.raw)));
     }
     if skipped > 0 {
-        say(&format!("warning: {} of {frames} skipped: {}\n", grouped(skipped.into()), measured.walk.reasons()));
-        tell(&measured.walk.mends());
+        let reasons = measured.walk.reasons();
+        lines.push(format!("warning: {} of {frames} skipped: {reasons}", grouped(skipped.into())));
+        lines.extend(measured.walk.mends());
     }
     let without = measured.walk.bad();
     if without > 0 {
         let bad = count(without, "packet");
-        say(&format!("warning: {bad} without 0x47 at the beginning: damaged, or no transport stream\n"));
+        lines.push(format!("warning: {bad} without 0x47 at the beginning: damaged, or no transport stream"));
     }
     if u64::from(bad) > without {
         let early = count(u64::from(bad) - without, "packet");
-        say(&format!("warning: {early} marked as damaged before the first unit\n"));
+        lines.push(format!("warning: {early} marked as damaged before the first unit"));
     }
-    for doubt in &measured.doubts {
-        say(&format!("warning: {doubt}\n"));
-    }
-}
-
-fn tell(lines: &[String]) {
-    for line in lines {
-        say(&format!("  {line}\n"));
-    }
+    lines.extend(measured.doubts.iter().map(|doubt| format!("warning: {doubt}")));
+    lines
 }
 
 /// What it may be that there are not as many pictures as units.
@@ -79,7 +73,7 @@ fn no_picture(measured: &Measured) -> Vec<String> {
     if skipped > 0 {
         let all = count(skipped + measured.walk.carrying(), "frame");
         lines.push(format!("Of {all}, {} skipped: {}", grouped(skipped), measured.walk.reasons()));
-        lines.extend(measured.walk.mends().iter().map(|line| format!("  {line}")));
+        lines.extend(measured.walk.mends());
     }
     lines
 }

@@ -52,7 +52,7 @@ pub fn find(input: &mut Input, port: u16, ssrc: Option<u32>) -> Result<Found, St
     }
     match survey.ask() {
         // That there are no transport packets is no fault here.
-        Err(refusal) if refusal.number != 21 => return Err(Stop::refused(refusal, Vec::new())),
+        Err(refusal) if refusal.number != 21 => return Err(Stop::from(refusal).of(input.name())),
         _ => {}
     }
     found.ssrc = ssrc.or_else(|| found.most());
