@@ -18,7 +18,7 @@ usage: carolsedge rtp < PACKETS
 
 Prints the units of RTP packets, a line each:
 
-  LEAST GREATEST SIZE CELLS LOST
+  LEAST GREATEST SIZE PACKETS LOST
 
 its least and greatest time, the sum of its packets' lengths, its packets, and
 the packets that the sequence numbers say are missing. Packets are ordered by
@@ -125,8 +125,8 @@ fn given(bytes: &[u8]) -> Result<Packets, String> {
 /// The line of a unit's row.
 fn line(row: &[u8]) -> String {
     let figures = [&row[..8], &row[8..16], &row[16..20], &row[20..24], &row[24..28]];
-    let [least, greatest, size, cells, lost] = figures.map(little_endian);
-    format!("{least} {greatest} {size} {cells} {lost}\n")
+    let [least, greatest, size, packets, lost] = figures.map(little_endian);
+    format!("{least} {greatest} {size} {packets} {lost}\n")
 }
 
 #[cfg(test)]

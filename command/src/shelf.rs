@@ -2,7 +2,7 @@
 use crate::input::{little_endian, Identity, Input};
 use crate::output::{self, count};
 use crate::record_file::RecordFile;
-use crate::show;
+use crate::show::{self, date::date};
 use crate::stop::Stop;
 use crate::words::{number_or_most, Words};
 use crate::Subcommand;
@@ -30,7 +30,7 @@ of these tests the whole shelf and every record of it. FILE, or a RECORD, may be
   add      puts the records behind those that the shelf FILE holds; prints the
            same. The new shelf takes FILE's place once it is whole and checked
   take     writes record J, from 0, to standard output
-  list     prints a line for each record
+  list     prints a line for each record: its figures, PID and time (UTC)
 
   carolsedge shelf take 2026.shelf 7 | carolsedge show -
 
@@ -69,34 +69,38 @@ fn take(words: &[Option<OsString>]) -> Result<(), Stop> {
 
 fn list(words: &[Option<OsString>]) -> Result<(), Stop> {
     let file = Read::word(words)?;
-    let names = "  No.    offset  length  edition  width  height  pictures  units  scenes          lost  index\n";
-    let mut text = String::from(names);
+    let mut text = String::from("  No.    offset  length  edition  width  height  pictures  units  scenes");
+    text += "          lost  index                pid  first packet (UTC)\n";
     for (j, line) in lines(&file.bytes, &file.shelf()?)?.iter().enumerate() {
-        let Line { at, length, header: h, lost } = line;
+        let Line { at, length, header: h, lost, first } = line;
+        let index = format!("{:?}", h.index);
         text += &format!("{j:5} {at:9} {length:7} {:8} {:6} {:7}", h.edition, h.width, h.height);
-        text += &format!(" {:9} {:6} {:7} {lost:13}  {:?}\n", h.pictures, h.units, h.scenes, h.index);
+        text += &format!(" {:9} {:6} {:7} {lost:13}  {index:18}", h.pictures, h.units, h.scenes);
+        text += &format!(" {:5}  {}\n", h.pid, date(*first));
     }
     output::print(&text)
 }
 
-/// What is told of one record: where it starts, its length, its header, and what its units lost.
+/// What is told of one record: where it starts, its length, its header, what its units lost, and their least time.
 pub struct Line {
     pub at: usize,
     pub length: usize,
     pub header: Header,
     pub lost: u64,
+    pub first: u64,
 }
 
 /// A line for each record.
 pub fn lines(bytes: &[u8], shelf: &Shelf) -> Result<Vec<Line>, Stop> {
     let mut at = bytes.len() - shelf.records().map(<[u8]>::len).sum::<usize>();
     let mut lines = Vec::new();
-    for record in shelf.records() {
-        let header = Record::read(record)?.header();
-        // What one record lost is what the shelf of it alone lost.
-        let lost = Shelf::read(&shelf_of(&[record])?)?.lost();
-        lines.push(Line { at, length: record.len(), header, lost });
-        at += record.len();
+    for bytes in shelf.records() {
+        let record = Record::read(bytes)?;
+        let units: Vec<_> = record.units().collect();
+        let lost = units.iter().map(|unit| u64::from(unit.lost)).sum();
+        let first = units.iter().map(|unit| unit.least).min().unwrap_or_default();
+        lines.push(Line { at, length: bytes.len(), header: record.header(), lost, first });
+        at += bytes.len();
     }
     Ok(lines)
 }

@@ -8,7 +8,7 @@ use crate::output::{self, count};
 use crate::stop::Stop;
 use crate::words::Words;
 use crate::{shelf, Subcommand};
-use carolsedge::{Record, Refusal, Shelf, RECORD_MOST};
+use carolsedge::{Header, Record, Refusal, Shelf, RECORD_MOST};
 use std::ffi::OsString;
 
 pub const SUBCOMMAND: Subcommand =
@@ -74,3 +74,11 @@ pub fn refused(refusal: Refusal, bytes: &[u8], input: &mut Input) -> Stop {
     });
     Stop::refused(refusal, found.into_iter().collect()).of(input.name())
 }
+
+/// Whether damaged packets are known: from edition 4 on.
+pub fn knows_damage(header: &Header) -> bool {
+    header.edition >= 4
+}
+
+/// What the index says.
+pub const INDEX: &str = "5: nothing lost, nothing repeated; no opinion score (MOS)";

@@ -127,7 +127,7 @@ def of_show(name, page, record):
     check(page.lines() == run(program="show", stdin=record)[1], name + ": other figures than show's")
     shown = run("show", "-", stdin=record)[1].decode().splitlines()
     for line in shown:
-        if line.startswith("  index ") or line.startswith("  edition "):
+        if line.startswith(("  index ", "  captured ", "  edition ")):
             check(line.split(None, 1)[1] in page.texts, "%s: not on the page: %s" % (name, line))
     starts = [i for i, line in enumerate(shown) if line.startswith("   No.")]
     for start, id in zip(starts, ("units-rows", "scenes-rows")):
@@ -171,6 +171,7 @@ def of_drawings(name, page, record):
             wanted = [max(44 * value / max(values), 1.5) for value in values]
             near = len(heights) == len(wanted) and all(abs(a - b) < 0.06 for a, b in zip(heights, wanted))
             check(near, "%s: %s: bars %s" % (name, kind, heights))
+    check(any("units of one time lie over each other" in text for text in page.texts), name + ": the units' caption")
     known = record[0] >= DAMAGED
     damaged = [struct.unpack_from("<I", record, 64 + 32 * j + 28)[0] for j in range(len(unit))]
     check(("damaged" in page.rows["units-rows"][0]) == known, name + ": damaged packets of this edition")
@@ -217,8 +218,10 @@ def shelf(name, records):
     text = expect(name, 0, None, [], "page", "shelf")[1].decode()
     page = opened(name, text)
     lines = run("shelf", "list", "shelf")[1].decode().splitlines()
-    rows = [[cell.replace(",", "") for cell in row] for row in page.rows["records-rows"]]
+    rows = [" ".join(row).replace(",", "").split() for row in page.rows["records-rows"]]
     check(rows == [line.split() for line in lines], name + ": other lines than shelf list's")
+    lost = page.rules["Lost"]
+    check(len(lost) == 2 and lost[0].startswith("Reading a shelf "), "%s: the rule of lost is %s" % (name, lost))
     totals = "records %s lost %s\n" % (page.ids["records-total"], page.ids["lost-total"])
     check(totals.replace(",", "").encode() == run("shelf", "check", "shelf")[1], "%s: totals: %s" % (name, totals))
     check(len(page.drawn["records-drawing"].get("said", [])) == len(records), name + ": the drawing has other records")

@@ -165,8 +165,8 @@ def stored():
         port, *told = map(int, numbers)
         out = expect(name, 0, None, None, "rtp", stream(name, ".pcap"), "--port", str(port))[1].decode()
         units = [list(map(int, row.split())) for row in out.splitlines()]
-        size, cells, lost = (sum(unit[at] for unit in units) for at in (2, 3, 4))
-        ours = [cells, lost, len(units), size]
+        size, packets, lost = (sum(unit[at] for unit in units) for at in (2, 3, 4))
+        ours = [packets, lost, len(units), size]
         check(ours == told, "%s: packets, lost, units, bytes are %s; tshark says %s" % (name, ours, told))
         many += 1
     return many

@@ -6,7 +6,7 @@ import resource
 import struct
 import subprocess
 from common import NEWEST, PROGRAMS, check, counted, expect, read, taken, write
-from show import made
+from show import date, made
 
 
 def lost_of(record):
@@ -47,6 +47,10 @@ def whole(records):
         told = [i, place, len(record), edition, width, height, pictures, units, scenes, lost_of(record)]
         check(line.split()[:10] == list(map(str, told)), "list: %s: %s" % (told, line))
         check(float(line.split()[10]) == struct.unpack_from("<d", record, 56)[0], "list: the index: " + line)
+        first = min(struct.unpack_from("<Q", record, 64 + 32 * j)[0] for j in range(units))
+        pid, *when = line.split()[11:]
+        check(int(pid) == struct.unpack_from("<I", record, 36)[0] and len(when) == 2, "list: the identifier: " + line)
+        check(first >= 2**51 or " ".join(when) == date(first), "list: the first packet: " + line)
         place += len(record)
     for name in names:
         os.remove(name)

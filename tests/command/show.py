@@ -65,12 +65,26 @@ def same_csv(name, text, sample, unit, scene):
             check(kind == "sample" or a["number"] == str(j), "%s: CSV number %s" % (name, a))
 
 
+def date(time, form="%Y-%m-%d %H:%M:%S.%f"):
+    """A time before the year 10000."""
+    return (datetime.datetime(1970, 1, 1) + datetime.timedelta(microseconds=time)).strftime(form)
+
+
+def span(first, last):
+    """Both to the second, the day once where it is one."""
+    day, end = "%Y-%m-%d ", "%H:%M:%S"
+    same = date(first, day) == date(last, day)
+    return "%s to %s" % (date(first, day + end), date(last, end if same else day + end))
+
+
 def on_page(name, text, sample, unit, scene):
     page = text.decode()
     lines = page.splitlines()
     check("(bits %s)" % sample["index_bits"] in page, name + ": no bits on the page")
     check("edition   %d of the rules\n" % sample["edition"] in page, name + ": no edition on the page")
-    first = min(row["least"] for row in unit)
+    first, last = min(row["least"] for row in unit), max(row["greatest"] for row in unit)
+    if last < 2**51:
+        check("  captured  %s UTC\n" % span(first, last) in page, name + ": another time on the page")
     at = 1 + next(i for i, line in enumerate(lines) if line.startswith("   No."))
     for j, row in enumerate(unit):
         words = lines[at + j].replace(",", "").split()
@@ -79,8 +93,7 @@ def on_page(name, text, sample, unit, scene):
         wanted = [str(j), *seconds, *(str(row[key]) for key in UNIT[2:] + also)]
         check(words[:1] + words[3:] == wanted, "%s: page: %s" % (name, words))
         if row["least"] < 2**51:
-            date = datetime.datetime(1970, 1, 1) + datetime.timedelta(microseconds=row["least"])
-            check(" ".join(words[1:3]) == date.strftime("%Y-%m-%d %H:%M:%S.%f"), "%s: page: %s" % (name, words))
+            check(" ".join(words[1:3]) == date(row["least"]), "%s: page: %s" % (name, words))
     at += 1 + next(i for i, line in enumerate(lines[at:]) if line.startswith("   No."))
     for j, row in enumerate(scene):
         words = lines[at + j].replace(",", "").split()

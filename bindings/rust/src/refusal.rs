@@ -43,7 +43,7 @@ impl Refusal {
             15 => "the buffer is too short",
             16 => "the record has fewer than 64 bytes",
             17 => "the record's edition is one that there is not",
-            18 => "the record is not allowed",
+            18 => "the bytes are no record that the rule allows",
             19 => "the record has no row, or the shelf no record, with that number",
             20 => "there is no such edition of the rules",
             21 => "the capture has no good packet",

@@ -60,8 +60,8 @@ fn chroma(format: &str, width: u64, height: u64) -> Option<u64> {
         "420" | "420jpeg" | "420mpeg2" | "420paldv" => 2 * width.div_ceil(2) * height.div_ceil(2),
         "411" => 2 * width.div_ceil(4) * height,
         "422" => 2 * width.div_ceil(2) * height,
-        "444" => 2 * width * height,
-        "444alpha" => 3 * width * height,
+        "444" => (2 * width).saturating_mul(height),
+        "444alpha" => (3 * width).saturating_mul(height),
         _ => return None,
     })
 }
@@ -154,4 +154,19 @@ fn part<'a>(piece: &mut &'a [u8], left: &mut u64) -> &'a [u8] {
     *left -= n as u64;
     *piece = rest;
     part
+}
+
+#[cfg(test)]
+mod tests {
+    use super::*;
+
+    /// No size that a heading can name wraps, so that the sample's opening refuses it.
+    #[test]
+    fn the_greatest_size() {
+        for format in ["mono", "420jpeg", "411", "422", "444", "444alpha"] {
+            let line = format!("YUV4MPEG2 W4294967295 H4294967295 F25:1 C{format}");
+            let heading = Heading::read(line.as_bytes()).unwrap();
+            assert!(format == "mono" || heading.chroma >= heading.luma() / 2, "{format}: {}", heading.chroma);
+        }
+    }
 }

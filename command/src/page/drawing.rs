@@ -2,8 +2,8 @@
 //! is drawn is scaled; what is written is exact.
 use crate::output::grouped;
 
-/// A place on the axis: where it begins and how wide it is, from 0 to 1, where it is marked below the axis, what stands
-/// there, and the two lines that are written at the mark where there is room.
+/// A place on the axis: where it begins and how wide it is, from 0 to 1, where it is marked below the axis, what
+/// stands there, and the two lines that are written at the mark where there is room.
 pub struct Place {
     pub at: f64,
     pub width: f64,

@@ -5,6 +5,7 @@ use super::record::{term, Figures};
 use super::rules;
 use crate::output::grouped;
 use crate::show::tables::bits;
+use crate::show::INDEX;
 
 /// Ic and Ip, which a record does not have: section 11 of the rule gives them for its rows.
 struct Parts {
@@ -35,7 +36,7 @@ pub fn section(read: &Figures) -> String {
     let h = &read.h;
     let parts = Parts::of(read);
     let value = figure("index_value", &format!("{:?}", h.index));
-    let value = format!("{value} (bits {}); from 1 to 5, and no MOS", figure("index_bits", &bits(h)));
+    let value = format!("{value} (bits {}); {INDEX}", figure("index_bits", &bits(h)));
     let entries =
         [term(h, "Index", &value, rules::INDEX), ("Its two parts", vec![said(&told(parts.as_ref(), h.index))])];
     let drawing = scales("index-drawing", "The index and its two parts", &drawn(parts.as_ref(), h.index));

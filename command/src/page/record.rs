@@ -3,7 +3,7 @@ use super::html::{document, figure, paragraph, said, section, terms};
 use super::rules::{self, quoted, Rule};
 use super::{index, scenes, units};
 use crate::output::grouped;
-use crate::show::date::seconds;
+use crate::show::date::{seconds, span};
 use carolsedge::{Header, Record, Scene, Unit};
 
 /// A record's figures.
@@ -22,7 +22,7 @@ pub fn page(record: &Record, name: &str) -> String {
     let sections = [
         paragraph(top),
         parts.into(),
-        sample(&read.h),
+        sample(&read),
         index::section(&read),
         units::section(&read),
         scenes::section(&read),
@@ -35,7 +35,8 @@ pub fn term<'a>(h: &Header, name: &'a str, text: &str, rules: &[Rule]) -> (&'a s
     (name, [vec![said(text)], quoted(rules, h.edition)].concat())
 }
 
-fn sample(h: &Header) -> String {
+fn sample(read: &Figures) -> String {
+    let h = &read.h;
     let number = |name: &str, number: u32| figure(name, &grouped(number.into()));
     let plain = |name: &str, number: u32| figure(name, &number.to_string());
     let all = seconds(u64::from(h.pictures) * u64::from(h.time));
@@ -49,6 +50,7 @@ fn sample(h: &Header) -> String {
         term(h, "Width W and height H", &size, rules::SIZE),
         term(h, "Display time d", &time, rules::TIME),
         term(h, "Packet identifier PID", &pid, rules::PID),
+        term(h, "Captured", &span(read.units.iter().copied()), rules::TIMES),
         term(h, "Frames", &number("frames", h.frames), rules::FRAMES),
         term(h, "Skipped frames, which do not carry", &number("skipped", h.skipped), rules::SKIPPED),
         term(h, "Bad packets", &number("bad", h.bad), rules::BAD),

@@ -184,7 +184,14 @@ pub const SHELF: &[Rule] = &[always(
     "A shelf is a byte string that holds records, of any editions, one behind the other, behind a head.",
 )];
 
-pub const SHELF_LOST: &[Rule] = &[always(
-    25,
-    "Otherwise it gives n and the total of lost: over all records, over all their units, as reading gives them.",
-)];
+pub const SHELF_LOST: &[Rule] = &[
+    always(
+        25,
+        "Reading a shelf is refused by 27, place 0, unless it is laid out so; otherwise by 28 if reading refuses one \
+         of the records (15: by 16, 17 or 18), place: the number of the first such record.",
+    ),
+    always(
+        25,
+        "Otherwise it gives n and the total of lost: over all records, over all their units, as reading gives them.",
+    ),
+];

@@ -5,15 +5,13 @@ use super::record::Figures;
 use super::rules::{self, quoted};
 use crate::output::{count, grouped};
 use crate::show::date::{date, seconds};
+use crate::show::knows_damage;
 use carolsedge::Unit;
-
-/// The edition from which on damaged packets are known.
-const DAMAGED: u32 = 4;
 
 pub fn section(read: &Figures) -> String {
     let units = &read.units;
     let first = units.iter().map(|unit| unit.least).min().unwrap_or(0);
-    let known = read.h.edition >= DAMAGED;
+    let known = knows_damage(&read.h);
     let parts =
         [paragraph(&totals(units, known)), drawing(units, first, known), told(read), rows(units, first, known)];
     html::section("units", "Units", &parts)
@@ -42,7 +40,8 @@ fn drawing(units: &[Unit], first: u64, known: bool) -> String {
         bars.push(Strip::of("damaged", "damaged", "unit", &figures(|unit| unit.damaged)));
     }
     let places: Vec<_> = units.iter().enumerate().map(|(j, unit)| place(j, unit, first, all, known)).collect();
-    strips("units-drawing", "Units over time: a bar begins at its unit's first packet", &places, &bars)
+    let title = "Units over time: a bar begins at its unit's first packet; units of one time lie over each other";
+    strips("units-drawing", title, &places, &bars)
 }
 
 fn place(j: usize, unit: &Unit, first: u64, all: u64, known: bool) -> Place {
@@ -66,7 +65,7 @@ fn told(read: &Figures) -> String {
         ("Bytes, packets", quoted(rules::PACKETS)),
         ("Lost", quoted(rules::LOST)),
     ];
-    if read.h.edition >= DAMAGED {
+    if knows_damage(&read.h) {
         entries.push(("Damaged", quoted(rules::DAMAGED)));
     }
     terms(&entries)

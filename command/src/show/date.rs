@@ -1,4 +1,5 @@
 //! Times of a record, microseconds since 1970 began, as dates.
+use carolsedge::Unit;
 
 /// `2026-11-15 22:35:27.123456`, in UTC.
 pub fn date(time: u64) -> String {
@@ -7,6 +8,17 @@ pub fn date(time: u64) -> String {
     let (year, month, day) = civil(days);
     let (hour, minute, second) = (second / 3_600, second / 60 % 60, second % 60);
     format!("{year:04}-{month:02}-{day:02} {hour:02}:{minute:02}:{second:02}.{fraction:06}")
+}
+
+/// When units came, to the second: `2026-11-15 22:35:27 to 22:35:30 UTC`.
+pub fn span(units: impl Iterator<Item = Unit>) -> String {
+    let (first, last) = units.fold((u64::MAX, 0), |(first, last), u| (first.min(u.least), last.max(u.greatest)));
+    let [first, last] = [first, last].map(date);
+    let second = |date: &str| date[..date.len() - ".000000".len()].to_string();
+    let (first, last) = (second(&first), second(&last));
+    let same_day = first.split(' ').next() == last.split(' ').next();
+    let end = if same_day { last.split(' ').nth(1).unwrap_or_default() } else { &last };
+    format!("{first} to {end} UTC")
 }
 
 /// Year, month and day of so many days behind 1970-01-01, by the Gregorian calendar. Years are counted from March on,

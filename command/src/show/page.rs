@@ -1,15 +1,16 @@
 //! A record as a page for people.
-use super::date::{date, seconds};
+use super::date::{date, seconds, span};
 use super::tables::bits;
+use super::{knows_damage, INDEX};
 use crate::output::{count, grouped};
 use carolsedge::{Header, Record};
 
 pub fn page(record: &Record, name: &str) -> String {
     let header = record.header();
-    [sample(&header, name), units(record), scenes(record, header.time)].concat()
+    [sample(record, &header, name), units(record), scenes(record, header.time)].concat()
 }
 
-fn sample(h: &Header, name: &str) -> String {
+fn sample(record: &Record, h: &Header, name: &str) -> String {
     let all = u64::from(h.pictures) * u64::from(h.time);
     let rate = 1e6 / f64::from(h.time);
     let pictures = count(h.pictures.into(), "picture");
@@ -17,9 +18,10 @@ fn sample(h: &Header, name: &str) -> String {
     format!(
         "Record {name}\n\n\
          Sample\n  \
-         index     {:?} (bits {}); from 1 to 5, and no MOS\n  \
+         index     {:?} (bits {}); {INDEX}\n  \
          pictures  {pictures} of {} x {}, {} us each ({rate:.3} a second), {} s\n  \
          stream    packet identifier {} (0x{:04X})\n  \
+         captured  {}\n  \
          capture   {frames}, {} skipped; {}\n  \
          edition   {} of the rules\n",
         h.index,
@@ -30,6 +32,7 @@ fn sample(h: &Header, name: &str) -> String {
         seconds(all),
         h.pid,
         h.pid,
+        span(record.units()),
         grouped(h.skipped.into()),
         count(h.bad.into(), "bad packet"),
         h.edition,
@@ -41,8 +44,7 @@ fn units(record: &Record) -> String {
     let packets = record.units().map(|unit| u64::from(unit.packets)).sum();
     let lost: u64 = record.units().map(|unit| u64::from(unit.lost)).sum();
     let damaged: u64 = record.units().map(|unit| u64::from(unit.damaged)).sum();
-    // Damaged packets are known from edition 4 on.
-    let known = record.header().edition >= 4;
+    let known = knows_damage(&record.header());
     let also = if known { format!(", {} damaged", grouped(damaged)) } else { String::new() };
     let mut text = format!(
         "\nUnits: {}, {}, {} lost (counted modulo 16: there may be more){also}\n",
