@@ -1,7 +1,7 @@
-//! Measures a streamed seat: a packet capture and up to 750 luma pictures go in, and one small record comes out,
-//! 64 bytes and a row of 32 for each unit and each scene. The work is done by a library in which every call is
-//! proved to answer what the written rule (`docs/RULE.md`) says, however the bytes are cut into pieces; this
-//! crate is the thin way to it.
+//! Measures how a video stream arrived at one place: a packet capture and up to 750 luma pictures go in, and one small
+//! record comes out, 64 bytes and a row of 32 for each unit and each scene. The work is done by a library in which
+//! every call is proved to answer what the written rule (`docs/RULE.md`) says, however the bytes are cut into pieces;
+//! this crate is the thin way to it.
 //!
 //! ```
 //! use carolsedge::{Opening, Record, Sample, NEWEST_EDITION, RECORD_MOST};
