@@ -1,12 +1,14 @@
 //! Runs two programs on the same random inputs and compares what they print.
 //!
 //!     compare replay AGAIN REPLAY FIRST COUNT    scripts of every kind: `AGAIN replay` beside REPLAY
+//!     compare recut AGAIN REPLAY FIRST COUNT     REPLAY on such scripts beside REPLAY on the same bytes cut anew:
+//!                                                all lines but those of feeds
 //!     compare limit AGAIN REPLAY                 the scripts about the 256 MiB of a capture
 //!     compare VERB AGAIN OURS FIRST COUNT        inputs of a verb of FILTERS, or arguments of one of ARGUMENTS:
 //!                                                `AGAIN VERB` beside OURS
 //!
 //! AGAIN is the independent program, which also makes the inputs. VERB and OURS may have arguments, parted by spaces
-//! (`sheet-into 6060`, for one); when OURS prints a refusal and nothing else, it may end with status 1. Two threads
+//! (`rtp-into 96`, for one); when OURS prints a refusal and nothing else, it may end with status 1. Two threads
 //! run at once. The last lines say how much was compared and how often each refusal was given; the exit status is 1
 //! if any output differs.
 #![forbid(unsafe_code)]
@@ -20,10 +22,9 @@ use std::sync::Mutex;
 use std::thread;
 
 /// Verbs of the independent program that read standard input, each with what makes its inputs.
-const FILTERS: [(&str, &str); 9] = [
+const FILTERS: [(&str, &str); 8] = [
     ("show", "records"),
     ("sheet", "records"),
-    ("sheet-into", "records"),
     ("survey", "captures"),
     ("survey-replay", "make-survey"),
     ("loss", "make-loss"),
@@ -117,6 +118,16 @@ fn compare(make: [&str; 3], again: &[&str], ours: &str) -> io::Result<(Vec<u8>, 
     Ok((output(program, &again[1..], &input)?, output(ours[0], &ours[1..], &input)?))
 }
 
+/// One script, made by `make`, and the same bytes and questions cut otherwise, both through our program. The lines of
+/// feeds are left out: they go by the pieces.
+fn compare_cuts(make: [&str; 3], again: &str, ours: &str) -> io::Result<(Vec<u8>, Vec<u8>)> {
+    let script = output(again, &make, b"")?;
+    let other = output(again, &["recut", make[1]], &script)?;
+    let feeds = |line: &&[u8]| line.starts_with(b"capture") || line.starts_with(b"luma");
+    let answers = |text: Vec<u8>| lines(&text).filter(|line| !feeds(line)).collect::<Vec<_>>().join(&b'\n');
+    Ok((answers(output(ours, &[], &script)?), answers(output(ours, &[], &other)?)))
+}
+
 /// One list of arguments, made by `make`, for both programs.
 fn compare_arguments(make: [&str; 2], again: &[&str], ours: &str) -> io::Result<(Vec<u8>, Vec<u8>)> {
     let lines = output(again[0], &make, b"")?;
@@ -175,17 +186,12 @@ fn report(what: &str, of: &str, tally: &Tally) -> ExitCode {
 fn run(arguments: &[&str]) -> io::Result<ExitCode> {
     match *arguments {
         ["replay", again, ours, first, count] => {
-            let (first, count) = (number(first)?, number(count)?);
-            let kinds = kinds(again)?;
-            let tally = run_all(false, count, |case| {
-                let kind = &kinds[(case % kinds.len() as u64) as usize];
-                let seed = (first + case / kinds.len() as u64).to_string();
-                let (a, b) = compare(["make", &seed, kind], &[again, "replay"], ours)?;
-                Ok((format!("seed {seed} kind {kind}"), a, b))
-            });
-            let last = first + count.saturating_sub(1) / kinds.len() as u64;
-            println!("scripts: seeds {first} to {last} of the kinds {}", kinds.join(" "));
-            Ok(report("scripts", "calls", &tally))
+            let both = |make: [&str; 3]| compare(make, &[again, "replay"], ours);
+            scripts("scripts", again, number(first)?, number(count)?, both)
+        }
+        ["recut", again, ours, first, count] => {
+            let both = |make: [&str; 3]| compare_cuts(make, again, ours);
+            scripts("recut", again, number(first)?, number(count)?, both)
         }
         ["limit", again, ours] => {
             let tally = run_all(false, 4, |case| {
@@ -195,26 +201,48 @@ fn run(arguments: &[&str]) -> io::Result<ExitCode> {
             });
             Ok(report("limit", "calls", &tally))
         }
-        [verb, again, ours, first, count] => {
-            let filter = maker_of(&FILTERS, verb);
-            let maker = filter.or(maker_of(&ARGUMENTS, verb));
-            let maker = maker.ok_or_else(|| io::Error::other(format!("{verb} is nothing to compare")))?;
-            let (first, count) = (number(first)?, number(count)?);
-            let tally = run_all(true, count, |case| {
-                let seed = (first + case).to_string();
-                let again: Vec<&str> = iter::once(again).chain(verb.split(' ')).collect();
-                let (a, b) = if filter.is_some() {
-                    compare([maker, &seed, ""], &again, ours)?
-                } else {
-                    compare_arguments([maker, &seed], &again, ours)?
-                };
-                Ok((format!("{maker} of seed {seed}"), a, b))
-            });
-            println!("{verb}: {maker} of seeds {first} to {}", first + count.saturating_sub(1));
-            Ok(report(verb, "lines", &tally))
-        }
-        _ => Err(io::Error::other("compare replay|limit|VERB AGAIN OURS [FIRST COUNT]")),
+        [verb, again, ours, first, count] => inputs(verb, again, ours, number(first)?, number(count)?),
+        _ => Err(io::Error::other("compare replay|recut|limit|VERB AGAIN OURS [FIRST COUNT]")),
     }
+}
+
+/// Scripts of every kind in turn; `both` gives two texts of what makes one.
+fn scripts(
+    what: &str,
+    again: &str,
+    first: u64,
+    count: u64,
+    both: impl Fn([&str; 3]) -> io::Result<(Vec<u8>, Vec<u8>)> + Sync,
+) -> io::Result<ExitCode> {
+    let kinds = kinds(again)?;
+    let tally = run_all(false, count, |case| {
+        let kind = &kinds[(case % kinds.len() as u64) as usize];
+        let seed = (first + case / kinds.len() as u64).to_string();
+        let (a, b) = both(["make", &seed, kind])?;
+        Ok((format!("seed {seed} kind {kind}"), a, b))
+    });
+    let last = first + count.saturating_sub(1) / kinds.len() as u64;
+    println!("{what}: seeds {first} to {last} of the kinds {}", kinds.join(" "));
+    Ok(report(what, "calls", &tally))
+}
+
+/// Inputs of a verb, or its arguments.
+fn inputs(verb: &str, again: &str, ours: &str, first: u64, count: u64) -> io::Result<ExitCode> {
+    let filter = maker_of(&FILTERS, verb);
+    let maker = filter.or(maker_of(&ARGUMENTS, verb));
+    let maker = maker.ok_or_else(|| io::Error::other(format!("{verb} is nothing to compare")))?;
+    let tally = run_all(true, count, |case| {
+        let seed = (first + case).to_string();
+        let again: Vec<&str> = iter::once(again).chain(verb.split(' ')).collect();
+        let (a, b) = if filter.is_some() {
+            compare([maker, &seed, ""], &again, ours)?
+        } else {
+            compare_arguments([maker, &seed], &again, ours)?
+        };
+        Ok((format!("{maker} of seed {seed}"), a, b))
+    });
+    println!("{verb}: {maker} of seeds {first} to {}", first + count.saturating_sub(1));
+    Ok(report(verb, "lines", &tally))
 }
 
 /// What makes the inputs of a verb of a table.

@@ -33,13 +33,12 @@ static int given(double ic, double ip, double value)
            index.ip == ip && index.value == value;
 }
 
-int main(void)
-{
-    static const uint8_t magic[4] = {0xD4, 0xC3, 0xB2, 0xA1}, dark[901], bright[899] = {1};
-    static const double third = 1.0 / 3, most = 4.0 * (2.0 / 3);
-    uint8_t capture[24 + 16 + 42 + 376] = {0};
-    uint64_t value;
+static const uint8_t magic[4] = {0xD4, 0xC3, 0xB2, 0xA1};
+static uint8_t capture[24 + 16 + 42 + 376];
 
+/* A capture of one frame with two packets, the second with a gap of 5. */
+static void make_capture(void)
+{
     memcpy(capture, magic, 4);
     capture[20] = 1;
     uint8_t *frame = capture + 24, *body = frame + 16, *cells = body + 42;
@@ -47,7 +46,15 @@ int main(void)
     body[12] = 8, body[14] = 0x45, body[16] = (28 + 376) >> 8, body[17] = (28 + 376) & 255, body[23] = 17;
     body[38] = (8 + 376) >> 8, body[39] = (8 + 376) & 255;
     cells[0] = cells[188] = 0x47, cells[1] = 0x41, cells[189] = 1, cells[191] = 5;
+}
 
+int main(void)
+{
+    static const uint8_t dark[901], bright[899] = {1};
+    static const double third = 1.0 / 3, most = 4.0 * (2.0 / 3);
+    uint64_t value;
+
+    make_capture();
     carolsedge_sample_open(&sample, 640, 29, 40000, 256, 1);
     if (!refused(CAROLSEDGE_REFUSED_SIZE, 0))
         return 1;

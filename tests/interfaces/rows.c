@@ -26,11 +26,10 @@ static int both(const uint8_t *record, size_t length, size_t j, uint32_t number)
     return number == CAROLSEDGE_DONE || (memcmp(&u, &u0, sizeof u) == 0 && memcmp(&s, &s0, sizeof s) == 0);
 }
 
-int main(void)
+/* The cases of refused records, up to 3. */
+static int refused(void)
 {
     uint8_t r[128];
-    struct carolsedge_unit u;
-    struct carolsedge_scene s;
 
     /* 128 bytes, edition 0, counts of 1: edition first, whatever the counts say */
     memset(r, 0, sizeof r);
@@ -47,6 +46,15 @@ int main(void)
     r[92] = 1;
     if (!both(r, 128, 0, 18) || !both(r, 128, 9, 18) || !both(shown, 127, 0, 18))
         return 3;
+    return 0;
+}
+
+/* The cases of a record that is read, from 4 to 6. */
+static int given(void)
+{
+    struct carolsedge_unit u;
+    struct carolsedge_scene s;
+
     if (!both(shown, 128, 0, 0) || !both(shown, 128, 1, 19) || !both(shown, 128, SIZE_MAX, 19))
         return 4;
     if (carolsedge_read_unit(shown, 128, 0, &u) != CAROLSEDGE_DONE)
@@ -57,9 +65,17 @@ int main(void)
         return 6;
     if (s.first != 0 || s.pictures != 2 || s.repeated != 1 || s.longest != 1 || s.score != 0)
         return 6;
+    return 0;
+}
 
-    /* a unit's word 28 is let through in edition 4 alone, a scene's never */
-    r[0] = 3;
+/* Case 7: a unit's word 28 is let through in edition 4 alone, a scene's never. */
+static int damaged(void)
+{
+    uint8_t r[128];
+    struct carolsedge_unit u;
+
+    memcpy(r, shown, sizeof r);
+    r[92] = 1, r[0] = 3;
     if (!both(r, 128, 0, 18))
         return 7;
     r[0] = 4;
@@ -68,5 +84,16 @@ int main(void)
     r[92] = 0, r[124] = 1;
     if (!both(r, 128, 0, 18))
         return 7;
+    return 0;
+}
+
+int main(void)
+{
+    int (*const cases[])(void) = {refused, given, damaged};
+    for (size_t i = 0; i < sizeof cases / sizeof *cases; i++) {
+        int failed = cases[i]();
+        if (failed)
+            return failed;
+    }
     return 0;
 }

@@ -1,7 +1,6 @@
 //! `measure-again`: an independent reading of documents 01 and 02, used to compare programs with.
 #![forbid(unsafe_code)]
 
-mod bench;
 mod busiest;
 mod capture;
 mod cells;
@@ -40,9 +39,7 @@ const USAGE: &str = "\
 measure-again replay < SCRIPT
 measure-again show < RECORD
 measure-again sheet < RECORD
-measure-again sheet-into ROOM < RECORD
 measure-again measure W H D PID CAPTURE LUMA RECORD [EDITION]
-measure-again survey CAPTURE
 measure-again survey < CAPTURE
 measure-again survey-replay < SCRIPT
 measure-again loss < LOSSES
@@ -64,14 +61,11 @@ measure-again make-rtp SEED > PACKETS
 measure-again make-shelf SEED > SHELF
 measure-again kinds
 measure-again recut SEED < SCRIPT > SCRIPT
-measure-again relume SEED < SCRIPT > SCRIPT
 measure-again lean FIRST COUNT PROGRAM [ARGUMENT]...
 measure-again lean-record CAPTURE RECORD
 measure-again lean-pair RECORD RECORD
 measure-again records SEED > RECORD
 measure-again captures SEED > CAPTURE
-measure-again bench luma W H PIECE TIMES
-measure-again bench capture PIECE TIMES
 ";
 
 fn main() -> ExitCode {
@@ -103,10 +97,6 @@ fn number<T: FromStr>(word: &str) -> io::Result<T> {
     word.parse().map_err(|_| usage())
 }
 
-fn positive(word: &str) -> io::Result<usize> {
-    number(word).and_then(|number| if number > 0 { Ok(number) } else { Err(usage()) })
-}
-
 /// The bytes of a buffer to be lent, or the entries of a table; 1,048,576 are the most.
 fn room(word: &str) -> io::Result<usize> {
     number(word).and_then(|room| if room <= script::LONGEST_PIECE { Ok(room) } else { Err(usage()) })
@@ -128,27 +118,20 @@ fn run(arguments: &[&str], out: &mut impl Write) -> io::Result<()> {
         ["replay"] => replay::replay(script(), out),
         ["show"] => out.write_all(record::show(&standard_input(record::LONGEST)?).as_bytes()),
         ["sheet"] => out.write_all(&sheet::print(&standard_input(record::LONGEST)?)),
-        ["sheet-into", bytes] => {
-            let record = standard_input(record::LONGEST)?;
-            lent::print_call(out, "sheet", room(bytes)?, |buffer| sheet::write(&record, buffer))
-        }
         ["measure", width, height, display_time, pid, capture, luma, record, ref more @ ..] if more.len() < 2 => {
             let edition = more.first().copied().unwrap_or("1");
             measure(opening_of([width, height, display_time, pid, edition])?, capture, luma, record)
         }
         ["survey"] => print_survey(io::stdin(), out),
-        ["survey", capture] => print_survey(File::open(capture)?, out),
         ["survey-replay"] => replay::replay_survey(script(), out),
         ["shelf", "check", file] => out.write_all(shelf::check(&fs::read(file)?).as_bytes()),
         ["shelf", "take", file, record] => out.write_all(&shelf::take(&fs::read(file)?, number(record)?)),
         ["recut", seed] => recut::recut(number(seed)?, script(), out),
-        ["relume", seed] => relume::relume(number(seed)?, script(), out),
         ["lean", first, count, ref program @ ..] if !program.is_empty() => {
             lean::try_facts(number(first)?, number(count)?, program, out)
         }
         ["lean-record", capture, record] => print_lean(lean::facts(&fs::read(capture)?, &fs::read(record)?), out),
         ["lean-pair", one, other] => print_lean(lean::pair(&fs::read(one)?, &fs::read(other)?), out),
-        ["bench", ref what @ ..] => bench(what),
         _ => run_alone(arguments, out),
     }
 }
@@ -259,17 +242,4 @@ fn feed_all(mut file: impl Read, mut feed: impl FnMut(&[u8]) -> Result<usize, Re
             return Ok(());
         }
     }
-}
-
-fn bench(what: &[&str]) -> io::Result<()> {
-    match *what {
-        ["luma", width, height, piece, times] => {
-            let opening = opening_of([width, height, "40000", "256", "1"])?;
-            opening.check().map_err(|_| usage())?;
-            bench::luma(opening, positive(piece)?, positive(times)?);
-        }
-        ["capture", piece, times] => bench::capture(positive(piece)?, positive(times)?),
-        _ => return Err(usage()),
-    }
-    Ok(())
 }

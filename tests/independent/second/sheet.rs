@@ -1,7 +1,6 @@
 //! The reading room's sheet (request R-1): a record as pages of 60 lines of 100 columns.
 
 use crate::film::Scene;
-use crate::lent;
 use crate::opening::Refusal;
 use crate::record::View;
 use crate::units::CELL_PAYLOAD;
@@ -13,11 +12,6 @@ const LINES_OF_PAGE: usize = 60;
 /// Columns of a field, and of a time or the index bits.
 const NARROW: usize = 11;
 const WIDE: usize = 21;
-
-/// Writes the pages of a record to a lent buffer: their length, or 16 to 18, or 15.
-pub fn write(record: &[u8], buffer: &mut [u8]) -> Result<usize, Refusal> {
-    lent::fill(buffer, &pages(record)?)
-}
 
 /// What the program `sheet` prints: the pages, or a refusal as `show` has it.
 pub fn print(record: &[u8]) -> Vec<u8> {
@@ -157,23 +151,12 @@ mod tests {
     }
 
     #[test]
-    fn the_buffer_gets_the_pages_and_nothing_past_them() {
-        let record = record(1, 1);
-        let mut buffer = vec![7; 6_062];
-        assert_eq!(write(&record, &mut buffer), Ok(6_060));
-        assert_eq!((&buffer[..6_060], &buffer[6_060..]), (&print(&record)[..], &[7, 7][..]));
-        let mut short = vec![7; 6_059];
-        assert_eq!(write(&record, &mut short), Err(Refusal::at(15, 6_060)));
-        assert_eq!(short, [7; 6_059]);
-    }
-
-    #[test]
-    fn the_refusals_of_reading_come_first() {
+    fn what_reading_refuses_has_no_pages() {
         let mut record = record(1, 1);
-        assert_eq!(write(&record[..63], &mut []), Err(Refusal::unplaced(16)));
-        assert_eq!(write(&record[..127], &mut []), Err(Refusal::unplaced(18)));
+        assert_eq!(pages(&record[..63]), Err(Refusal::unplaced(16)));
+        assert_eq!(pages(&record[..127]), Err(Refusal::unplaced(18)));
         assert_eq!(print(&record[..127]), b"refused 18\n");
         record[0] = 0;
-        assert_eq!(write(&record, &mut []), Err(Refusal::unplaced(17)));
+        assert_eq!(pages(&record), Err(Refusal::unplaced(17)));
     }
 }

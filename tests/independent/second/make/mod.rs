@@ -184,25 +184,45 @@ fn any_opening(random: &mut Prng) -> Opening {
     Opening { width, height, display_time, pid, edition }
 }
 
+/// What is drawn of a capture before it is made.
+struct Drawn {
+    count: usize,
+    units: usize,
+    skipped_in_ten: usize,
+    longest: bool,
+    surely_a_unit: bool,
+    damaged_start: bool,
+}
+
 fn capture(random: &mut Prng, family: &str, pid: u32) -> Side {
     if family == "faults" {
         return faulty_capture(random, pid);
     }
-    let count = random.between(1, 12);
-    let units = random.pick(&[749, 750, 750, 751, 752, 760]);
-    let skipped_in_ten = random.below(6);
-    let longest = random.once_in(10);
-    let surely_a_unit = if family == "damaged" { random.once_in(2) } else { !random.once_in(12) };
-    let damaged_start = random.once_in(3);
+    let drawn = Drawn {
+        count: random.between(1, 12),
+        units: random.pick(&[749, 750, 750, 751, 752, 760]),
+        skipped_in_ten: random.below(6),
+        longest: random.once_in(10),
+        surely_a_unit: if family == "damaged" { random.once_in(2) } else { !random.once_in(12) },
+        damaged_start: random.once_in(3),
+    };
     let mut maker = CaptureMaker::new(random, pid);
-    if surely_a_unit && family != "units" {
+    if drawn.surely_a_unit && family != "units" {
         maker.units(1);
     }
+    add_records(&mut maker, family, &drawn);
+    let side = maker.side;
+    if family == "ends" { unfinished_capture(random, side) } else { side }
+}
+
+/// The records of a family.
+fn add_records(maker: &mut CaptureMaker, family: &str, drawn: &Drawn) {
+    let count = drawn.count;
     match family {
         "frames" => {
             maker.start_every = 1 + count;
             maker.records(5 * count, 7);
-            if longest {
+            if drawn.longest {
                 maker.longest_record();
             }
         }
@@ -217,17 +237,15 @@ fn capture(random: &mut Prng, family: &str, pid: u32) -> Side {
         }
         "units" => {
             maker.start_every = 1_000;
-            maker.units(units);
-            if damaged_start {
+            maker.units(drawn.units);
+            if drawn.damaged_start {
                 maker.damaged_record(1, true);
             }
             maker.records(4, 3);
         }
         "few" => maker.records(1 + count / 4, 2),
-        _ => maker.records(count, skipped_in_ten),
+        _ => maker.records(count, drawn.skipped_in_ten),
     }
-    let side = maker.side;
-    if family == "ends" { unfinished_capture(random, side) } else { side }
 }
 
 /// A capture cut inside its header, behind it, at the end of a record, anywhere, or not at all.
