@@ -7,9 +7,9 @@
  * docs/RULE.md gives (25, clause 6).
  *
  * What a caller owes, of every call:
- *  - A pointer to an array or a structure is valid for the whole of it and aligned. A pointer with a length is valid
- *    for so many bytes; it is not null, even where the length is 0 (the carolsedge_sample_ and carolsedge_survey_
- *    functions take null with length 0).
+ *  - A pointer to an array or a structure is valid for the whole of it and aligned. A pointer with a length is
+ *    aligned and valid for so many elements of its type, which are bytes where it points to bytes; it is not null,
+ *    even where the length is 0 (the carolsedge_sample_ and carolsedge_survey_ functions take null with length 0).
  *  - Memory that a call writes to overlaps no other memory of the same call, and nobody else uses it meanwhile.
  *  - A sample or a survey is opened before its other calls. Memory that somebody else wrote on gets free answers; the
  *    calls are safe on any contents of it.
@@ -32,8 +32,8 @@ extern "C" {
 #define CAROLSEDGE_ASSERT(fact, words) _Static_assert(fact, words)
 #endif
 
-/* ---- what a call returns: 0, or the number of a refusal. Places count bytes from 0; a place that is not named is
- * 0. */
+/* ---- what a call returns: 0, or the number of a refusal. Places count bytes from 0, but of 28 records, and of a gap
+ * table's 15 entries; a place that is not named is 0. */
 enum {
     CAROLSEDGE_DONE = 0,
     CAROLSEDGE_REFUSED_SIZE = 1,            /* H outside 30 to 1088, W outside 15 to 1920, H above 2 W, or W above
@@ -330,7 +330,7 @@ uint32_t carolsedge_shelf_open(const uint8_t *shelf, size_t length, struct carol
 uint32_t carolsedge_shelf_part(const uint8_t *shelf, size_t length, size_t j, struct carolsedge_part *part,
                                uint64_t *place);
 
-/* Writes the shelf of some records to the front of the buffer (docs/RULE.md, The shelf, 6). The records lie end to
+/* Writes the shelf of some records to the front of the buffer (docs/RULE.md, 25, clause 6). The records lie end to
  * end, without gaps; `lengths` has the length of each. *value is the shelf's length, 8 + 4 * count + size; bytes
  * behind it stand. Refused: 27 where there are more than 4,096 records or their lengths do not add up to size, then
  * 28, with the number of the first record that the reader refuses in *value, then 15 for a buffer that is too short,
@@ -342,10 +342,11 @@ uint32_t carolsedge_shelf_write(const uint8_t *records, size_t size, const uint3
 /* ---- small-screen streams */
 
 /* The units of RTP packets, which come without transport packets: four lists of equal length with a row for each
- * packet in arrival order: its sequence number, marker (set if not 0), time and length. Unit rows of 32 bytes, laid
- * out as in a record, go to the front of the buffer, and *value is their number; bytes behind them stand. Refused: 25
- * unless there are 1 to 4,096 rows in equal lists, then 15 for a buffer that is too short, with the bytes needed in
- * *value; the buffer stands. Takes up to 67,584 bytes of stack. */
+ * packet in arrival order: its sequence number, marker (set if not 0), time and length. The lengths of these lists
+ * count rows, that of the buffer bytes. Unit rows of 32 bytes, laid out as in a record, go to the front of the buffer,
+ * and *value is their number; bytes behind them stand. Refused: 25 unless there are 1 to 4,096 rows in equal lists,
+ * then 15 for a buffer that is too short, with the bytes needed in *value; the buffer stands. Takes up to 67,584 bytes
+ * of stack. */
 uint32_t carolsedge_rtp_units(const uint16_t *sequence, size_t sequence_length, const uint8_t *marker,
                               size_t marker_length, const uint64_t *time, size_t time_length, const uint16_t *size,
                               size_t size_length, uint8_t *buffer, size_t length, uint64_t *value);
