@@ -65,7 +65,7 @@ fn put_scene(row: &mut [u64; 7], s: SceneRow)
 pub extern "C" fn carolsedge_read_header(bytes: &[u8], figures: &mut [u64; 12]) -> u32
     ensures { λ r. ⌜ HeaderRead (now (bytes .entry)) (now (figures .entry)) r (now (figures .exit)) ⌝ }
 {
-    match record_view::read_header(bytes) {
+    match record_reader::header(bytes) {
         HeaderAnswer::Given(h) => {
             put_header(figures, h);
             0
@@ -79,7 +79,7 @@ pub extern "C" fn carolsedge_read_header(bytes: &[u8], figures: &mut [u64; 12]) 
 pub extern "C" fn carolsedge_read_unit(bytes: &[u8], j: usize, row: &mut [u64; 6]) -> u32
     ensures { λ r. ⌜ UnitRead (now (bytes .entry)) j (now (row .entry)) r (now (row .exit)) ⌝ }
 {
-    match record_view::read_unit(bytes, j) {
+    match record_reader::unit(bytes, j) {
         UnitAnswer::Given(u) => {
             put_unit(row, u);
             0
@@ -93,7 +93,7 @@ pub extern "C" fn carolsedge_read_unit(bytes: &[u8], j: usize, row: &mut [u64; 6
 pub extern "C" fn carolsedge_read_scene(bytes: &[u8], j: usize, row: &mut [u64; 7]) -> u32
     ensures { λ r. ⌜ SceneRead (now (bytes .entry)) j (now (row .entry)) r (now (row .exit)) ⌝ }
 {
-    match record_view::read_scene(bytes, j) {
+    match record_reader::scene(bytes, j) {
         SceneAnswer::Given(s) => {
             put_scene(row, s);
             0

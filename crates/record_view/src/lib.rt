@@ -1,7 +1,6 @@
 // A view of one record: its bytes with its counts, made by opening it. Its functions are thin: each hands the slice
 // and the numbers to a function over those.
 ghost use mathlib.Core.Path.{_≡_};
-ghost use Rattle.rules.specs.Reading.{headerAnswer, unitAnswer, sceneAnswer};
 ghost use Rattle.record_view.specs.Seen.{unitsOf, scenesOf, fits, HeaderSeen, UnitSeen, SceneSeen, ViewOf};
 use record_reader::Opened;
 use rules::HeaderAnswer;
@@ -131,23 +130,4 @@ pub fn scene<'a>(v: View<'a>, j: usize) -> SceneAnswer
     ensures { λ r. ⌜ SceneSeen (now (v .entry .bytes)) (v .entry .units) (v .entry .scenes) j r ⌝ }
 {
     scene_at(v.bytes, v.units, v.scenes, j)
-}
-
-// For every other caller: the record is opened, and its view is asked.
-pub fn read_header(bytes: &[u8]) -> HeaderAnswer
-    ensures { λ r. ⌜ r ≡ headerAnswer (now (bytes .entry)) ⌝ }
-{
-    header(open(bytes))
-}
-
-pub fn read_unit(bytes: &[u8], j: usize) -> UnitAnswer
-    ensures { λ r. ⌜ r ≡ unitAnswer (now (bytes .entry)) j ⌝ }
-{
-    unit(open(bytes), j)
-}
-
-pub fn read_scene(bytes: &[u8], j: usize) -> SceneAnswer
-    ensures { λ r. ⌜ r ≡ sceneAnswer (now (bytes .entry)) j ⌝ }
-{
-    scene(open(bytes), j)
 }

@@ -4,8 +4,8 @@ use borrow.Author.Needs.{needs}
 use Rattle.c_record.proofs.carolsedge_read_header.Statement.{statement}
 use Rattle.c_record.proofs.carolsedge_read_header.Tie as tie
 
-read-header-requires : tie.Need-read-header-requires
-read-header-requires c κs = search needs
+header-requires : tie.Need-header-requires
+header-requires c κs = search needs
 
 enum-known-h : tie.Need-enum-known-h
 enum-known-h c = search needs
@@ -22,19 +22,19 @@ listed-number-requires c κs = search needs
 returns : tie.Need-returns
 returns c =
     let known = c .before .before .before in
-    header-done _ _ _ (known .before .before .read-header .ensures) _ _ (known .h .given .1) (c .put-header .ensures)
+    header-done _ _ _ (known .before .before .header .ensures) _ _ (known .h .given .1) (c .put-header .ensures)
 
 returns-2 : tie.Need-returns-2
 returns-2 c =
     let known = c .before .before in
-    header-refused _ _ _ (known .before .before .read-header .ensures) _ _ _ (known .number .given .1)
+    header-refused _ _ _ (known .before .before .header .ensures) _ _ _ (known .number .given .1)
     (c .listed-number .ensures)
 
 pub carolsedge-read-header-spec : {M : Type 1} → statement M
 carolsedge-read-header-spec =
     tie.close
     (tie.spec
-    read-header-requires
+    header-requires
     enum-known-h
     put-header-requires
     enum-known-number

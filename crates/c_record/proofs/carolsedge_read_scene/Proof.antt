@@ -4,8 +4,8 @@ use borrow.Author.Needs.{needs}
 use Rattle.c_record.proofs.carolsedge_read_scene.Statement.{statement}
 use Rattle.c_record.proofs.carolsedge_read_scene.Tie as tie
 
-read-scene-requires : tie.Need-read-scene-requires
-read-scene-requires c κs = search needs
+scene-requires : tie.Need-scene-requires
+scene-requires c κs = search needs
 
 enum-known-s : tie.Need-enum-known-s
 enum-known-s c = search needs
@@ -22,19 +22,19 @@ listed-number-requires c κs = search needs
 returns : tie.Need-returns
 returns c =
     let known = c .before .before .before in
-    scene-done _ _ _ _ (known .before .before .read-scene .ensures) _ _ (known .s .given .1) (c .put-scene .ensures)
+    scene-done _ _ _ _ (known .before .before .scene .ensures) _ _ (known .s .given .1) (c .put-scene .ensures)
 
 returns-2 : tie.Need-returns-2
 returns-2 c =
     let known = c .before .before in
-    scene-refused _ _ _ _ (known .before .before .read-scene .ensures) _ _ _ (known .number .given .1)
+    scene-refused _ _ _ _ (known .before .before .scene .ensures) _ _ _ (known .number .given .1)
     (c .listed-number .ensures)
 
 pub carolsedge-read-scene-spec : {M : Type 1} → statement M
 carolsedge-read-scene-spec =
     tie.close
     (tie.spec
-    read-scene-requires
+    scene-requires
     enum-known-s
     put-scene-requires
     enum-known-number

@@ -4,8 +4,8 @@ use borrow.Author.Needs.{needs}
 use Rattle.c_record.proofs.carolsedge_read_unit.Statement.{statement}
 use Rattle.c_record.proofs.carolsedge_read_unit.Tie as tie
 
-read-unit-requires : tie.Need-read-unit-requires
-read-unit-requires c κs = search needs
+unit-requires : tie.Need-unit-requires
+unit-requires c κs = search needs
 
 enum-known-u : tie.Need-enum-known-u
 enum-known-u c = search needs
@@ -22,19 +22,19 @@ listed-number-requires c κs = search needs
 returns : tie.Need-returns
 returns c =
     let known = c .before .before .before in
-    unit-done _ _ _ _ (known .before .before .read-unit .ensures) _ _ (known .u .given .1) (c .put-unit .ensures)
+    unit-done _ _ _ _ (known .before .before .unit .ensures) _ _ (known .u .given .1) (c .put-unit .ensures)
 
 returns-2 : tie.Need-returns-2
 returns-2 c =
     let known = c .before .before in
-    unit-refused _ _ _ _ (known .before .before .read-unit .ensures) _ _ _ (known .number .given .1)
+    unit-refused _ _ _ _ (known .before .before .unit .ensures) _ _ _ (known .number .given .1)
     (c .listed-number .ensures)
 
 pub carolsedge-read-unit-spec : {M : Type 1} → statement M
 carolsedge-read-unit-spec =
     tie.close
     (tie.spec
-    read-unit-requires
+    unit-requires
     enum-known-u
     put-unit-requires
     enum-known-number
