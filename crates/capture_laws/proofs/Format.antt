@@ -14,8 +14,8 @@ use Rattle.rules.specs.Refusals.{Fault, none, fault}
 use Rattle.rules.specs.Frames.{microseconds, storedLength, frameSize}
 use Rattle.rules.specs.Packets.{packets, wantedOf}
 use Rattle.rules.specs.Units.{arrivals, beginnings}
-use Rattle.rules.specs.Capture.{wholeFrames, unfinished, allFrames, earlier, showing, tooLong, wrongMagic}
-use Rattle.rules.specs.Capture.{wrongLink, wrongFrameHeader, wrongFrame, tooManyUnits, formatFault, captureFault}
+use Rattle.rules.specs.Capture.{wholeFrames, unfinished, allFrames, earlier, showing, tooLong, isMagic}
+use Rattle.rules.specs.Capture.{wrongMagic, wrongLink, wrongFrameHeader, wrongFrame, tooManyUnits, formatFault, captureFault}
 use Rattle.capture_laws.specs.UnderWay.{Fine}
 use Rattle.capture_laws.proofs.Frames.{size-least}
 use Rattle.capture_laws.proofs.Capture.{too-long}
@@ -337,10 +337,6 @@ module _ (s : List ℕ) (h : length s ≤ 24) where
   pub header-shows : formatFault s ≡ earlier (wrongMagic s) (wrongLink s)
   unfolding formatFault
   header-shows = rw (long-none s (omega arith), header-frames, earlier-none (wrongLink s))
-
--- the first four bytes are D4 C3 B2 A1
-abbrev pub isMagic : List ℕ → Bool
-isMagic s = eqb (byte s 0) 0xD4 && eqb (byte s 1) 0xC3 && eqb (byte s 2) 0xB2 && eqb (byte s 3) 0xA1
 
 pub magic-shown : (s : List ℕ) → 3 < length s → wrongMagic s ≡ pick (isMagic s) none (fault 5 3)
 unfolding wrongMagic showing

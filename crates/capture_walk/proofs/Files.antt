@@ -12,11 +12,10 @@ use borrow.Author.Tests.{eq-eqb, ne-eqb}
 use Rattle.rules.specs.Bytes.{pick, byte, word32, count}
 use Rattle.rules.specs.Refusals.{none, fault}
 use Rattle.rules.specs.Packets.{skipped}
-use Rattle.rules.specs.Capture.{earlier, wrongMagic, wrongLink}
+use Rattle.rules.specs.Capture.{earlier, isMagic, wrongMagic, wrongLink}
 use Rattle.capture_laws.proofs.Onward.{header-alone}
 use Rattle.capture_laws.proofs.Flow.{reached}
 use Rattle.capture_laws.proofs.Format.{magic-more, magic-early, link-early, magic-shown, link-shown, reached-none}
-use Rattle.capture_cells.specs.Cells.{isMagic}
 use Rattle.capture_cells.proofs.Agree.{magic-agree, link-agree}
 use Rattle.capture_walk.specs.declared.types.Walk.{Walk}
 use Rattle.capture_walk.specs.declared.types.Event.the-variants.{Nothing, Refused}

@@ -11,7 +11,7 @@ use Rattle.rules.specs.declared.UnitRow.{UnitRow}
 use Rattle.rules.specs.declared.SceneRow.{SceneRow}
 use Rattle.rules.specs.Bytes.{word32, total, table, endToEnd}
 use Rattle.rules.specs.Record.{headerBytes, unitBytes, sceneBytes, recordBytes}
-use Rattle.rules.specs.Reading.{headerOf, unitPlace, unitAt}
+use Rattle.rules.specs.Reading.{headerOf, unitPlace, unitIn, unitAt}
 use Rattle.record_laws.proofs.Words.{word32-drop}
 use Rattle.record_laws.proofs.Record.{Figures, unit-read, length-header, length-unit, length-rows, parts-of}
 use Rattle.record_laws.proofs.Record.{header-read}
@@ -61,13 +61,13 @@ module _ (h : Header) (us : List UnitRow) (ss : List SceneRow) (f : Figures h us
   packets-words = words-told 20 (λ (u : UnitRow). u .packets) at-row
     where
       at-row : (j : ℕ) (z : UnitRow) → j < length us → word32 (drop (unitPlace j) made) 20 ≡ getD us j z .packets
-      at-row j z k = unfold unitAt in ap (λ (u : UnitRow). u .packets) (unit-read h us ss f j z k)
+      at-row j z k = unfold unitAt unitIn in ap (λ (u : UnitRow). u .packets) (unit-read h us ss f j z k)
 
   pub damaged-words : unitWords made 28 ≡ total (map (λ (u : UnitRow). u .damaged) us)
   damaged-words = words-told 28 (λ (u : UnitRow). u .damaged) at-row
     where
       at-row : (j : ℕ) (z : UnitRow) → j < length us → word32 (drop (unitPlace j) made) 28 ≡ getD us j z .damaged
-      at-row j z k = unfold unitAt in ap (λ (u : UnitRow). u .damaged) (unit-read h us ss f j z k)
+      at-row j z k = unfold unitAt unitIn in ap (λ (u : UnitRow). u .damaged) (unit-read h us ss f j z k)
 
   pub rows-bytes : unitRows made ≡ endToEnd (map unitBytes us)
   unfolding unitRows

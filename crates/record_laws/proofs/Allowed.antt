@@ -22,7 +22,7 @@ use Rattle.rules.specs.Reading.{allowedUnits, allowedScene, allowedScenes, allo
 use Rattle.record_laws.proofs.Words.{EachByte, word32-bytes, bytes-word32, bytes-word64, word32-fits}
 use Rattle.record_laws.proofs.Words.{word64-fits}
 use Rattle.rules.proofs.Laws.Lists.{both, inside, length-table}
-use Rattle.record_laws.specs.RowIn.{unitIn, sceneIn}
+use Rattle.rules.specs.Reading.{unitIn, sceneIn}
 use Rattle.record_laws.proofs.Record.{HeaderFits, UnitFits, SceneFits, Each, Figures, unit-back, scene-back}
 use Rattle.record_laws.proofs.Record.{scene-zero, length-header, length-unit, length-scene}
 use Rattle.record_laws.proofs.Record.{length-rows, length-record, header-back, parts-of}
@@ -422,7 +422,7 @@ header-fits r b a =
     }
 
 pub unit-fits : (r : List ℕ) → EachByte r → (j : ℕ) → UnitFits (unitAt r j)
-unfolding unitAt
+unfolding unitAt unitIn
 unit-fits r b j =
     let t = drop (unitPlace j) r in
     let y = bytes-drop (unitPlace j) r b in
@@ -436,7 +436,7 @@ unit-fits r b j =
     }
 
 pub scene-fits : (r : List ℕ) → EachByte r → (j : ℕ) → SceneFits (sceneAt r j)
-unfolding sceneAt
+unfolding sceneAt sceneIn
 scene-fits r b j =
     let t = drop (scenePlace r j) r in
     let y = bytes-drop (scenePlace r j) r b in

@@ -12,7 +12,7 @@ use Rattle.rules.specs.declared.SceneRow.{SceneRow}
 use Rattle.rules.specs.Bytes.{word32, word64, bytesOf, endToEnd}
 use Rattle.rules.specs.Record.{recordLength, sceneOffset, headerBytes, unitBytes, sceneBytes, recordBytes}
 use Rattle.rules.specs.Reading.{headerOf, unitPlace, scenePlace, unitAt, sceneAt}
-use Rattle.record_laws.specs.RowIn.{unitIn, sceneIn}
+use Rattle.rules.specs.Reading.{unitIn, sceneIn}
 use Rattle.record_laws.proofs.Words.{word32-bytes, word64-bytes}
 
 -- ---- figures that fit their words

@@ -10,7 +10,7 @@ use Rattle.rules.specs.Bytes.{word32}
 use Rattle.rules.specs.Refusals.{Fault, none, fault}
 use Rattle.rules.specs.Record.{recordLength}
 use Rattle.rules.specs.Reading.{headerOf, unitPlace, unitAt, readingFault, unitFault, rowFault, orHeader, orUnit}
-use Rattle.rules.specs.Reading.{headerAnswer, unitAnswer}
+use Rattle.rules.specs.Reading.{headerAnswer, unitIn, unitAnswer}
 use Rattle.rules.specs.Shelf.{unitsGiven, lostGiven}
 use Rattle.record_laws.proofs.Words.{EachByte, word32-fits, word32-drop}
 use Rattle.record_laws.proofs.Allowed.{record-allowed}
@@ -49,7 +49,7 @@ module _ (r : List ℕ) where
       go (fault k p) e = omega arith
 
   pub lost-fits : EachByte r → (i : ℕ) → lostGiven (unitAnswer r i) ≤ 4294967295
-  unfolding unitAnswer unitAt
+  unfolding unitAnswer unitAt unitIn
   lost-fits b i = go (unitFault r i)
     where
       go : (f : Fault) → lostGiven (orUnit f (unitAt r i)) ≤ 4294967295

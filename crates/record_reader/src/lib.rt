@@ -7,7 +7,7 @@ ghost use Rattle.rules.specs.Record.{sceneOffset};
 ghost use Rattle.rules.specs.Reading.{headerOf, unitPlace, unitAt, sceneAt, allowedHeader, allowedUnit, allowedUnits};
 ghost use Rattle.rules.specs.Reading.{allowedScene, allowedScenes, allowed as ruleAllowed, headerAnswer, unitAnswer};
 ghost use Rattle.rules.specs.Reading.{sceneAnswer};
-ghost use Rattle.record_laws.specs.RowIn.{unitIn, sceneIn};
+ghost use Rattle.rules.specs.Reading.{unitIn, sceneIn};
 ghost use Rattle.record_reader.specs.Opened.{openedAs};
 use figures::good_pid;
 use figures::good_size;

@@ -12,7 +12,8 @@ use borrow.Author.Tests.{eqb-true}
 use Rattle.rules.specs.Bytes.{byte, word32, word64, only, table, endToEnd, All, empty, and}
 use Rattle.rules.specs.Refusals.{none}
 use Rattle.rules.specs.Editions.{knowsDamage}
-use Rattle.rules.specs.Reading.{headerOf, unitPlace, unitAt, sceneAt, allowedUnit, allowedUnits, readingFault}
+use Rattle.rules.specs.Reading.{headerOf, unitPlace, unitIn, unitAt, sceneAt, allowedUnit, allowedUnits}
+use Rattle.rules.specs.Reading.{readingFault}
 use Rattle.rules.specs.Sheet.{ending, line, headerLine, unitLine, sceneLine, blankLine}
 use Rattle.rules.specs.Sheet.{recordLines, lineCount, blanksFor, sheetLines, sheetOf, leftOut}
 use Rattle.rules.proofs.Laws.Lists.{both, only-append, length-table}
@@ -132,7 +133,7 @@ zero-unit (suc n) b e (suc j) h =
 
 zero-row : (r : List ℕ) → readingFault r ≡ none → knowsDamage (word32 r 0) ≡ false → (j : ℕ) → j < word32 r 8 →
     unitAt r j .damaged ≡ 0
-unfolding unitAt unitPlace
+unfolding unitIn unitAt unitPlace
 zero-row r e k j h =
     let u : allowedUnits false (word32 r 8) (drop 64 r) ≡ true =
     rw k at (record-allowed r (fault-allowed r e) .units) in

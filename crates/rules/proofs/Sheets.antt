@@ -8,7 +8,7 @@ use Rattle.rules.specs.Bytes.{pick, word32, word64, bytesOf, table, endT
 use Rattle.rules.specs.Editions.{isEdition, knowsDamage}
 use Rattle.rules.specs.Opening.{goodSize, goodTime, goodPid}
 use Rattle.rules.specs.Record.{recordLength, sceneOffset, headerBytes, unitBytes, sceneBytes, recordBytes}
-use Rattle.rules.specs.Reading.{headerOf, unitPlace, scenePlace, unitAt, sceneAt, readingFault}
+use Rattle.rules.specs.Reading.{headerOf, unitPlace, scenePlace, unitIn, sceneIn, unitAt, sceneAt, readingFault}
 use Rattle.rules.specs.Reading.{allowedHeader, allowedUnit, allowedUnits, allowedScene, allowedScenes}
 use Rattle.rules.specs.Reading.{allowedRows, allowed}
 use Rattle.rules.specs.Seal.{noRoom, over}
@@ -118,7 +118,7 @@ sheets =
 pub printed : map (λ (c : Case). c .rule) sheets ≡ map (λ (c : Case). c .paper) sheets
 unfolding sheets exampleBy example spaces header unitUpTo mostDamaged sevenDamaged scene textUpTo text isEdition
     knowsDamage word32 word64 bytesOf table endToEnd goodSize goodTime goodPid recordLength sceneOffset headerBytes
-    unitBytes sceneBytes recordBytes headerOf unitPlace scenePlace unitAt sceneAt readingFault allowedHeader
+    unitBytes sceneBytes recordBytes headerOf unitPlace scenePlace unitIn sceneIn unitAt sceneAt readingFault allowedHeader
     allowedUnit allowedUnits allowedScene allowedScenes allowedRows allowed noRoom over decimalIn decimal hexIn aligned
     columns headerFields unitFields sceneFields ending line headerLine unitLine sceneLine blankLine recordLines
     lineCount pagesFor blanksFor sheetLines sheetOf sheetLength sheetAnswer sheetBuffer

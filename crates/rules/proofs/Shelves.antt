@@ -11,7 +11,7 @@ use Rattle.rules.specs.Bytes.{word32, word64, bytesOf, total, table, end
 use Rattle.rules.specs.Editions.{isEdition, knowsDamage}
 use Rattle.rules.specs.Opening.{goodSize, goodTime, goodPid}
 use Rattle.rules.specs.Record.{le32, recordLength, sceneOffset}
-use Rattle.rules.specs.Reading.{headerOf, unitPlace, unitAt, readingFault, rowFault, unitFault}
+use Rattle.rules.specs.Reading.{headerOf, unitPlace, unitIn, unitAt, readingFault, rowFault, unitFault}
 use Rattle.rules.specs.Reading.{allowedHeader, allowedUnit, allowedUnits, allowedScene, allowedScenes}
 use Rattle.rules.specs.Reading.{allowedRows, allowed, headerAnswer, unitAnswer}
 use Rattle.rules.specs.Shelf.{edge, rising, laidOut, part, records, recordLost, shelfLost, firstRefused}
@@ -101,7 +101,7 @@ shelves =
 -- the theorem: every entry's rule gives what document 02 says
 pub shelved : map (λ (c : Case). c .rule) shelves ≡ map (λ (c : Case). c .paper) shelves
 unfolding shelves opened taken words unit scene one pair two isEdition knowsDamage word32 word64 bytesOf total table
-    endToEnd goodSize goodTime goodPid recordLength sceneOffset headerOf unitPlace unitAt readingFault rowFault
+    endToEnd goodSize goodTime goodPid recordLength sceneOffset headerOf unitPlace unitIn unitAt readingFault rowFault
     unitFault allowedHeader allowedUnit allowedUnits allowedScene allowedScenes allowedRows allowed headerAnswer
     unitAnswer edge rising laidOut part records recordLost shelfLost firstRefused shelfFault partFault shelfAnswer
     partAnswer offsetsFrom headBytes shelfOf

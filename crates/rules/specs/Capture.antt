@@ -66,11 +66,13 @@ earlier (fault k p) (fault l q) = pick (leb p q) (fault k p) (fault l q)
 unfoldable pub tooLong : List ℕ → Fault
 tooLong capture = showing (length capture) 4 268435456 true
 
--- 5: the first four bytes are not D4 C3 B2 A1
+-- the first four bytes are D4 C3 B2 A1
+abbrev pub isMagic : List ℕ → Bool
+isMagic s = eqb (byte s 0) 0xD4 && eqb (byte s 1) 0xC3 && eqb (byte s 2) 0xB2 && eqb (byte s 3) 0xA1
+
+-- 5: they are not
 unfoldable pub wrongMagic : List ℕ → Fault
-wrongMagic capture =
-    showing (length capture) 5 3 (not (eqb (byte capture 0) 0xD4 && eqb (byte capture 1) 0xC3
-    && eqb (byte capture 2) 0xB2 && eqb (byte capture 3) 0xA1))
+wrongMagic capture = showing (length capture) 5 3 (not (isMagic capture))
 
 -- 6: the link type is not 1
 unfoldable pub wrongLink : List ℕ → Fault

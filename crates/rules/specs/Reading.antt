@@ -37,16 +37,16 @@ headerOf r =
       index = word64 r 56;
     }
 
--- where unit row j and scene row j stand, and the rows' figures
+-- where unit row j and scene row j stand
 unfoldable pub unitPlace : ℕ → ℕ
 unitPlace j = 64 + 32 * j
 
 unfoldable pub scenePlace : List ℕ → ℕ → ℕ
 scenePlace r j = sceneOffset (word32 r 8) + 32 * j
 
-unfoldable pub unitAt : List ℕ → ℕ → UnitRow
-unitAt r j =
-    let b = drop (unitPlace j) r in
+-- the figures of a row, of its bytes
+unfoldable pub unitIn : List ℕ → UnitRow
+unitIn b =
     record {
       least = word64 b 0;
       greatest = word64 b 8;
@@ -56,9 +56,8 @@ unitAt r j =
       damaged = word32 b 28;
     }
 
-unfoldable pub sceneAt : List ℕ → ℕ → SceneRow
-sceneAt r j =
-    let b = drop (scenePlace r j) r in
+unfoldable pub sceneIn : List ℕ → SceneRow
+sceneIn b =
     record {
       first = word32 b 0;
       pictures = word32 b 4;
@@ -68,6 +67,13 @@ sceneAt r j =
       peak = word32 b 20;
       change = word32 b 24;
     }
+
+-- unit row j and scene row j
+unfoldable pub unitAt : List ℕ → ℕ → UnitRow
+unitAt r j = unitIn (drop (unitPlace j) r)
+
+unfoldable pub sceneAt : List ℕ → ℕ → SceneRow
+sceneAt r j = sceneIn (drop (scenePlace r j) r)
 
 -- ---- what the reader allows
 

@@ -1,5 +1,5 @@
 use borrow.Author.Needs.{needs}
-use Rattle.record_laws.specs.RowIn.{sceneIn}
+use Rattle.rules.specs.Reading.{sceneIn}
 use Rattle.record_reader.proofs.scene_in.Statement.{statement}
 use Rattle.record_reader.proofs.scene_in.Tie as tie
 

@@ -5,7 +5,7 @@ use mathlib.Core.Path.{ap, _∙_}
 use lib.ListN.{drop, length-take, length-drop}
 use Prim.Native.Nat.{ℕ}
 use Rattle.record_reader.proofs.Rows.{part}
-use Rattle.record_laws.specs.RowIn.{sceneIn}
+use Rattle.rules.specs.Reading.{sceneIn}
 use Rattle.rules.specs.Record.{sceneOffset}
 use Rattle.rules.specs.Reading.{sceneAt, scenePlace}
 use Rattle.record_reader.proofs.scene_row.Statement.{statement}

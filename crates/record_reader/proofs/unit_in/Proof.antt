@@ -1,5 +1,5 @@
 use borrow.Author.Needs.{needs}
-use Rattle.record_laws.specs.RowIn.{unitIn}
+use Rattle.rules.specs.Reading.{unitIn}
 use Rattle.record_reader.proofs.unit_in.Statement.{statement}
 use Rattle.record_reader.proofs.unit_in.Tie as tie
 

@@ -16,7 +16,8 @@ use Rattle.rules.specs.Editions.{isEdition}
 use Rattle.rules.specs.Opening.{goodSize, goodTime, goodPid, openingFault}
 use Rattle.rules.specs.Frames.{microseconds, storedLength}
 use Rattle.rules.specs.Units.{Arrival, beginnings}
-use Rattle.rules.specs.Capture.{allFrames, units, shownWanted, showing, earlier, tooLong, wrongMagic, wrongLink}
+use Rattle.rules.specs.Capture.{allFrames, units, shownWanted, showing, earlier, tooLong, isMagic}
+use Rattle.rules.specs.Capture.{wrongMagic, wrongLink}
 use Rattle.rules.specs.Capture.{wrongFrameHeader, wrongFrame, beginsAt, tooManyUnits, captureFault}
 use Rattle.rules.specs.Capture.{captureInside, formatFault}
 use Rattle.rules.specs.Pictures.{pictureSize, pictureCount, lumaFault}
@@ -116,9 +117,7 @@ of-long c = of-showing (length c) 4 268435456 true refl
 
 of-magic : (c : List ℕ) → Numbered (wrongMagic c)
 unfolding wrongMagic
-of-magic c =
-    of-showing (length c) 5 3
-    (not (eqb (byte c 0) 0xD4 && eqb (byte c 1) 0xC3 && eqb (byte c 2) 0xB2 && eqb (byte c 3) 0xA1)) refl
+of-magic c = of-showing (length c) 5 3 (not (isMagic c)) refl
 
 of-link : (c : List ℕ) → Numbered (wrongLink c)
 unfolding wrongLink

@@ -1,2 +1,0 @@
--- The row at a string's front.
-pub mod RowIn
