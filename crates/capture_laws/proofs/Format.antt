@@ -15,7 +15,8 @@ use Rattle.rules.specs.Frames.{microseconds, storedLength, frameSize}
 use Rattle.rules.specs.Packets.{packets, wantedOf}
 use Rattle.rules.specs.Units.{arrivals, beginnings}
 use Rattle.rules.specs.Capture.{wholeFrames, unfinished, allFrames, earlier, showing, tooLong, isMagic}
-use Rattle.rules.specs.Capture.{wrongMagic, wrongLink, wrongFrameHeader, wrongFrame, tooManyUnits, formatFault, captureFault}
+use Rattle.rules.specs.Capture.{wrongMagic, wrongLink, wrongFrameHeader, wrongFrame, tooManyUnits, formatFault}
+use Rattle.rules.specs.Capture.{captureFault}
 use Rattle.capture_laws.specs.UnderWay.{Fine}
 use Rattle.capture_laws.proofs.Frames.{size-least}
 use Rattle.capture_laws.proofs.Capture.{too-long}

@@ -29,13 +29,13 @@ fn hint(number: u64) {
         5 => {
             io::write_all(
                 STDERR_FILENO,
-                b"hint: CAPTURE is no little-endian libpcap file with microseconds; editcap -F pcap IN OUT makes one\n",
+                b"hint: CAPTURE is no little-endian libpcap file of microseconds; editcap -F pcap IN OUT makes one\n",
             );
         }
         6 => {
             io::write_all(
                 STDERR_FILENO,
-                b"hint: CAPTURE is not of Ethernet; capture on one Ethernet interface (tcpdump -i NAME), and editcap -F pcap IN OUT\n",
+                b"hint: CAPTURE is not of Ethernet; capture on one Ethernet interface (tcpdump -i NAME)\n",
             );
         }
         12 => {

@@ -7,9 +7,9 @@ fn lesser(a: usize, b: usize) -> usize
     if a < b { a } else { b }
 }
 
-// Reads a byte of each 64 of the first n bytes and of the next 64, in order, so that the memory sends them together and
-// whoever goes through them waits once, in whatever order that is. The answer is yes, and nothing goes by it; it keeps
-// the reads in the program.
+// Reads a byte of each 64 of the first n bytes and of the next 64, in order, so that the memory sends them together
+// and whoever goes through them waits once, in whatever order that is. The answer is yes, and nothing goes by it; it
+// keeps the reads in the program.
 pub fn fetch(f: &[u8], n: u64) -> bool
     requires { ⌜ n ≤ 268435456 ⌝ }
 {

@@ -118,8 +118,8 @@ sheets =
 pub printed : map (λ (c : Case). c .rule) sheets ≡ map (λ (c : Case). c .paper) sheets
 unfolding sheets exampleBy example spaces header unitUpTo mostDamaged sevenDamaged scene textUpTo text isEdition
     knowsDamage word32 word64 bytesOf table endToEnd goodSize goodTime goodPid recordLength sceneOffset headerBytes
-    unitBytes sceneBytes recordBytes headerOf unitPlace scenePlace unitIn sceneIn unitAt sceneAt readingFault allowedHeader
-    allowedUnit allowedUnits allowedScene allowedScenes allowedRows allowed noRoom over decimalIn decimal hexIn aligned
-    columns headerFields unitFields sceneFields ending line headerLine unitLine sceneLine blankLine recordLines
-    lineCount pagesFor blanksFor sheetLines sheetOf sheetLength sheetAnswer sheetBuffer
+    unitBytes sceneBytes recordBytes headerOf unitPlace scenePlace unitIn sceneIn unitAt sceneAt readingFault
+    allowedHeader allowedUnit allowedUnits allowedScene allowedScenes allowedRows allowed noRoom over decimalIn
+    decimal hexIn aligned columns headerFields unitFields sceneFields ending line headerLine unitLine sceneLine
+    blankLine recordLines lineCount pagesFor blanksFor sheetLines sheetOf sheetLength sheetAnswer sheetBuffer
 printed = refl
