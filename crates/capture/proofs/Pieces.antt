@@ -14,13 +14,13 @@ use Rattle.rules.specs.Capture.{captureFault}
 use Rattle.rules.specs.Seal.{captureAnswer}
 use Rattle.capture_laws.proofs.Begins.{capture-kept}
 use Rattle.capture_laws.proofs.Format.{magic-early, link-early, header-units, capture-format, header-shows}
-use Rattle.capture_walk.specs.declared.types.Walk.{Walk}
-use Rattle.capture_walk.specs.declared.types.Step.{Step}
-use Rattle.capture_walk.specs.Format.{formatFault}
-use Rattle.capture_walk.specs.State as walk
-use Rattle.capture_walk.specs.Contract as walking
+use Rattle.capture_steps.specs.declared.types.Walk.{Walk}
+use Rattle.capture_steps.specs.declared.types.Step.{Step}
+use Rattle.capture_steps.specs.Format.{formatFault}
+use Rattle.capture_steps.specs.State as walk
+use Rattle.capture_steps.specs.Contract as walking
 use Rattle.capture_walk.specs.Contract.{Stood, Stepped}
-use Rattle.capture_walk.proofs.Use.{none-whole}
+use Rattle.capture_steps.proofs.Use.{none-whole}
 use Rattle.capture_counts.specs.declared.Tally.{Tally}
 use Rattle.capture_counts.proofs.Laws.{counts-none}
 use Rattle.capture.specs.declared.Meter.{Meter}

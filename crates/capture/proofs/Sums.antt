@@ -11,11 +11,11 @@ use Rattle.rules.specs.Capture.{units, frameCount, skippedCount, tooManyUnits, 
 use Rattle.capture_laws.proofs.Format.{none-both, capture-format}
 use Rattle.capture_laws.proofs.Bounds.{frame-count-few, skipped-few, bad-few}
 use Rattle.capture_cells.specs.declared.Cell.{Cell}
-use Rattle.capture_walk.specs.declared.types.Walk.{Walk}
-use Rattle.capture_walk.specs.Format.{formatFault, wholeCells}
-use Rattle.capture_walk.specs.State as walk
+use Rattle.capture_steps.specs.declared.types.Walk.{Walk}
+use Rattle.capture_steps.specs.Format.{formatFault, wholeCells}
+use Rattle.capture_steps.specs.State as walk
 use Rattle.capture_walk.specs.Contract.{Asks}
-use Rattle.capture_walk.proofs.Use.{says-fed, says-clear, says-none, says-frames, says-skipped, clear-long, whole-few}
+use Rattle.capture_steps.proofs.Use.{says-fed, says-clear, says-none, says-frames, says-skipped, clear-long, whole-few}
 use Rattle.capture_units.specs.Units.{ofPid, unitsIn}
 use Rattle.capture_units.proofs.Steps.{totals-exact}
 use Rattle.capture_units.proofs.Laws.{units-cells, bad-all, pid-few}

@@ -10,11 +10,11 @@ use Rattle.rules.specs.Opening.{openingFault}
 use Rattle.rules.specs.Capture.{captureFault}
 use Rattle.capture_cells.specs.declared.Cell.{Cell}
 use Rattle.capture_cells.specs.Cells.{head}
-use Rattle.capture_walk.specs.declared.types.Walk.{Walk}
-use Rattle.capture_walk.specs.Format.{formatFault, wholeCells}
-use Rattle.capture_walk.specs.State as walk
-use Rattle.capture_walk.specs.Contract.{Gains, Level, Halts}
-use Rattle.capture_walk.proofs.Use.{says-clear, clear-long, whole-few}
+use Rattle.capture_steps.specs.declared.types.Walk.{Walk}
+use Rattle.capture_steps.specs.Format.{formatFault, wholeCells}
+use Rattle.capture_steps.specs.State as walk
+use Rattle.capture_steps.specs.Contract.{Gains, Level, Halts}
+use Rattle.capture_steps.proofs.Use.{says-clear, clear-long, whole-few}
 use Rattle.capture_units.specs.Units.{nineIn}
 use Rattle.capture_units.proofs.Laws.{nine-level, on-nothing, on-shown, on-whole, on-cells, on-refused}
 use Rattle.capture_counts.specs.declared.Tally.{Tally}

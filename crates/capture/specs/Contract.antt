@@ -14,11 +14,11 @@ use Rattle.rules.specs.Capture as rule
 use Rattle.rules.specs.Capture.{frameCount, skippedCount, badCount, captureFault, captureInside}
 use Rattle.rules.specs.Seal.{captureAnswer}
 use Rattle.capture_cells.specs.declared.Cell.{Cell}
-use Rattle.capture_walk.specs.declared.types.Walk.{Walk}
-use Rattle.capture_walk.specs.declared.types.Event.{Event}
-use Rattle.capture_walk.specs.Format.{wholeCells}
-use Rattle.capture_walk.specs.State as walk
-use Rattle.capture_walk.specs.Contract.{Tells}
+use Rattle.capture_steps.specs.declared.types.Walk.{Walk}
+use Rattle.capture_steps.specs.declared.types.Event.{Event}
+use Rattle.capture_steps.specs.Format.{wholeCells}
+use Rattle.capture_steps.specs.State as walk
+use Rattle.capture_steps.specs.Contract.{Tells}
 use Rattle.capture_units.specs.declared.Units.{Units}
 use Rattle.capture_units.specs.Units.{ofPid}
 use Rattle.capture_units.specs.State as table

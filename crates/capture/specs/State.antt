@@ -7,9 +7,9 @@ use Rattle.rules.specs.declared.Opening.{Opening}
 use Rattle.rules.specs.Refusals.{none, fault, _orElse_}
 use Rattle.rules.specs.Opening.{openingFault}
 use Rattle.rules.specs.Capture.{captureFault}
-use Rattle.capture_walk.specs.declared.types.Walk.{Walk}
-use Rattle.capture_walk.specs.Format.{wholeCells}
-use Rattle.capture_walk.specs.State as walk
+use Rattle.capture_steps.specs.declared.types.Walk.{Walk}
+use Rattle.capture_steps.specs.Format.{wholeCells}
+use Rattle.capture_steps.specs.State as walk
 use Rattle.capture_counts.specs.declared.Tally.{Tally}
 use Rattle.capture_counts.specs.Counts.{Counts}
 

@@ -1,7 +1,7 @@
 // The capture side of a sample: the walk finds frames and cells in pieces that are cut anywhere, and the cells of
 // PID make units. Its state is four lent arrays: the walk's words and collected bytes, the side's own numbers, and
 // the table of units. Every call is safe on any contents of them.
-ghost use Rattle.capture_walk.specs.Contract.{Fits};
+ghost use Rattle.capture_steps.specs.Contract.{Fits};
 ghost use Rattle.capture.specs.Contract.{Opened, FeedPost, SumsUp, Takes, Goes, Replies, summaryOf, totalsIn};
 ghost use mathlib.Core.Path.{_≡_};
 ghost use Rattle.capture.specs.State.{arraysOf};

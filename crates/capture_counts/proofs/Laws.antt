@@ -17,8 +17,8 @@ use Rattle.rules.proofs.Laws.Lists.{both, count-append, count-few}
 use Rattle.capture_laws.proofs.Onward.{from-split}
 use Rattle.capture_cells.specs.declared.Cell.{Cell}
 use Rattle.capture_cells.specs.Cells.{cellIn, cellOf}
-use Rattle.capture_walk.specs.Format.{cellsFrom}
-use Rattle.capture_walk.proofs.Lists.{cells-more, from-cells, map-append}
+use Rattle.capture_steps.specs.Format.{cellsFrom}
+use Rattle.capture_steps.proofs.Lists.{cells-more, from-cells, map-append}
 use Rattle.capture_units.specs.declared.Units.{Units}
 use Rattle.capture_units.specs.Units.{isOf, seen, allOf, fromSound, beforeSound, ofPid, badIn, arrivalsAfter, arrivals}
 use Rattle.capture_units.specs.Units.{beginnings, nineIn}

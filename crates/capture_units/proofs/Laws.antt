@@ -27,10 +27,10 @@ use Rattle.capture_laws.proofs.Begins.{units-grow}
 use Rattle.capture_laws.proofs.Bounds.{only-few}
 use Rattle.capture_cells.specs.declared.Cell.{Cell}
 use Rattle.capture_cells.specs.Cells.{cellIn, cellOf, head}
-use Rattle.capture_walk.specs.Format.{formatFault, shownCells, wholeCells}
-use Rattle.capture_walk.specs.declared.types.Walk.{Walk}
-use Rattle.capture_walk.specs.Contract.{Gains, Level, Halts, again, surplus, silent}
-use Rattle.capture_walk.proofs.Lists.{shown-of, whole-of, map-append, heads}
+use Rattle.capture_steps.specs.Format.{formatFault, shownCells, wholeCells}
+use Rattle.capture_steps.specs.declared.types.Walk.{Walk}
+use Rattle.capture_steps.specs.Contract.{Gains, Level, Halts, again, surplus, silent}
+use Rattle.capture_steps.proofs.Lists.{shown-of, whole-of, map-append, heads}
 use Rattle.capture_units.specs.Units.{asKnown, seen, isOf, allOf, fromSound, beforeSound, ofPid, badIn, marks}
 use Rattle.capture_units.specs.Units.{measured, arrivalsAfter, arrivals}
 use Rattle.capture_units.specs.Units.{unitsOf, beginnings, unitsIn, nineIn, arrivalAfter}

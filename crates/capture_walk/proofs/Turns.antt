@@ -3,22 +3,24 @@ use Prim.Native.Nat.{ℕ, _+_, _-_, _≤_, _<_}
 use Prim.{tt}
 use native.Mathlib.Omega.{arith}
 use native.Mathlib.Decide.{decLt}
-use mathlib.Core.Path.{_≡_, refl, sym, ap, subst, _∙_}
-use mathlib.Core.List.{List, [], _∷_, _++_, append-nil, append-assoc, map}
+use mathlib.Core.Path.{_≡_, sym, ap, subst, _∙_}
+use mathlib.Core.List.{List, [], _++_, append-nil, append-assoc, map}
 use lib.ListN.{length, take, drop}
 use lib.Seq.{take-add, drop-drop}
 use Rattle.rules.specs.Refusals.{none}
 use Rattle.capture_cells.specs.declared.Cell.{Cell}
 use Rattle.capture_cells.specs.Cells.{head}
-use Rattle.capture_walk.specs.declared.types.Walk.{Walk}
-use Rattle.capture_walk.specs.declared.types.Event.{Event}
-use Rattle.capture_walk.specs.declared.types.Event.the-variants.{Nothing, Shown, Whole, Cells, Refused}
-use Rattle.capture_walk.specs.declared.types.Step.{Step}
-use Rattle.capture_walk.specs.Format.{formatFault, shownCells, wholeCells}
-use Rattle.capture_walk.specs.State.{Stands}
-use Rattle.capture_walk.specs.Contract.{Gains, Level, silent, Tells, Calm, Stood, Turned, Stepped}
-use Rattle.capture_walk.proofs.Pieces.{refuse-again, limit, many-taken}
-use Rattle.capture_walk.proofs.Use.{says-none}
+use Rattle.capture_steps.specs.declared.types.Walk.{Walk}
+use Rattle.capture_steps.specs.declared.types.Event.{Event}
+use Rattle.capture_steps.specs.declared.types.Event.the-variants.{Nothing, Shown, Whole, Cells, Refused}
+use Rattle.capture_steps.specs.declared.types.Step.{Step}
+use Rattle.capture_steps.specs.Format.{formatFault, shownCells, wholeCells}
+use Rattle.capture_steps.specs.State.{Stands}
+use Rattle.capture_steps.specs.Contract.{Gains, Level, silent, Tells, Calm}
+use Rattle.capture_walk.specs.Contract.{Stood, Turned, Stepped}
+use Rattle.capture_steps.proofs.Pieces.{many-taken}
+use Rattle.capture_steps.proofs.Use.{says-none}
+use Rattle.capture_walk.proofs.Standing.{refuse-again, limit}
 
 -- kept and w stand for the bytes mid, which show no more than those before; from byte i to byte at of a piece
 pub record Quiet (kept : List ℕ) (w : Walk) (i at : ℕ) (before mid : List ℕ) : Type 0 where

@@ -28,7 +28,7 @@ use Rattle.rules.proofs.Laws.Listed.{listed-in}
 use Rattle.capture_laws.proofs.UnitsMore.{allPackets, groups-endToEnd, rows-packets}
 use Rattle.rules.proofs.Laws.WhileFeeding.{index-numbered}
 use Rattle.index.specs.Counts.{NoNan, IndexFrom}
-use Rattle.capture_walk.specs.State as of-walk
+use Rattle.capture_steps.specs.State as of-walk
 use Rattle.capture.specs.declared.Summary.{Summary}
 use Rattle.capture.specs.declared.Totals as capture-totals
 use Rattle.capture.specs.State as side-capture

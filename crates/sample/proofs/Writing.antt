@@ -39,7 +39,7 @@ use Rattle.luma_scenes.proofs.Sample.{sample-holds}
 use Rattle.sealing.specs.Contract.{RecordWritten}
 use Rattle.luma_laws.proofs.Past.{length-repeats}
 use Rattle.capture_cells.specs.declared.Cell.{Cell}
-use Rattle.capture_walk.specs.Format.{wholeCells}
+use Rattle.capture_steps.specs.Format.{wholeCells}
 use Rattle.capture_units.specs.Units.{ofPid, unitsOf, unitsIn}
 use Rattle.capture_laws.proofs.UnitsMore.{allPackets, allLost}
 use Rattle.capture_units.proofs.More.{packets-some, cells-total, lost-small}

@@ -16,8 +16,8 @@ use Rattle.rules.specs.Survey.{goodOf, goodPackets}
 use Rattle.rules.proofs.Laws.Lists.{count-append, count-few}
 use Rattle.capture_cells.specs.declared.Cell.{Cell}
 use Rattle.capture_cells.specs.Cells.{cellIn, cellOf}
-use Rattle.capture_walk.specs.Format.{wholeCells, cellsFrom}
-use Rattle.capture_walk.proofs.Lists.{cells-more}
+use Rattle.capture_steps.specs.Format.{wholeCells, cellsFrom}
+use Rattle.capture_steps.proofs.Lists.{cells-more}
 use Rattle.survey.specs.State.{tally, countIn, Table}
 use Rattle.survey.specs.Contract.{Tallied}
 

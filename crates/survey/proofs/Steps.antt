@@ -20,13 +20,14 @@ use Rattle.rules.specs.declared.SurveyAnswer.{SurveyAnswer}
 use Rattle.rules.specs.declared.SurveyAnswer.the-variants.{Most, Refused}
 use Rattle.rules.proofs.Laws.Listed.{Numbered, listed-in, format}
 use Rattle.capture_laws.proofs.Survey.{with-most-is, most-alike}
-use Rattle.capture_walk.specs.declared.types.Walk.{Walk}
-use Rattle.capture_walk.specs.declared.types.Step.{Step}
-use Rattle.capture_walk.specs.Format.{formatFault, wholeCells}
-use Rattle.capture_walk.specs.State as walk
-use Rattle.capture_walk.specs.Contract.{Stood, Stepped, wholeOf, Asks, Stored}
-use Rattle.capture_walk.proofs.Use.{says-fault, says-clear, says-fed, clear-before, clear-long, tells-whole}
-use Rattle.capture_walk.proofs.Use.{none-whole, whole-few}
+use Rattle.capture_steps.specs.declared.types.Walk.{Walk}
+use Rattle.capture_steps.specs.declared.types.Step.{Step}
+use Rattle.capture_steps.specs.Format.{formatFault, wholeCells}
+use Rattle.capture_steps.specs.State as walk
+use Rattle.capture_steps.specs.Contract.{wholeOf, Stored}
+use Rattle.capture_walk.specs.Contract.{Stood, Stepped, Asks}
+use Rattle.capture_steps.proofs.Use.{says-fault, says-clear, says-fed, clear-before, clear-long, tells-whole}
+use Rattle.capture_steps.proofs.Use.{none-whole, whole-few}
 use Rattle.survey.specs.State.{stateOf, tally, countIn, Surveys, Means}
 use Rattle.survey.specs.Contract.{Opened, FeedPost, AskPost, Tallied, Goes, Replies}
 use Rattle.survey.proofs.Counts.{tally-good}

@@ -10,8 +10,8 @@ use Rattle.rules.specs.declared.SurveyAnswer.the-variants.{Most, Refused}
 use Rattle.rules.specs.Refusals.{InTable}
 use Rattle.rules.specs.Survey.{identifiers, surveyFeedAnswer, surveyAnswer}
 use Rattle.capture_cells.specs.declared.Cell.{Cell}
-use Rattle.capture_walk.specs.declared.types.Walk.{Walk}
-use Rattle.capture_walk.specs.State.{Stands}
+use Rattle.capture_steps.specs.declared.types.Walk.{Walk}
+use Rattle.capture_steps.specs.State.{Stands}
 use Rattle.survey.specs.State.{State, stateOf, Table, Surveys, Means}
 
 -- `open`

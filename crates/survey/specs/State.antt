@@ -9,9 +9,9 @@ use Rattle.rules.specs.Bytes.{count}
 use Rattle.rules.specs.Refusals.{none}
 use Rattle.rules.specs.Packets.{isGood}
 use Rattle.capture_cells.specs.declared.Cell.{Cell}
-use Rattle.capture_walk.specs.declared.types.Walk.{Walk}
-use Rattle.capture_walk.specs.Format.{formatFault, wholeCells}
-use Rattle.capture_walk.specs.State as of-walk
+use Rattle.capture_steps.specs.declared.types.Walk.{Walk}
+use Rattle.capture_steps.specs.Format.{formatFault, wholeCells}
+use Rattle.capture_steps.specs.State as of-walk
 
 pub record State : Type 0 where
   pub walk : List ℕ

@@ -5,7 +5,7 @@ ghost use Prim.Native.Nat.{_+_, _*_, _≤_, _<_};
 ghost use lib.ListN.{length};
 ghost use Rattle.rules.specs.Packets.{isGood};
 ghost use Rattle.rules.specs.Survey.{HasMost, identifiers};
-ghost use Rattle.capture_walk.specs.Contract.{Fits, cellsOf, wholeOf};
+ghost use Rattle.capture_steps.specs.Contract.{Fits, cellsOf, wholeOf};
 ghost use Rattle.survey.specs.State.{countIn};
 ghost use Rattle.survey.specs.Contract.{Tallied};
 use capture_cells::Cell;

@@ -1,7 +1,8 @@
 use Prim.Native.Nat.{_-_}
 use native.Mathlib.Omega.{arith}
 use lib.ListN.{length, length-drop}
-use Rattle.capture_walk.proofs.Pieces.{part-rest, turned, nonzero}
+use Rattle.capture_steps.proofs.Pieces.{part-rest, nonzero}
+use Rattle.capture_walk.proofs.Standing.{turned}
 use borrow.Author.Needs.{needs}
 use Rattle.capture_walk.proofs.turn.Statement.{statement}
 use Rattle.capture_walk.proofs.turn.Tie as tie

@@ -3,7 +3,7 @@ use Prim.Native.Nat.{_+_, _-_, _*_, _≤_}
 use native.Mathlib.Omega.{arith}
 use mathlib.Core.Path.{_≡_, refl}
 use lib.ListN.{drop}
-use Rattle.capture_walk.specs.Format.{cellsFrom}
+use Rattle.capture_steps.specs.Format.{cellsFrom}
 use Rattle.survey.specs.Contract.{Tallied}
 use Rattle.survey.proofs.Counts.{run-none, run-more, run-all}
 use borrow.Author.Needs.{needs}

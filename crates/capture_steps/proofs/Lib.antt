@@ -1,0 +1,10 @@
+pub mod Copy
+pub mod Lists
+pub mod Fits
+pub mod Pieces
+pub mod Front
+pub mod Ends
+pub mod Files
+pub mod Cells
+pub mod Whole
+pub mod Use
