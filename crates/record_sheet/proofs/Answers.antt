@@ -15,11 +15,11 @@ use Rattle.rules.specs.Reading.{headerOf, unitAt, sceneAt, readingFault}
 use Rattle.rules.specs.Seal.{noRoom, over}
 use Rattle.record_reader.proofs.Answers.{AcceptedAs}
 use Rattle.words.proofs.Behind.{over-written}
-use Rattle.record_sheet.specs.Put.{Put, linesTo}
+use Rattle.record_lines.specs.Put.{Put, linesTo}
 use Rattle.rules.specs.Sheet.{headerLine, unitLine, sceneLine, blankLine, recordLines, lineCount, pagesFor, blanksFor}
 use Rattle.rules.specs.Sheet.{sheetLines, sheetOf, sheetLength, sheetAnswer, sheetBuffer}
 use Rattle.rules.proofs.Laws.Lists.{endToEnd-append}
-use Rattle.record_sheet.proofs.Puts.{join, same-put}
+use Rattle.record_lines.proofs.Puts.{join, same-put}
 
 -- ---- the lines of u units and v scenes, and the blank ones
 

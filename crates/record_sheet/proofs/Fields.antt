@@ -16,7 +16,7 @@ use Rattle.rules.specs.Digits.{decimalIn, decimal, hexDigit, hexIn}
 use Rattle.rules.specs.Sheet.{aligned, columns, headerFields, unitFields, sceneFields, ending, line}
 use Rattle.rules.specs.Sheet.{headerLine, unitLine, sceneLine}
 use Rattle.record_laws.proofs.Record.{UnitFits, SceneFits}
-use Rattle.record_sheet.specs.Put.{Fits}
+use Rattle.record_lines.specs.Put.{Fits}
 use Rattle.record_sheet.proofs.Theorems.{fits, header-columns, unit-columns, scene-columns}
 use Rattle.record_sheet.proofs.Theorems.{FirstFits, first-counts, unit-times, unit-counts, unit-damaged}
 use Rattle.record_sheet.proofs.Theorems.{scene-counts}

@@ -1,5 +1,4 @@
 -- The laws of the sheet.
-pub mod Puts
 pub mod Answers
 pub mod Theorems
 pub mod Fields

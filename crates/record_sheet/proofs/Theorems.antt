@@ -27,8 +27,8 @@ use Rattle.record_laws.proofs.Record.{UnitFits, SceneFits}
 use Rattle.record_laws.proofs.Words.{EachByte, word32-fits, word64-fits}
 use Rattle.record_reader.proofs.Answers.{fault-allowed}
 use Rattle.record_text.proofs.Texts.{length-hex}
-use Rattle.record_sheet.specs.Put.{Fits}
-use Rattle.record_sheet.proofs.Puts.{few-digits, length-aligned, figure, time}
+use Rattle.record_lines.specs.Put.{Fits}
+use Rattle.record_lines.proofs.Puts.{few-digits, length-aligned, figure, time}
 
 -- ---- fields
 

@@ -3,11 +3,11 @@ use native.Mathlib.Omega.{arith}
 use mathlib.Core.Path.{_≡_, refl}
 use Prim.Native.Nat.{_-_, _*_, _≤_}
 use lib.ListN.{length, take}
-use Rattle.record_sheet.specs.Put.{Put}
+use Rattle.record_lines.specs.Put.{Put}
 use Rattle.rules.specs.Sheet.{columns}
-use Rattle.record_sheet.proofs.Puts.{all-at, part-fits, no-columns, column-more, all-columns}
-use Rattle.record_sheet.proofs.put_numbers.Statement.{statement}
-use Rattle.record_sheet.proofs.put_numbers.Tie as tie
+use Rattle.record_lines.proofs.Puts.{all-at, part-fits, no-columns, column-more, all-columns}
+use Rattle.record_lines.proofs.put_numbers.Statement.{statement}
+use Rattle.record_lines.proofs.put_numbers.Tie as tie
 
 abbrev Inv-loop : tie.InvT-loop
 Inv-loop buffer₀ at width numbers end₀ i₀ buffer end i =

@@ -3,10 +3,10 @@ use native.Mathlib.Omega.{arith}
 use mathlib.Core.Path.{_≡_, refl}
 use Prim.Native.Nat.{_+_, _-_, _≤_}
 use lib.ListN.{length, length-set, replicate}
-use Rattle.record_sheet.specs.Put.{Put}
-use Rattle.record_sheet.proofs.Puts.{put-none, space-more, same-put}
-use Rattle.record_sheet.proofs.put_spaces.Statement.{statement}
-use Rattle.record_sheet.proofs.put_spaces.Tie as tie
+use Rattle.record_lines.specs.Put.{Put}
+use Rattle.record_lines.proofs.Puts.{put-none, space-more, same-put}
+use Rattle.record_lines.proofs.put_spaces.Statement.{statement}
+use Rattle.record_lines.proofs.put_spaces.Tie as tie
 
 abbrev Inv-loop : tie.InvT-loop
 Inv-loop buffer₀ at n i₀ buffer i =

@@ -1,8 +1,8 @@
 -- `end_line` meets its contract. Assumes nothing.
 use borrow.Author.Needs.{needs}
-use Rattle.record_sheet.proofs.Puts.{end-put}
-use Rattle.record_sheet.proofs.end_line.Statement.{statement}
-use Rattle.record_sheet.proofs.end_line.Tie as tie
+use Rattle.record_lines.proofs.Puts.{end-put}
+use Rattle.record_lines.proofs.end_line.Statement.{statement}
+use Rattle.record_lines.proofs.end_line.Tie as tie
 
 sub-put-spaces : tie.Need-sub-put-spaces
 sub-put-spaces c = search needs

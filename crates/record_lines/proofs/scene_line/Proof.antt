@@ -4,9 +4,9 @@ use borrow.Author.Needs.{needs}
 use mathlib.Core.Path.{refl}
 use Rattle.rules.specs.Sheet.{sceneFields, sceneLine}
 use Rattle.rules.specs.Bytes.{empty}
-use Rattle.record_sheet.proofs.Puts.{figure, line-put}
-use Rattle.record_sheet.proofs.scene_line.Statement.{statement}
-use Rattle.record_sheet.proofs.scene_line.Tie as tie
+use Rattle.record_lines.proofs.Puts.{figure, line-put}
+use Rattle.record_lines.proofs.scene_line.Statement.{statement}
+use Rattle.record_lines.proofs.scene_line.Tie as tie
 
 cast-t9 : tie.Need-cast-t9
 cast-t9 c = search needs

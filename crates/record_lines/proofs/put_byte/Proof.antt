@@ -1,8 +1,8 @@
 -- `put_byte` meets its contract. Assumes nothing.
 use borrow.Author.Needs.{needs}
-use Rattle.record_sheet.proofs.Puts.{put-byte}
-use Rattle.record_sheet.proofs.put_byte.Statement.{statement}
-use Rattle.record_sheet.proofs.put_byte.Tie as tie
+use Rattle.record_lines.proofs.Puts.{put-byte}
+use Rattle.record_lines.proofs.put_byte.Statement.{statement}
+use Rattle.record_lines.proofs.put_byte.Tie as tie
 
 slice-write-buffer : tie.Need-slice-write-buffer
 slice-write-buffer c = search needs

@@ -1,9 +1,9 @@
 -- `put_number` meets its contract. Assumes nothing.
 use native.Mathlib.Omega.{arith}
 use borrow.Author.Needs.{needs}
-use Rattle.record_sheet.proofs.Puts.{digits-fit, number-put}
-use Rattle.record_sheet.proofs.put_number.Statement.{statement}
-use Rattle.record_sheet.proofs.put_number.Tie as tie
+use Rattle.record_lines.proofs.Puts.{digits-fit, number-put}
+use Rattle.record_lines.proofs.put_number.Statement.{statement}
+use Rattle.record_lines.proofs.put_number.Tie as tie
 
 decimal-requires : tie.Need-decimal-requires
 decimal-requires c κs = search needs

@@ -4,13 +4,13 @@ use borrow.Author.Needs.{needs}
 use mathlib.Core.Path.{_≡_, refl}
 use Prim.Native.Nat.{ℕ, _-_, _*_, _≤_}
 use lib.ListN.{length}
-use Rattle.record_sheet.specs.Put.{Put, linesTo}
+use Rattle.record_lines.specs.Put.{Put, linesTo}
 use Rattle.rules.specs.Record.{sceneOffset}
 use Rattle.rules.specs.Reading.{sceneAt}
 use Rattle.rules.specs.Sheet.{sceneLine}
-use Rattle.record_sheet.proofs.Puts.{no-lines, line-more}
-use Rattle.record_sheet.proofs.put_scenes.Statement.{statement}
-use Rattle.record_sheet.proofs.put_scenes.Tie as tie
+use Rattle.record_lines.proofs.Puts.{no-lines, line-more}
+use Rattle.record_lines.proofs.put_scenes.Statement.{statement}
+use Rattle.record_lines.proofs.put_scenes.Tie as tie
 
 abbrev Inv-loop : tie.InvT-loop
 Inv-loop buffer₀ at bytes units scenes end₀ j₀ buffer end j =

@@ -1,8 +1,8 @@
 -- `put_bits` meets its contract. Assumes nothing.
 use borrow.Author.Needs.{needs}
-use Rattle.record_sheet.proofs.Puts.{bits-put}
-use Rattle.record_sheet.proofs.put_bits.Statement.{statement}
-use Rattle.record_sheet.proofs.put_bits.Tie as tie
+use Rattle.record_lines.proofs.Puts.{bits-put}
+use Rattle.record_lines.proofs.put_bits.Statement.{statement}
+use Rattle.record_lines.proofs.put_bits.Tie as tie
 
 put-spaces-requires : tie.Need-put-spaces-requires
 put-spaces-requires c κs = search needs

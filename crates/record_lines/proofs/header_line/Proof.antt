@@ -4,9 +4,9 @@ use borrow.Author.Needs.{needs}
 use mathlib.Core.Path.{refl}
 use Rattle.rules.specs.Sheet.{headerFields, headerLine}
 use Rattle.rules.specs.Bytes.{empty}
-use Rattle.record_sheet.proofs.Puts.{figure, join, line-put}
-use Rattle.record_sheet.proofs.header_line.Statement.{statement}
-use Rattle.record_sheet.proofs.header_line.Tie as tie
+use Rattle.record_lines.proofs.Puts.{figure, join, line-put}
+use Rattle.record_lines.proofs.header_line.Statement.{statement}
+use Rattle.record_lines.proofs.header_line.Tie as tie
 
 cast-t8 : tie.Need-cast-t8
 cast-t8 c = search needs

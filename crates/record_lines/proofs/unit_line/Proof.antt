@@ -5,10 +5,10 @@ use mathlib.Core.Bool.{true, false}
 use mathlib.Core.List.{append-nil}
 use Rattle.rules.specs.Sheet.{unitFields, unitLine}
 use Rattle.rules.specs.Bytes.{empty}
-use Rattle.record_sheet.proofs.Puts.{figure, time, join, same-put, line-put}
+use Rattle.record_lines.proofs.Puts.{figure, time, join, same-put, line-put}
 use borrow.Author.Needs.{needs}
-use Rattle.record_sheet.proofs.unit_line.Statement.{statement}
-use Rattle.record_sheet.proofs.unit_line.Tie as tie
+use Rattle.record_lines.proofs.unit_line.Statement.{statement}
+use Rattle.record_lines.proofs.unit_line.Tie as tie
 
 cast-t15 : tie.Need-cast-t15
 cast-t15 c = search needs

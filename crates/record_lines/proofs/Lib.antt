@@ -1,0 +1,2 @@
+-- Texts that are put one behind the other.
+pub mod Puts
