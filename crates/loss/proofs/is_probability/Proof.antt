@@ -1,6 +1,7 @@
 -- `is_probability` meets its contract.
 use Rattle.rules.specs.EffectiveLoss.{isProbability}
-use Rattle.loss.proofs.Steps.{zero-is, one-is}
+use Rattle.loss_spread.proofs.Steps.{one-is}
+use Rattle.loss.proofs.Steps.{zero-is}
 use Rattle.loss.proofs.is_probability.Statement.{statement}
 use Rattle.loss.proofs.is_probability.Tie as tie
 

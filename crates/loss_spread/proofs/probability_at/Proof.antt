@@ -3,9 +3,9 @@ use mathlib.Core.Path.{sym, _∙_}
 use lib.Ieee.{nan}
 use lib.ListN.{List·getD-eq-default}
 use borrow.Author.Needs.{needs}
-use Rattle.loss.proofs.Steps.{one-is, default}
-use Rattle.loss.proofs.probability_at.Statement.{statement}
-use Rattle.loss.proofs.probability_at.Tie as tie
+use Rattle.loss_spread.proofs.Steps.{one-is, default}
+use Rattle.loss_spread.proofs.probability_at.Statement.{statement}
+use Rattle.loss_spread.proofs.probability_at.Tie as tie
 
 mul-result : tie.Need-mul-result
 mul-result c = search needs

@@ -4,8 +4,8 @@ use mathlib.Core.List.{List}
 use lib.Ieee.{Float}
 use borrow.Author.Needs.{needs}
 use Rattle.rules.specs.EffectiveLoss.{both}
-use Rattle.loss.proofs.put.Statement.{statement}
-use Rattle.loss.proofs.put.Tie as tie
+use Rattle.loss_spread.proofs.put.Statement.{statement}
+use Rattle.loss_spread.proofs.put.Tie as tie
 
 enum-known-loss : tie.Need-enum-known-loss
 enum-known-loss c = search needs

@@ -8,9 +8,10 @@ use mathlib.Core.Logic.{⊎-elim}
 use lib.ListN.{length, drop}
 use borrow.Author.Needs.{needs}
 use Rattle.rules.specs.EffectiveLoss.{both, unitLosses}
-use Rattle.loss.proofs.Steps.{left, taken, stopped, passed, ended, both-eq, unit-spread, unit-none, units-done}
-use Rattle.loss.proofs.spread.Statement.{statement}
-use Rattle.loss.proofs.spread.Tie as tie
+use Rattle.loss_spread.proofs.Steps.{left, taken, stopped, passed, ended, both-eq}
+use Rattle.loss_spread.proofs.Steps.{unit-spread, unit-none, units-done}
+use Rattle.loss_spread.proofs.spread.Statement.{statement}
+use Rattle.loss_spread.proofs.spread.Tie as tie
 
 abbrev Inv-loop2 : tie.InvT-loop2
 Inv-loop2 losses probabilities keys₀ plain₀ n i loss own rest₀ k₀ keys plain rest k =

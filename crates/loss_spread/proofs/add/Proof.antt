@@ -5,9 +5,9 @@ use mathlib.Core.Path.{_≡_, sym}
 use lib.ListN.{length, length-set}
 use borrow.Author.Needs.{needs}
 use Rattle.rules.specs.EffectiveLoss.{addedAt}
-use Rattle.loss.proofs.Steps.{added-none, added-more}
-use Rattle.loss.proofs.add.Statement.{statement}
-use Rattle.loss.proofs.add.Tie as tie
+use Rattle.loss_spread.proofs.Steps.{added-none, added-more}
+use Rattle.loss_spread.proofs.add.Statement.{statement}
+use Rattle.loss_spread.proofs.add.Tie as tie
 
 abbrev Inv-loop : tie.InvT-loop
 Inv-loop list₀ i k x j₀ list j = (i ≤ j) × (j ≤ k) × (length list ≡ length list₀) × (list ≡ addedAt i j x list₀)

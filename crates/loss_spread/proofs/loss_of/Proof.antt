@@ -1,8 +1,8 @@
 -- `loss_of` meets its contract.
 use Rattle.rules.specs.EffectiveLoss.{lossOf}
-use Rattle.loss.proofs.Steps.{half-is}
-use Rattle.loss.proofs.loss_of.Statement.{statement}
-use Rattle.loss.proofs.loss_of.Tie as tie
+use Rattle.loss_spread.proofs.Steps.{half-is}
+use Rattle.loss_spread.proofs.loss_of.Statement.{statement}
+use Rattle.loss_spread.proofs.loss_of.Tie as tie
 
 returns : tie.Need-returns
 unfolding lossOf

@@ -1,0 +1,2 @@
+-- The laws that the functions' proofs stand on.
+pub mod Steps
