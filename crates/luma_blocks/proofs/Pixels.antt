@@ -16,7 +16,7 @@ use Rattle.luma_laws.proofs.Pictures.{bytes-take, bytes-drop}
 use Rattle.luma_laws.proofs.Tally.{tally-append}
 use Rattle.luma_laws.specs.Tallies.{inBlock, blockTally}
 use Rattle.luma_laws.proofs.Blocks.{earlier, settled}
-use Rattle.luma_blocks.specs.Sums.{inColumn}
+use Rattle.luma_sums.specs.Sums.{inColumn}
 use Rattle.luma_blocks.specs.Pixels.{Finished, RowDone}
 use Rattle.luma_blocks.proofs.Rows.{bridge}
 

@@ -1,5 +1,5 @@
 -- From the runs of a row to the block sums of a picture. No code.
-use Prim.Native.Nat.{ℕ, _+_, _-_, _*_, _/_, _%_, _≤_, _<_}
+use Prim.Native.Nat.{ℕ, _+_, _*_, _/_, _%_, _≤_, _<_}
 use native.Mathlib.Omega.{arith}
 use native.Mathlib.Nat.{add-mul, mod-eq-of-lt, mul-add-mod-self-right}
 use mathlib.Core.Path.{_≡_, refl, ap, _∙_}
@@ -12,9 +12,9 @@ use Rattle.luma_blocks.specs.declared.Spot.{Spot}
 use Rattle.rules.specs.Bytes.{tally}
 use Rattle.luma_laws.proofs.Tally.{tally-append, tally-shift}
 use Rattle.luma_laws.specs.Tallies.{inBlock}
-use Rattle.luma_blocks.specs.Sums.{run, inColumn, Added, Both}
+use Rattle.luma_sums.specs.Sums.{run, inColumn, Added, Both}
 use Rattle.luma_blocks.specs.Rows.{SumsOf, Advanced, TwoNext, Going}
-use Rattle.luma_blocks.proofs.Runs.{column, run-length, run-split, row-gives}
+use Rattle.luma_sums.proofs.Runs.{column, run-length, row-gives}
 
 pub never : _≡_ {A = Bool} false true → ⊥
 never e = let z : _≡_ {A = ℕ} 0 1 = cc in omega arith

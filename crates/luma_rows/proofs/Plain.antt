@@ -13,16 +13,16 @@ use lib.Seq.{length-take-le, ext-getD}
 use borrow.Author.Count.{below-more}
 use borrow.Author.Tests.{eq-eqb, ne-eqb}
 use Rattle.rules.specs.declared.Opening.{Opening}
-use Rattle.rules.specs.Bytes.{tally, Bytes}
+use Rattle.rules.specs.Bytes.{tally}
 use Rattle.luma_laws.specs.Past.{previous}
 use Rattle.luma_laws.specs.Tallies.{inBlock, blockTally}
 use Rattle.luma_laws.proofs.Pictures.{bytes-append, bytes-take}
 use Rattle.luma_laws.proofs.Tally.{tally-cut, tally-shift}
 use Rattle.luma_laws.proofs.Blocks.{earlier, row-of, column-of}
-use Rattle.luma_blocks.specs.Sums.{run, inColumn}
+use Rattle.luma_sums.specs.Sums.{run, inColumn}
 use Rattle.luma_blocks.specs.Rows.{SumsOf}
 use Rattle.luma_blocks.specs.Pixels.{RowsOf}
-use Rattle.luma_tiles.specs.Bins.{Kept, CountedRow}
+use Rattle.luma_tiles.specs.Bins.{CountedRow}
 use Rattle.luma_changes.specs.declared.sums.Moves.{Moves}
 use Rattle.luma_changes.specs.Figures.{Compared}
 use Rattle.luma_state.specs.declared.Grid.{Grid}

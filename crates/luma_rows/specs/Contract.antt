@@ -3,7 +3,7 @@ use Prim.Native.Nat.{ℕ, _+_, _-_, _*_, _%_, _^_, _≤_, _<_}
 use mathlib.Core.Path.{_≡_}
 use mathlib.Core.List.{List, [], _++_}
 use lib.ListN.{length, getD, take}
-use Rattle.luma_blocks.specs.Sums.{run}
+use Rattle.luma_sums.specs.Sums.{run}
 use Rattle.luma_tiles.specs.Bins.{Counts, Kept}
 use Rattle.luma_changes.specs.declared.sums.Moves.{Moves}
 use Rattle.luma_state.specs.declared.Grid.{Grid}

@@ -19,8 +19,8 @@ use Rattle.rules.specs.Counted.{hits}
 use Rattle.luma_laws.specs.Tallies.{binTally}
 use Rattle.luma_laws.proofs.Tiles.{bin-more}
 use Rattle.luma_laws.proofs.Thirds.{tile-of}
-use Rattle.luma_blocks.specs.Sums.{run}
-use Rattle.luma_blocks.proofs.Runs.{run-length, run-split, column}
+use Rattle.luma_sums.specs.Sums.{run}
+use Rattle.luma_sums.proofs.Runs.{run-length, run-split, column}
 use Rattle.luma_tiles.specs.Bins.{Counts, Kept, Cleared, inTile, Grown, Three, CountedRow}
 
 pub kept-none : (base : ℕ) (a : List ℕ) → Kept base a a

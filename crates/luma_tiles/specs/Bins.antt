@@ -9,7 +9,7 @@ use Rattle.rules.specs.Bytes.{pick}
 use Rattle.rules.specs.Histograms.{inBin}
 use Rattle.rules.specs.Columns.{Boundary}
 use Rattle.luma_laws.specs.Tallies.{binTally}
-use Rattle.luma_blocks.specs.Sums.{run}
+use Rattle.luma_sums.specs.Sums.{run}
 
 -- The 144 counts from `base` on stand for the first pixels p of a picture: bin b of tile t is
 -- count 16 t + b, modulo 2 ^ 32

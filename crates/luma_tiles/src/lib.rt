@@ -5,7 +5,7 @@ ghost use mathlib.Core.List.{[], _∷_};
 ghost use Prim.Native.Nat.{_+_, _≤_, _<_};
 ghost use lib.ListN.{length};
 ghost use Rattle.rules.specs.Histograms.{bin};
-ghost use Rattle.luma_blocks.specs.Sums.{run};
+ghost use Rattle.luma_sums.specs.Sums.{run};
 ghost use Rattle.luma_tiles.specs.Bins.{Cleared, inTile, Grown, Three, Columns, CountedRow, Row};
 
 // How many bins a tile and a picture's nine tiles have, how many pictures the ring has, and the counts in all.

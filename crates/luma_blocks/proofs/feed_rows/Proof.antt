@@ -1,7 +1,6 @@
-use Prim.Native.Nat.{_+_, _-_, _≤_, _<_}
+use Prim.Native.Nat.{_-_}
 use native.Mathlib.Omega.{arith}
 use lib.ListN.{length}
-use borrow.Author.Needs.{needs}
 use Rattle.luma_blocks.specs.Rows.{Going}
 use Rattle.luma_blocks.proofs.Rows.{going-none}
 use Rattle.luma_blocks.proofs.feed_rows.Statement.{statement}

@@ -8,7 +8,7 @@ use lib.ListN.{length, getD, drop, length-drop}
 use lib.Seq.{take-suc, getD-drop}
 use Rattle.rules.specs.Bytes.{total}
 use Rattle.rules.proofs.Laws.Lists.{total-append}
-use Rattle.luma_blocks.specs.Sums.{run}
+use Rattle.luma_sums.specs.Sums.{run}
 
 -- one byte more of a run
 pub total-more : (s : List ℕ) (at i : ℕ) → at + i < length s →

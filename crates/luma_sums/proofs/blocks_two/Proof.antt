@@ -1,5 +1,5 @@
-use Rattle.luma_blocks.proofs.blocks_two.Statement.{statement}
-use Rattle.luma_blocks.proofs.blocks_two.Tie as tie
+use Rattle.luma_sums.proofs.blocks_two.Statement.{statement}
+use Rattle.luma_sums.proofs.blocks_two.Tie as tie
 
 whole-two-requires : tie.Need-whole-two-requires
 whole-two-requires c κs = rw (c .before .if1 .taken) at (c .before .before .before .pre)

@@ -3,11 +3,11 @@ use Prim.Native.Nat.{_+_, _-_, _*_, _≤_}
 use mathlib.Core.Path.{_≡_}
 use native.Mathlib.Omega.{arith}
 use native.Mathlib.Nat.{add-mul, zero-mul}
-use Rattle.luma_blocks.specs.Sums.{run, Both}
+use Rattle.luma_sums.specs.Sums.{run, Both}
 use borrow.Author.Needs.{needs}
-use Rattle.luma_blocks.proofs.Runs.{inside, both-none, both-more}
-use Rattle.luma_blocks.proofs.whole_two.Statement.{statement}
-use Rattle.luma_blocks.proofs.whole_two.Tie as tie
+use Rattle.luma_sums.proofs.Runs.{inside, both-none, both-more}
+use Rattle.luma_sums.proofs.whole_two.Statement.{statement}
+use Rattle.luma_sums.proofs.whole_two.Tie as tie
 
 abbrev Inv-loop : tie.InvT-loop
 Inv-loop sums₀ k s at below n from₀ under₀ j₀ sums from under j =

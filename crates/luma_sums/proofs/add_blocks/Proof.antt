@@ -1,7 +1,7 @@
 use native.Mathlib.Omega.{arith}
-use Rattle.luma_blocks.proofs.Runs.{added-past, from-edge}
-use Rattle.luma_blocks.proofs.add_blocks.Statement.{statement}
-use Rattle.luma_blocks.proofs.add_blocks.Tie as tie
+use Rattle.luma_sums.proofs.Runs.{added-past, from-edge}
+use Rattle.luma_sums.proofs.add_blocks.Statement.{statement}
+use Rattle.luma_sums.proofs.add_blocks.Tie as tie
 
 returns : tie.Need-returns
 returns c =

@@ -3,9 +3,9 @@ use Prim.Native.Nat.{_-_, _≤_}
 use mathlib.Core.Path.{_≡_}
 use native.Mathlib.Omega.{arith}
 use borrow.Author.Needs.{needs}
-use Rattle.luma_blocks.proofs.Laws.{Summed, summed-none, summed-more}
-use Rattle.luma_blocks.proofs.run_sum.Statement.{statement}
-use Rattle.luma_blocks.proofs.run_sum.Tie as tie
+use Rattle.luma_sums.proofs.Laws.{Summed, summed-none, summed-more}
+use Rattle.luma_sums.proofs.run_sum.Statement.{statement}
+use Rattle.luma_sums.proofs.run_sum.Tie as tie
 
 abbrev Inv-loop : tie.InvT-loop
 Inv-loop s at m sum₀ i₀ sum i = (i ≤ m) × Summed s at i sum

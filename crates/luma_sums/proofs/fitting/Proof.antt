@@ -1,7 +1,7 @@
 use native.Mathlib.Omega.{arith}
 use native.Mathlib.Nat.{div-mul-le-self, lt-div-mul-add, mul-le-mul, div-lt-iff-lt-mul}
-use Rattle.luma_blocks.proofs.fitting.Statement.{statement}
-use Rattle.luma_blocks.proofs.fitting.Tie as tie
+use Rattle.luma_sums.proofs.fitting.Statement.{statement}
+use Rattle.luma_sums.proofs.fitting.Tie as tie
 
 mul-if1 : tie.Need-mul-if1
 mul-if1 c = omega (arith, mul-le-mul (c .pre .2) (c .pre .1))

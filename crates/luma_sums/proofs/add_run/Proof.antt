@@ -1,11 +1,11 @@
-use Prim.Native.Nat.{_+_, _-_, _*_, _/_, _<_}
+use Prim.Native.Nat.{_+_, _*_, _/_, _<_}
 use mathlib.Core.Path.{_≡_}
 use native.Mathlib.Omega.{arith}
 use native.Mathlib.Nat.{zero-mul, div-le-self, div-mul-le-self, lt-div-mul-add}
-use Rattle.luma_blocks.proofs.Runs.{to-edge}
+use Rattle.luma_sums.proofs.Runs.{to-edge}
 use borrow.Author.Needs.{needs}
-use Rattle.luma_blocks.proofs.add_run.Statement.{statement}
-use Rattle.luma_blocks.proofs.add_run.Tie as tie
+use Rattle.luma_sums.proofs.add_run.Statement.{statement}
+use Rattle.luma_sums.proofs.add_run.Tie as tie
 
 add-blocks-requires : tie.Need-add-blocks-requires
 add-blocks-requires c κs =

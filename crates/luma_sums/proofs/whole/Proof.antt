@@ -2,11 +2,11 @@ use Prim.Native.Nat.{_+_, _-_, _*_, _≤_}
 use mathlib.Core.Path.{_≡_}
 use native.Mathlib.Omega.{arith}
 use native.Mathlib.Nat.{add-mul, zero-mul}
-use Rattle.luma_blocks.specs.Sums.{Blocks}
+use Rattle.luma_sums.specs.Sums.{Blocks}
 use borrow.Author.Needs.{needs}
-use Rattle.luma_blocks.proofs.Runs.{inside, blocks-none, blocks-more}
-use Rattle.luma_blocks.proofs.whole.Statement.{statement}
-use Rattle.luma_blocks.proofs.whole.Tie as tie
+use Rattle.luma_sums.proofs.Runs.{inside, blocks-none, blocks-more}
+use Rattle.luma_sums.proofs.whole.Statement.{statement}
+use Rattle.luma_sums.proofs.whole.Tie as tie
 
 abbrev Inv-loop : tie.InvT-loop
 Inv-loop sums₀ c k s at n from₀ j₀ sums from j = (j ≤ k) × (from ≡ at + j * n) × Blocks n c j s at sums₀ sums

@@ -1,5 +1,5 @@
-use Rattle.luma_blocks.proofs.blocks.Statement.{statement}
-use Rattle.luma_blocks.proofs.blocks.Tie as tie
+use Rattle.luma_sums.proofs.blocks.Statement.{statement}
+use Rattle.luma_sums.proofs.blocks.Tie as tie
 
 whole-requires : tie.Need-whole-requires
 whole-requires c κs = rw (c .before .if1 .taken) at (c .before .before .before .pre)

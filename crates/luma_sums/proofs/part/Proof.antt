@@ -1,9 +1,8 @@
-use Prim.Native.Nat.{_-_}
 use native.Mathlib.Omega.{arith}
-use Rattle.luma_blocks.proofs.Runs.{added-past, part-in}
+use Rattle.luma_sums.proofs.Runs.{added-past, part-in}
 use borrow.Author.Needs.{needs}
-use Rattle.luma_blocks.proofs.part.Statement.{statement}
-use Rattle.luma_blocks.proofs.part.Tie as tie
+use Rattle.luma_sums.proofs.part.Statement.{statement}
+use Rattle.luma_sums.proofs.part.Tie as tie
 
 run-sum-requires : tie.Need-run-sum-requires
 run-sum-requires c κs = (omega arith, c .before .before .pre .2 (c .if1 .taken))
