@@ -1,4 +1,3 @@
--- The laws of a script, and how a run goes on.
+-- How a run goes on.
 pub mod Laws
 pub mod Outcomes
-pub mod Examples

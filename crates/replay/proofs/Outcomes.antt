@@ -1,63 +1,23 @@
--- What one call writes: an answer's 17 bytes, a filled buffer, a seal's bytes; and the call
--- that a script has at a place.
+-- What a seal writes behind its answer, and the call that a script has at a place.
 use Prim.Native.Nat.{ℕ, _+_, _-_, _≤_, _<_}
 use native.Mathlib.Omega.{arith}
-use native.Mathlib.Numerals.{add-one}
 use mathlib.Core.Path.{_≡_, ap, _∙_}
-use mathlib.Core.List.{List, [], _∷_, _++_, append-nil}
-use lib.ListN.{length, take, drop, set, replicate, length-drop, length-replicate, replicate-append-replicate}
-use lib.ListN.{drop-of-length-le}
-use lib.Seq.{take-all, drop-at, length-take-le, take-suc-set}
+use mathlib.Core.List.{List, _∷_, _++_, append-nil}
+use lib.ListN.{length, take, drop, replicate, length-drop, length-replicate, drop-of-length-le}
+use lib.Seq.{take-all, drop-at, length-take-le}
 use borrow.Rule.Slice.PartMut.{midOf, postOf, putMid}
 use Rattle.rules.specs.declared.Answer.{Answer}
-use Rattle.rules.specs.Bytes.{bytesOf}
 use Rattle.rules.specs.Calls.{Question, seal, index, repeats, sealedInto, Call, feedCapture, feedLuma, ask, fed}
 use Rattle.rules.specs.Calls.{replied}
-use Rattle.words.specs.Written.{written}
-use Rattle.words.proofs.Laws.{written-sets, written-append}
 use Rattle.capture.specs.State.{Arrays}
 use Rattle.sample.specs.State.{State, Words, wordsOf}
 use Rattle.sample.specs.Contract.{SealPost}
 use Rattle.sample.specs.Calls.{feedsCapture, feedsLuma, asks}
-use Rattle.replay.specs.declared.reading.Head.{Head}
-use Rattle.replay.specs.declared.reading.Head.the-variants.{Capture, Luma, Seal, Index, Repeats}
-use Rattle.replay.specs.Script.{kindOf, firstOf, secondOf, code, threeWords, callsWith, replyRoom, sizeOf}
-use Rattle.replay.specs.Script.{FedCapture, FedLuma, Replied, CallPost}
-
--- an answer's three stores
-pub put-law : (out : List ℕ) (a : Answer) → 17 ≤ length out →
-    written 9 (bytesOf 8 (secondOf a)) (written 1 (bytesOf 8 (firstOf a)) (set out 0 (kindOf a)))
-    ≡ code a ++ drop 17 out
-unfolding bytesOf written code
-put-law out a h =
-    let k = kindOf a ∷ [] in
-    let x = bytesOf 8 (firstOf a) in
-    let y = bytesOf 8 (secondOf a) in
-    ap (λ (l : List ℕ). written 9 y (written 1 x l)) (written-sets 0 k out (omega arith))
-    ∙ ap (λ (l : List ℕ). written 9 y l) (written-append 0 k out (omega arith) x)
-    ∙ written-append 0 (k ++ x) out (omega arith) y
-
--- an index's four stores
-pub three-law : (out : List ℕ) (kind a b c : ℕ) → length out ≡ 25 →
-    written 17 (bytesOf 8 c) (written 9 (bytesOf 8 b) (written 1 (bytesOf 8 a) (set out 0 kind))) ≡
-    threeWords kind a b c
-unfolding bytesOf written threeWords
-three-law out kind a b c h =
-    let k = kind ∷ [] in
-    let x = bytesOf 8 a in
-    let y = bytesOf 8 b in
-    let z = bytesOf 8 c in
-    ap (λ (l : List ℕ). written 17 z (written 9 y (written 1 x l))) (written-sets 0 k out (omega arith))
-    ∙ ap (λ (l : List ℕ). written 17 z (written 9 y l)) (written-append 0 k out (omega arith) x)
-    ∙ ap (λ (l : List ℕ). written 17 z l) (written-append 0 (k ++ x) out (omega arith) y)
-    ∙ written-append 0 (k ++ x ++ y) out (omega arith) z
-    ∙ rw (drop-of-length-le out {i = 25} (omega arith))
-
--- one byte more is filled
-pub fill-law : (out : List ℕ) (i : ℕ) → i < length out → take i out ≡ replicate i 165 →
-    take (i + 1) (set out i 165) ≡ replicate (i + 1) 165
-fill-law out i h e = ap (λ (n : ℕ). take n (set out i 165)) (add-one i) ∙ take-suc-set out i 165 h
-    ∙ rw e (replicate-append-replicate i 1 165)
+use Rattle.replay_script.specs.declared.Head.{Head}
+use Rattle.replay_script.specs.declared.Head.the-variants.{Capture, Luma, Seal, Index, Repeats}
+use Rattle.replay_script.specs.Script.{callsWith, replyRoom, sizeOf}
+use Rattle.replay_outcomes.specs.Codes.{code}
+use Rattle.replay.specs.Run.{FedCapture, FedLuma, Replied, CallPost}
 
 -- the part from 17 on
 part-size : (out : List ℕ) → 17 ≤ length out → length (midOf 17 (length out - 17) out) ≡ length out - 17

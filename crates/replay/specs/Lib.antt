@@ -1,2 +1,2 @@
--- What a script says, and what running it comes to.
-pub mod Script
+-- What running a script comes to.
+pub mod Run

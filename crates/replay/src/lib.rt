@@ -1,33 +1,26 @@
-// Runs a whole list of calls that a script of bytes holds, all after one opening, and writes what they come to. A
-// script: the 32-bit little-endian words W, H, d, PID and the rule edition; then calls. A call: byte C or L, a 32-bit
-// length n and n bytes, a feed of that side; byte S and a 32-bit length n, a seal into n bytes of 0xA5; byte I, the
-// index; or byte R and 32-bit words a and b, the repeats of a passage. Where the script ends inside a call, or where
-// another byte stands, the list ends.
+// Runs a whole list of calls that a script of bytes holds (`replay_script`), all after one opening, and writes what
+// they come to (`replay_outcomes`).
 ghost use mathlib.Core.Path.{_≡_};
 ghost use Prim.Native.Nat.{_-_, _≤_};
 ghost use lib.ListN.{length, replicate};
 ghost use Rattle.rules.specs.Calls.{seal};
 ghost use Rattle.capture.specs.State.{arraysOf};
 ghost use Rattle.sample.specs.State.{sampleOf, wordsIn};
-ghost use Rattle.replay.specs.Script.{FedCapture, FedLuma, Replied, IndexReplied, CountReplied};
-ghost use Rattle.replay.specs.Script.{Called, CallPost, All, Replayed};
-
-mod reading;
-mod writing;
-
-use crate::reading::Head;
-use crate::reading::has_room;
-use crate::reading::head_at;
-use crate::reading::opening;
-use crate::reading::size;
-use crate::reading::wide;
-use crate::writing::fill;
-use crate::writing::put;
-use crate::writing::put_index;
+ghost use Rattle.replay.specs.Run.{FedCapture, FedLuma, Replied, IndexReplied, CountReplied};
+ghost use Rattle.replay.specs.Run.{Called, CallPost, All, Replayed};
 use capture::Numbers;
 use capture_units::Table;
 use capture_walk::Collected;
 use capture_walk::WalkWords;
+use replay_outcomes::fill;
+use replay_outcomes::put;
+use replay_outcomes::put_index;
+use replay_script::Head;
+use replay_script::has_room;
+use replay_script::head_at;
+use replay_script::opening;
+use replay_script::size;
+use replay_script::wide;
 
 // ---- one call, whose outcome takes all of out
 

@@ -6,7 +6,7 @@ use mathlib.Core.Path.{_≡_, refl, sym, ap, _∙_}
 use lib.ListN.{length}
 use borrow.Author.Needs.{needs}
 use borrow.Rule.Slice.PartMut.{midOf, same-len-mid, mid-len}
-use Rattle.replay.specs.Script.{sizeOf}
+use Rattle.replay_script.specs.Script.{sizeOf}
 use Rattle.replay.proofs.Laws.{Sofar, start, go-on, stops, full, finish}
 use Rattle.replay.proofs.all.Statement.{statement}
 use Rattle.replay.proofs.all.Tie as tie

@@ -3,8 +3,8 @@
 use native.Mathlib.Omega.{arith}
 use mathlib.Core.Path.{refl, sym, ap, _∙_}
 use borrow.Author.Needs.{needs}
-use Rattle.replay.specs.Script.{sizeOf}
-use Rattle.replay.proofs.Laws.{fits-capture, fits-luma}
+use Rattle.replay_script.specs.Script.{sizeOf}
+use Rattle.replay_script.proofs.Laws.{fits-capture, fits-luma}
 use Rattle.replay.proofs.Outcomes.{after-capture, after-luma, after-seal, after-index}
 use Rattle.replay.proofs.Outcomes.{after-repeats}
 use Rattle.replay.proofs.call.Statement.{statement}

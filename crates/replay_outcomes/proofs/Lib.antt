@@ -1,0 +1,3 @@
+-- The laws of outcomes as bytes.
+pub mod Laws
+pub mod Examples

@@ -1,0 +1,2 @@
+-- Outcomes as bytes.
+pub mod Codes

@@ -1,0 +1,2 @@
+-- What a script says.
+pub mod Script
