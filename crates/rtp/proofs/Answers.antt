@@ -1,38 +1,17 @@
--- What is answered, by what was tested.
-use Prim.Native.Nat.{ℕ, _*_, _≤_, _<_}
-use native.Mathlib.Omega.{arith}
+-- What is answered, by what was tested of the lists.
+use Prim.Native.Nat.{ℕ, _≤_}
 use mathlib.Core.Path.{_≡_, _∙_}
 use mathlib.Core.Bool.{Bool, true, false}
 use mathlib.Core.List.{List}
 use lib.ListN.{length}
 use lib.Dec.{eqb}
-use borrow.Author.Tests.{lt-ltb, le-ltb, eqb-true}
-use Rattle.rules.specs.declared.UnitRow.{UnitRow}
+use borrow.Author.Tests.{eqb-true}
 use Rattle.rules.specs.declared.Answer.{Answer}
-use Rattle.rules.specs.declared.Answer.the-variants.{Done, Refused}
+use Rattle.rules.specs.declared.Answer.the-variants.{Refused}
 use Rattle.rules.specs.Bytes.{within}
-use Rattle.rules.specs.Seal.{noRoom, over}
 use Rattle.rules.proofs.Laws.Lists.{both, inside}
 use Rattle.rules.specs.Rtp.{RtpLists, ordered, rtpUnitsIn, rtpUnits, goodLists, rtpFault, rtpAnswer, rtpBuffer, Read}
-use Rattle.rtp.specs.Steps.{rowsBytes, Told}
-
--- ---- the buffer's room
-
-module _ (us : List UnitRow) (buffer : List ℕ) (n : ℕ) (is-n : n ≡ length us) where
-  pub too-short : length buffer < 32 * n → Told us buffer (Refused 15 (32 * n)) buffer
-  unfolding noRoom
-  too-short h =
-      let e = lt-ltb (length buffer) (32 * length us) (omega arith) in
-      record { told = rw (e, is-n); left = rw e }
-
-  pub long-enough : 32 * n ≤ length buffer → (after : List ℕ) → after ≡ over (rowsBytes us) buffer →
-      Told us buffer (Done n) after
-  unfolding noRoom
-  long-enough h after k =
-      let e = le-ltb (length buffer) (32 * length us) (omega arith) in
-      record { told = rw (e, is-n); left = k ∙ rw e }
-
--- ---- the lists
+use Rattle.rtp_units.specs.Units.{Told}
 
 pub record Good (s : List ℕ) (l : RtpLists) : Type 0 where
   pub some : 1 ≤ length s

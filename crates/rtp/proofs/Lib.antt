@@ -1,9 +1,4 @@
--- The laws of places, order and units.
-pub mod Order
-pub mod Firsts
-pub mod Rows
-pub mod Merging
-pub mod Units
+-- The laws of lists, of places as whole numbers, and of the span.
 pub mod Signed
 pub mod Answers
 pub mod Span

@@ -11,7 +11,7 @@ use borrow.Author.Tests.{ltb-false}
 use Rattle.rules.specs.Bytes.{pick}
 use Rattle.rules.specs.Rtp.{wrapped, moved, origin, placesAfter, places, signed, signedAfter, signedPlaces}
 use Rattle.rules.specs.Rtp.{PlacesAreSigned}
-use Rattle.rtp.proofs.Firsts.{moved-low}
+use Rattle.rtp_order.proofs.Firsts.{moved-low}
 
 -- ---- sums of whole numbers, in another order
 

@@ -16,9 +16,9 @@ use Rattle.rules.specs.Cuts.{insert, sorted}
 use Rattle.rules.specs.Rtp.{RtpRow, RtpLists, placeOf, places, rowsFrom, firsts, ordered, missingAt, rtpRowAt}
 use Rattle.rules.specs.Rtp.{rtpRows, rtpIntoFirst, rtpGroups, rtpUnit, rtpUnitsIn, rtpUnits, OrderKeepsRows}
 use Rattle.rules.specs.Rtp.{SpanIsWhole}
-use Rattle.rtp.specs.Steps.{Rises, nothing, before, newPlaces}
-use Rattle.rtp.proofs.Order.{Side, low, high, side, insert-low, insert-high, rises-sorted}
-use Rattle.rtp.proofs.Firsts.{new-ordered}
+use Rattle.rtp_order.specs.Order.{Rises, nothing, before, newPlaces}
+use Rattle.rtp_order.proofs.Order.{Side, low, high, side, insert-low, insert-high, rises-sorted}
+use Rattle.rtp_order.proofs.Firsts.{new-ordered}
 
 -- ---- each row stands in the order as often as among those that stayed
 

@@ -1,26 +1,11 @@
-// Units of RTP packets, which come without cells: places from sequence numbers, rows in order, units behind markers.
+// Units of RTP packets, which come without cells: lists that are as they should be, rows in order (`rtp_order`), units
+// behind markers (`rtp_units`).
 ghost use mathlib.Core.Path.{_≡_};
 ghost use mathlib.Core.Bool.{true};
 ghost use Prim.Native.Nat.{_≤_};
 ghost use lib.ListN.{length};
-ghost use Rattle.rules.specs.Rtp.{ordered, rtpLists, goodLists, Read};
-ghost use Rattle.rtp.specs.Steps.{Kept};
+ghost use Rattle.rules.specs.Rtp.{rtpLists, goodLists, Read};
 use rules::Answer;
-
-mod arrival;
-mod sorting;
-mod unit_rows;
-
-// The rows that stay, in their order, at the front of `rows`; how many they are.
-fn put_in_order(sequence: &[u16], rows: &mut [u64], spare: &mut [u64]) -> usize
-    requires { ⌜ (1 ≤ length (now sequence)) × (length (now sequence) ≤ 4096) ⌝ }
-    requires { ⌜ (length (now rows) ≡ length (now sequence)) × (length (now spare) ≡ length (now sequence)) ⌝ }
-    ensures { λ r. ⌜ Kept (now (rows .exit)) (ordered (now (sequence .entry))) r ⌝ }
-{
-    arrival::put_rows(sequence, rows);
-    sorting::sort(rows, spare);
-    sorting::keep(rows)
-}
 
 // Whether there are 1 to 4,096 rows and the lists are equally long.
 fn good_lists(sequence: &[u16], marker: &[u8], time: &[u64], size: &[u16]) -> bool
@@ -48,8 +33,8 @@ fn read_good(
         (now (buffer .entry)) r (now (buffer .exit)) ⌝ }
 {
     let n = sequence.len();
-    let kept = put_in_order(sequence, &mut rows[..n], &mut spare[..n]);
-    unit_rows::put_units(marker, time, size, &rows[..kept], buffer)
+    let kept = rtp_order::put_in_order(sequence, &mut rows[..n], &mut spare[..n]);
+    rtp_units::put_units(marker, time, size, &rows[..kept], buffer)
 }
 
 // Reads RTP packets: unit rows go to the buffer's front, and their number is the answer; or 25, then 15.

@@ -7,7 +7,7 @@ use lib.ListN.{length, take, drop, length-take, length-append}
 use borrow.Author.Needs.{needs}
 use Rattle.rules.specs.Rtp.{rtpLists, ordered}
 use Rattle.rtp.proofs.Answers.{Good, good-lists, as-told}
-use Rattle.rtp.proofs.Units.{stayed}
+use Rattle.rtp_order.proofs.Stayed.{stayed}
 use Rattle.rtp.proofs.read_good.Statement.{statement}
 use Rattle.rtp.proofs.read_good.Tie as tie
 

@@ -1,0 +1,3 @@
+-- The laws of units.
+pub mod Units
+pub mod Room
