@@ -1,5 +1,4 @@
--- The laws of rows that are looked at one by one and of answers, and the theorems.
-pub mod Rows
+-- The laws of answers, and the theorems.
 pub mod Answers
 pub mod Theorems
 pub mod Promise

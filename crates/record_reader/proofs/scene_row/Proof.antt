@@ -4,7 +4,7 @@ use Prim.Native.Nat.{_+_, _*_}
 use mathlib.Core.Path.{ap, _∙_}
 use lib.ListN.{drop, length-take, length-drop}
 use Prim.Native.Nat.{ℕ}
-use Rattle.record_reader.proofs.Rows.{part}
+use Rattle.record_allowed.proofs.Rows.{part}
 use Rattle.rules.specs.Reading.{sceneIn}
 use Rattle.rules.specs.Record.{sceneOffset}
 use Rattle.rules.specs.Reading.{sceneAt, scenePlace}

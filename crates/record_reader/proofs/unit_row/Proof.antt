@@ -3,7 +3,7 @@ use native.Mathlib.Omega.{arith}
 use Prim.Native.Nat.{_+_, _*_}
 use mathlib.Core.Path.{ap, _∙_}
 use lib.ListN.{length-take, length-drop}
-use Rattle.record_reader.proofs.Rows.{part}
+use Rattle.record_allowed.proofs.Rows.{part}
 use Rattle.rules.specs.Reading.{unitIn}
 use Rattle.rules.specs.Reading.{unitPlace, unitAt}
 use Rattle.record_reader.proofs.unit_row.Statement.{statement}

@@ -2,10 +2,10 @@
 use mathlib.Core.Path.{refl}
 use native.Mathlib.Omega.{arith}
 use borrow.Author.Tests.{not-true, not-false}
-use Rattle.record_reader.proofs.Answers.{no-header, long, no-units, all-rows}
+use Rattle.record_allowed.proofs.Tests.{no-header, long, no-units, all-rows}
 use borrow.Author.Needs.{needs}
-use Rattle.record_reader.proofs.allowed.Statement.{statement}
-use Rattle.record_reader.proofs.allowed.Tie as tie
+use Rattle.record_allowed.proofs.allowed.Statement.{statement}
+use Rattle.record_allowed.proofs.allowed.Tie as tie
 
 allowed-header-requires : tie.Need-allowed-header-requires
 allowed-header-requires c κs = search needs

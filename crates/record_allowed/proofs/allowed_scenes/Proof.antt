@@ -4,10 +4,10 @@ use mathlib.Core.Path.{_≡_}
 use lib.ListN.{drop, length-take, length-drop}
 use borrow.Author.Tests.{not-true, not-false}
 use native.Mathlib.Nat.{sub-zero, add-zero}
-use Rattle.record_reader.proofs.Rows.{scenes-more, scenes-stop, scenes-end}
+use Rattle.record_allowed.proofs.Rows.{scenes-more, scenes-stop, scenes-end}
 use Rattle.rules.specs.Reading.{allowedScenes}
-use Rattle.record_reader.proofs.allowed_scenes.Statement.{statement}
-use Rattle.record_reader.proofs.allowed_scenes.Tie as tie
+use Rattle.record_allowed.proofs.allowed_scenes.Statement.{statement}
+use Rattle.record_allowed.proofs.allowed_scenes.Tie as tie
 
 abbrev Inv-loop : tie.InvT-loop
 Inv-loop bytes place n pictures from₀ j₀ from j = (j ≤ n) × (from ≤ 4294967296 * j) × (allowedScenes pictures n 0

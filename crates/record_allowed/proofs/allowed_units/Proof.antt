@@ -4,10 +4,10 @@ use mathlib.Core.Path.{_≡_}
 use lib.ListN.{drop, length-take, length-drop}
 use borrow.Author.Tests.{not-true, not-false}
 use native.Mathlib.Nat.{sub-zero}
-use Rattle.record_reader.proofs.Rows.{units-more, units-stop, units-end}
+use Rattle.record_allowed.proofs.Rows.{units-more, units-stop, units-end}
 use Rattle.rules.specs.Reading.{allowedUnits}
-use Rattle.record_reader.proofs.allowed_units.Statement.{statement}
-use Rattle.record_reader.proofs.allowed_units.Tie as tie
+use Rattle.record_allowed.proofs.allowed_units.Statement.{statement}
+use Rattle.record_allowed.proofs.allowed_units.Tie as tie
 
 abbrev Inv-loop : tie.InvT-loop
 Inv-loop bytes n known j₀ j =

@@ -1,7 +1,7 @@
 use borrow.Author.Needs.{needs}
 use Rattle.rules.specs.Reading.{allowedScene}
-use Rattle.record_reader.proofs.allowed_scene.Statement.{statement}
-use Rattle.record_reader.proofs.allowed_scene.Tie as tie
+use Rattle.record_allowed.proofs.allowed_scene.Statement.{statement}
+use Rattle.record_allowed.proofs.allowed_scene.Tie as tie
 
 word-requires : tie.Need-word-requires
 word-requires c κs = search needs

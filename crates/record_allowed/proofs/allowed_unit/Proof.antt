@@ -1,7 +1,7 @@
 use borrow.Author.Needs.{needs}
 use Rattle.rules.specs.Reading.{allowedUnit}
-use Rattle.record_reader.proofs.allowed_unit.Statement.{statement}
-use Rattle.record_reader.proofs.allowed_unit.Tie as tie
+use Rattle.record_allowed.proofs.allowed_unit.Statement.{statement}
+use Rattle.record_allowed.proofs.allowed_unit.Tie as tie
 
 word-requires : tie.Need-word-requires
 word-requires c κs = search needs

@@ -1,8 +1,8 @@
 use borrow.Author.Needs.{needs}
 use Rattle.rules.specs.Record.{recordLength, sceneOffset}
 use Rattle.rules.specs.Reading.{allowedHeader}
-use Rattle.record_reader.proofs.allowed_header.Statement.{statement}
-use Rattle.record_reader.proofs.allowed_header.Tie as tie
+use Rattle.record_allowed.proofs.allowed_header.Statement.{statement}
+use Rattle.record_allowed.proofs.allowed_header.Tie as tie
 
 word-requires : tie.Need-word-requires
 word-requires c κs = search needs
