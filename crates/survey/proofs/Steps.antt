@@ -1,22 +1,19 @@
 -- The survey from step to step, and its calls.
-use Prim.Native.Nat.{ℕ, _+_, _*_, _≤_, _<_}
+use Prim.Native.Nat.{ℕ, _+_, _≤_, _<_}
 use native.Mathlib.Omega.{arith}
-use mathlib.Core.Path.{_≡_, refl, sym, ap, _∙_}
-use mathlib.Core.List.{List, [], _∷_, _++_, append-nil, append-assoc}
+use mathlib.Core.Path.{_≡_, refl, ap, _∙_}
+use mathlib.Core.List.{List, [], _++_, append-nil, append-assoc}
 use mathlib.Core.Bool.{Bool, true, false}
 use lib.ListN.{length, getD, take, drop, length-append}
 use lib.Seq.{take-add, take-all}
-use lib.Dec.{eqb}
 use borrow.Author.Tests.{ne-eqb}
-use Rattle.rules.specs.Bytes.{pick, count}
-use Rattle.rules.specs.Refusals.{Fault, none, fault, _orElse_, answer, InTable, listed}
-use Rattle.rules.specs.Capture.{captureInside}
+use Rattle.rules.specs.Bytes.{count}
+use Rattle.rules.specs.Refusals.{Fault, fault, answer, listed}
 use Rattle.rules.specs.Seal.{captureUnfinished}
 use Rattle.rules.specs.Survey.{goodPackets, identifiers, withMost, HasMost, surveyFeedAnswer, noGood, surveyFault}
-use Rattle.rules.specs.Survey.{orMost, surveyAnswer}
+use Rattle.rules.specs.Survey.{surveyAnswer}
 use Rattle.rules.specs.declared.Answer.{Answer}
 use Rattle.rules.specs.declared.Answer.the-variants.{Done, Refused as RefusedAnswer}
-use Rattle.rules.specs.declared.SurveyAnswer.{SurveyAnswer}
 use Rattle.rules.specs.declared.SurveyAnswer.the-variants.{Most, Refused}
 use Rattle.rules.proofs.Laws.Listed.{Numbered, listed-in, format}
 use Rattle.capture_laws.proofs.Survey.{with-most-is, most-alike}
@@ -28,9 +25,10 @@ use Rattle.capture_steps.specs.Contract.{wholeOf, Stored}
 use Rattle.capture_walk.specs.Contract.{Stood, Stepped, Asks}
 use Rattle.capture_steps.proofs.Use.{says-fault, says-clear, says-fed, clear-before, clear-long, tells-whole}
 use Rattle.capture_steps.proofs.Use.{none-whole, whole-few}
-use Rattle.survey.specs.State.{stateOf, tally, countIn, Surveys, Means}
-use Rattle.survey.specs.Contract.{Opened, FeedPost, AskPost, Tallied, Goes, Replies}
-use Rattle.survey.proofs.Counts.{tally-good}
+use Rattle.survey_counts.specs.Table.{tally, countIn, Tallied}
+use Rattle.survey_counts.proofs.Counts.{tally-good}
+use Rattle.survey.specs.State.{stateOf, Surveys, Means}
+use Rattle.survey.specs.Contract.{Opened, FeedPost, AskPost, Goes, Replies}
 
 -- ---- from step to step
 

@@ -9,10 +9,9 @@ use Rattle.rules.specs.declared.SurveyAnswer.{SurveyAnswer}
 use Rattle.rules.specs.declared.SurveyAnswer.the-variants.{Most, Refused}
 use Rattle.rules.specs.Refusals.{InTable}
 use Rattle.rules.specs.Survey.{identifiers, surveyFeedAnswer, surveyAnswer}
-use Rattle.capture_cells.specs.declared.Cell.{Cell}
 use Rattle.capture_steps.specs.declared.types.Walk.{Walk}
 use Rattle.capture_steps.specs.State.{Stands}
-use Rattle.survey.specs.State.{State, stateOf, Table, Surveys, Means}
+use Rattle.survey.specs.State.{State, stateOf, Surveys, Means}
 
 -- `open`
 abbrev pub Opened : State → Type 0
@@ -40,12 +39,6 @@ pub record AskPost (walk counts : List ℕ) (a : SurveyAnswer) : Type 0 where
   pub sensible : Sensible a
 
 -- ---- of the functions within
-
--- the table with these cells more
-pub record Tallied (t : List ℕ) (cs : List Cell) (t′ : List ℕ) : Type 0 where
-  pub size : length t′ ≡ length t
-  pub counts : (xs : List Cell) → length t ≡ 8192 → length xs + length cs < 4294967296 → Table t xs →
-      Table t′ (xs ++ cs)
 
 -- by the bytes of chunk
 abbrev pub Goes : List ℕ → List ℕ → Walk → List ℕ → List ℕ → List ℕ → Walk → Type 0

@@ -1,17 +1,13 @@
 -- What a survey's lent arrays stand for: the walk's words and collected bytes, and the counts.
-use Prim.Native.Nat.{ℕ, _<_}
+use Prim.Native.Nat.{ℕ}
 use mathlib.Core.Path.{_≡_}
 use mathlib.Core.List.{List}
-use mathlib.Core.Bool.{_&&_}
-use lib.ListN.{length, getD}
-use lib.Dec.{eqb}
-use Rattle.rules.specs.Bytes.{count}
+use lib.ListN.{length}
 use Rattle.rules.specs.Refusals.{none}
-use Rattle.rules.specs.Packets.{isGood}
-use Rattle.capture_cells.specs.declared.Cell.{Cell}
 use Rattle.capture_steps.specs.declared.types.Walk.{Walk}
 use Rattle.capture_steps.specs.Format.{formatFault, wholeCells}
 use Rattle.capture_steps.specs.State as of-walk
+use Rattle.survey_counts.specs.Table.{Table}
 
 pub record State : Type 0 where
   pub walk : List ℕ
@@ -20,17 +16,6 @@ pub record State : Type 0 where
 
 abbrev pub stateOf : List ℕ → List ℕ → List ℕ → State
 stateOf walk kept counts = record { walk = walk; kept = kept; counts = counts }
-
--- how many of some cells are good and have this identifier: the rules' goodOf (proofs/Counts, tally-good)
-unfoldable pub tally : List Cell → ℕ → ℕ
-tally cs id = count (λ c. isGood (c .condition) && eqb (c .identifier) id) cs
-
-abbrev pub countIn : List ℕ → ℕ → ℕ
-countIn t id = getD t id 0
-
--- the table holds the counts of the cells
-pub record Table (t : List ℕ) (cs : List Cell) : Type 0 where
-  pub at : (id : ℕ) → id < 8192 → getD t id 0 ≡ tally cs id
 
 -- the walk stands for the joined bytes, and the table, as long as they show no refusal, for their whole cells
 pub record Surveys (kept t : List ℕ) (s : Walk) (joined : List ℕ) : Type 0 where

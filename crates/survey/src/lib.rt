@@ -2,21 +2,15 @@
 // anywhere; the walk finds the cells. The state is three lent arrays: the walk's words and collected bytes, and the
 // counts. Every call is safe on any contents of them.
 ghost use mathlib.Core.Path.{_≡_};
-ghost use Rattle.rules.specs.Refusals.{listed};
 ghost use Rattle.survey.specs.State.{stateOf};
 ghost use Rattle.survey.specs.Contract.{Opened, FeedPost, AskPost, Goes, Replies};
-
-mod counting;
-
-use crate::counting::take;
-use crate::counting::with_most;
 use capture_walk::Collected;
 use capture_walk::Walk;
 use capture_walk::WalkWords;
-pub use counting::Counts;
-pub use counting::IDENTIFIERS;
 use rules::Answer;
 use rules::SurveyAnswer;
+pub use survey_counts::Counts;
+pub use survey_counts::IDENTIFIERS;
 
 // Opens a fresh survey.
 pub fn open(walk: &mut WalkWords, kept: &mut Collected, counts: &mut Counts)
@@ -36,7 +30,7 @@ fn run(kept: &mut Collected, counts: &mut Counts, start: Walk, piece: &[u8]) -> 
     while i < piece.len() {
         let r = capture_walk::next(kept, s, piece, i);
         let e = r.event;
-        take(counts, piece, e);
+        survey_counts::take(counts, piece, e);
         let w = r.walk;
         s = w;
         i += r.taken;
@@ -91,7 +85,7 @@ pub fn ask(walk: &WalkWords, counts: &Counts) -> SurveyAnswer
             place: s.fed,
         };
     }
-    let best = with_most(counts);
+    let best = survey_counts::with_most(counts);
     let most = wide(counts[best]);
     if most == 0 {
         return SurveyAnswer::Refused {

@@ -1,7 +1,7 @@
 -- `open` meets its contract: a fresh walk and a table of zeros. Assumes nothing.
 use Prim.Native.Nat.{ℕ}
 use lib.ListN.{length-replicate}
-use Rattle.survey.proofs.Counts.{zeros}
+use Rattle.survey_counts.proofs.Counts.{zeros}
 use Rattle.survey.proofs.Steps.{opens}
 use borrow.Author.Needs.{needs}
 use Rattle.survey.proofs.open.Statement.{statement}

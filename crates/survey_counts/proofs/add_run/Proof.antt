@@ -1,14 +1,13 @@
 -- `add_run` meets its contract: cell by cell.
 use Prim.Native.Nat.{_+_, _-_, _*_, _≤_}
 use native.Mathlib.Omega.{arith}
-use mathlib.Core.Path.{_≡_, refl}
+use mathlib.Core.Path.{_≡_}
 use lib.ListN.{drop}
 use Rattle.capture_steps.specs.Format.{cellsFrom}
-use Rattle.survey.specs.Contract.{Tallied}
-use Rattle.survey.proofs.Counts.{run-none, run-more, run-all}
-use borrow.Author.Needs.{needs}
-use Rattle.survey.proofs.counting.add_run.Statement.{statement}
-use Rattle.survey.proofs.counting.add_run.Tie as tie
+use Rattle.survey_counts.specs.Table.{Tallied}
+use Rattle.survey_counts.proofs.Counts.{run-none, run-more, run-all}
+use Rattle.survey_counts.proofs.add_run.Statement.{statement}
+use Rattle.survey_counts.proofs.add_run.Tie as tie
 
 abbrev Inv-loop : tie.InvT-loop
 Inv-loop counts₀ piece time many at₀ place₀ k₀ counts at place k =

@@ -1,10 +1,9 @@
 -- `add` meets its contract, by whether the cell is good.
-use native.Mathlib.Omega.{arith}
 use mathlib.Core.Path.{refl}
-use Rattle.survey.proofs.Counts.{tallied-good, tallied-other}
+use Rattle.survey_counts.proofs.Counts.{tallied-good, tallied-other}
 use borrow.Author.Needs.{needs}
-use Rattle.survey.proofs.counting.add.Statement.{statement}
-use Rattle.survey.proofs.counting.add.Tie as tie
+use Rattle.survey_counts.proofs.add.Statement.{statement}
+use Rattle.survey_counts.proofs.add.Tie as tie
 
 is-good-requires : tie.Need-is-good-requires
 is-good-requires c κs = search needs

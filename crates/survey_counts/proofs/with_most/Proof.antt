@@ -1,14 +1,14 @@
 -- `with_most` meets its contract: before identifier i, the best has most of those below i.
-use Prim.Native.Nat.{_+_, _-_, _≤_, _<_}
+use Prim.Native.Nat.{_-_, _≤_}
 use native.Mathlib.Omega.{arith}
-use mathlib.Core.Path.{_≡_, refl, _∙_}
+use mathlib.Core.Path.{_≡_}
 use mathlib.Core.Logic.{⊎-elim}
 use Rattle.rules.specs.Survey.{HasMost}
-use Rattle.survey.specs.State.{countIn}
+use Rattle.survey_counts.specs.Table.{countIn}
 use Rattle.capture_laws.proofs.Survey.{most-none, most-new, most-old}
 use borrow.Author.Needs.{needs}
-use Rattle.survey.proofs.counting.with_most.Statement.{statement}
-use Rattle.survey.proofs.counting.with_most.Tie as tie
+use Rattle.survey_counts.proofs.with_most.Statement.{statement}
+use Rattle.survey_counts.proofs.with_most.Tie as tie
 
 abbrev Inv-loop : tie.InvT-loop
 Inv-loop counts best₀ i₀ best i = (i ≤ 8192) × HasMost (countIn counts) i best

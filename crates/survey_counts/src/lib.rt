@@ -6,11 +6,10 @@ ghost use lib.ListN.{length};
 ghost use Rattle.rules.specs.Packets.{isGood};
 ghost use Rattle.rules.specs.Survey.{HasMost, identifiers};
 ghost use Rattle.capture_steps.specs.Contract.{Fits, cellsOf, wholeOf};
-ghost use Rattle.survey.specs.State.{countIn};
-ghost use Rattle.survey.specs.Contract.{Tallied};
+ghost use Rattle.survey_counts.specs.Table.{countIn, Tallied};
 use capture_cells::Cell;
-use capture_walk::Event;
-use capture_walk::Run;
+use capture_steps::Event;
+use capture_steps::Run;
 use rules::Condition;
 
 // How many identifiers there are, and the lent table: how many good packets each of them has.

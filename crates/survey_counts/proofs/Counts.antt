@@ -18,8 +18,7 @@ use Rattle.capture_cells.specs.declared.Cell.{Cell}
 use Rattle.capture_cells.specs.Cells.{cellIn, cellOf}
 use Rattle.capture_steps.specs.Format.{wholeCells, cellsFrom}
 use Rattle.capture_steps.proofs.Lists.{cells-more}
-use Rattle.survey.specs.State.{tally, countIn, Table}
-use Rattle.survey.specs.Contract.{Tallied}
+use Rattle.survey_counts.specs.Table.{tally, countIn, Table, Tallied}
 
 same : (a b : ℕ) → Dec (a ≡ b)
 same a b = go (decLe a b) (decLe b a)

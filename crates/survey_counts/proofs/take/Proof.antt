@@ -1,8 +1,8 @@
 -- `take` meets its contract, by the case of the event.
-use Rattle.survey.proofs.Counts.{tallied-none}
+use Rattle.survey_counts.proofs.Counts.{tallied-none}
 use borrow.Author.Needs.{needs}
-use Rattle.survey.proofs.counting.take.Statement.{statement}
-use Rattle.survey.proofs.counting.take.Tie as tie
+use Rattle.survey_counts.proofs.take.Statement.{statement}
+use Rattle.survey_counts.proofs.take.Tie as tie
 
 enum-known-e : tie.Need-enum-known-e
 enum-known-e c = search needs
