@@ -7,7 +7,7 @@ use Rattle.rules.specs.declared.Index.{Index}
 use Rattle.rules.specs.declared.IndexAnswer.{IndexAnswer}
 use Rattle.rules.specs.declared.IndexAnswer.the-variants.{Given, Refused}
 use Rattle.rules.specs.Refusals.{listed}
-use Rattle.sample.specs.WhileFeeding.{IndexPost}
+use Rattle.sample_questions.specs.WhileFeeding.{IndexPost}
 use Rattle.c_sample.specs.Replies.{indexFigures}
 use Rattle.c_sample.specs.Contract.{IndexTold}
 

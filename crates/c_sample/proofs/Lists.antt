@@ -13,7 +13,7 @@ use Rattle.rules.specs.declared.IndexAnswer.the-variants.{Given, Refused}
 use Rattle.rules.specs.Bytes.{pick}
 use Rattle.rules.specs.Calls.{Reply, indexed, counted, lentAfter, Call, Outcome, fed, replied}
 use Rattle.rules.proofs.Laws.Listed.{listed-in}
-use Rattle.sample.specs.State.{State}
+use Rattle.sample_questions.specs.State.{State}
 use Rattle.sample.specs.Calls as of-sample
 use Rattle.sample.proofs.Lists.{every-list}
 use Rattle.c_numbers.specs.Numbers.{numberOf, valueOf}

@@ -12,7 +12,7 @@ use Rattle.rules.specs.Opening.{openAnswer}
 use Rattle.rules.specs.Calls.{Question, index, repeats, lentAfter, Call, feedCapture, feedLuma, ask, Outcome, fed}
 use Rattle.rules.specs.Calls.{replied, expected, lumaFed}
 use Rattle.capture.specs.State.{Arrays}
-use Rattle.sample.specs.State.{State, wordsOf}
+use Rattle.sample_questions.specs.State.{State, wordsOf}
 use Rattle.sample.specs.Calls.{InHistograms}
 use Rattle.c_numbers.specs.Numbers.{numberOf, valueOf}
 use Rattle.c_sample.specs.Replies.{replyNumber, replyValue, threeOf}

@@ -11,10 +11,11 @@ use Rattle.rules.specs.Calls.{Question, Reply, lentAfter}
 use Rattle.capture.specs.State.{Arrays}
 use Rattle.capture.specs.Contract as side-capture
 use Rattle.luma.specs.Contract as side-luma
-use Rattle.sample.specs.State.{State, Words}
-use Rattle.sample.specs.Contract.{OpenPost, Asked}
-use Rattle.sample.specs.WhileFeeding.{IndexPost}
-use Rattle.sample.specs.Passage.{RepeatsPost}
+use Rattle.sample_questions.specs.State.{State, Words}
+use Rattle.sample_questions.specs.Contract.{Asked}
+use Rattle.sample_questions.specs.WhileFeeding.{IndexPost}
+use Rattle.sample_questions.specs.Passage.{RepeatsPost}
+use Rattle.sample.specs.Contract.{OpenPost}
 use Rattle.c_numbers.specs.Numbers.{numberOf, valueOf}
 use Rattle.c_sample.specs.Replies.{indexNumber, indexPlace, indexInto, replyNumber, replyValue, threeOf}
 

@@ -3,7 +3,7 @@
 ghost use mathlib.Core.Path.{_≡_};
 ghost use Rattle.rules.specs.Calls.{seal};
 ghost use Rattle.capture.specs.State.{arraysOf};
-ghost use Rattle.sample.specs.State.{sampleOf, wordsIn};
+ghost use Rattle.sample_questions.specs.State.{sampleOf, wordsIn};
 ghost use Rattle.replay.specs.Run.{Replayed};
 ghost use Rattle.c_sample.specs.Replies.{indexFigures};
 ghost use Rattle.c_sample.specs.Contract.{Opened, FedCapture, FedLuma, Told, IndexTold, CountTold};

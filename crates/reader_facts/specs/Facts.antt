@@ -15,7 +15,7 @@ use Rattle.rules.specs.Packets.{udpLength, carries, packets, otherOf}
 use Rattle.rules.specs.Capture.{wholeFrames}
 use Rattle.rules.specs.Index.{float}
 use Rattle.rules.specs.Calls.{seal, sealedInto, Call, ask, Outcome, replied, captureFed, lumaFed}
-use Rattle.sample.specs.State.{State}
+use Rattle.sample_questions.specs.State.{State}
 use Rattle.sample.specs.Contract.{OpenPost}
 use Rattle.sample.specs.Calls.{Runs}
 

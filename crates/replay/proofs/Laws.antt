@@ -11,7 +11,7 @@ use borrow.Author.Tests.{leb-true}
 use borrow.Rule.Slice.PartMut.{midOf, putMid, post-is}
 use Rattle.rules.specs.declared.Answer.{Answer}
 use Rattle.rules.specs.Calls.{Call, Outcome}
-use Rattle.sample.specs.State.{State}
+use Rattle.sample_questions.specs.State.{State}
 use Rattle.sample.specs.Contract.{OpenPost}
 use Rattle.sample.specs.Calls.{Runs, done, next}
 use Rattle.sample.proofs.Lists.{every-list}

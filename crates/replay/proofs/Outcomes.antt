@@ -10,8 +10,8 @@ use Rattle.rules.specs.declared.Answer.{Answer}
 use Rattle.rules.specs.Calls.{Question, seal, index, repeats, sealedInto, Call, feedCapture, feedLuma, ask, fed}
 use Rattle.rules.specs.Calls.{replied}
 use Rattle.capture.specs.State.{Arrays}
-use Rattle.sample.specs.State.{State, Words, wordsOf}
-use Rattle.sample.specs.Contract.{SealPost}
+use Rattle.sample_questions.specs.State.{State, Words, wordsOf}
+use Rattle.sample_seal.specs.Contract.{SealPost}
 use Rattle.sample.specs.Calls.{feedsCapture, feedsLuma, asks}
 use Rattle.replay_script.specs.declared.Head.{Head}
 use Rattle.replay_script.specs.declared.Head.the-variants.{Capture, Luma, Seal, Index, Repeats}

@@ -12,8 +12,8 @@ use Rattle.rules.specs.Calls.{Question, index, repeats, Reply, Call, Outcome, f
 use Rattle.capture.specs.State.{Arrays}
 use Rattle.capture.specs.Contract as side-capture
 use Rattle.luma.specs.Contract as side-luma
-use Rattle.sample.specs.State.{State, Words}
-use Rattle.sample.specs.Contract.{Asked}
+use Rattle.sample_questions.specs.State.{State, Words}
+use Rattle.sample_questions.specs.Contract.{Asked}
 use Rattle.sample.specs.Calls.{Ran, Runs}
 use Rattle.replay_script.specs.declared.Head.{Head}
 use Rattle.replay_script.specs.Script.{openingOf, headAt, callsWith, callsOf, roomOf, room, roomFor, sizeOf}

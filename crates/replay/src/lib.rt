@@ -5,7 +5,7 @@ ghost use Prim.Native.Nat.{_-_, _≤_};
 ghost use lib.ListN.{length, replicate};
 ghost use Rattle.rules.specs.Calls.{seal};
 ghost use Rattle.capture.specs.State.{arraysOf};
-ghost use Rattle.sample.specs.State.{sampleOf, wordsIn};
+ghost use Rattle.sample_questions.specs.State.{sampleOf, wordsIn};
 ghost use Rattle.replay.specs.Run.{FedCapture, FedLuma, Replied, IndexReplied, CountReplied};
 ghost use Rattle.replay.specs.Run.{Called, CallPost, All, Replayed};
 use capture::Numbers;

@@ -16,7 +16,7 @@ use Rattle.luma_cuts.specs.Counts.{tilesAt}
 use Rattle.luma_state.specs.State as side-luma
 use Rattle.luma_state.specs.State.{loaded, slot, Stands, refused, live}
 use Rattle.luma.proofs.Seals.{ring-is}
-use Rattle.sample.specs.State.{State, Means}
+use Rattle.sample_questions.specs.State.{State, Means}
 use Rattle.sample.specs.Calls.{feedsCapture, feedsLuma, asks, Runs, done, next, Kept, EveryList}
 use Rattle.sample.specs.Calls.{RepliesAlike}
 

@@ -13,7 +13,7 @@ use Rattle.rules.specs.Seal.{over, sealed, sealedLength, sealFault, sealAnswer,
 use Rattle.rules.specs.Calls.{Reply, seal, sealedInto, Call, ask, Outcome, replied, answerTo, captureFed, lumaFed}
 use Rattle.record_laws.proofs.Sealed.{sealed-length, sealed-header, sealed-unit, sealed-scene}
 use Rattle.record_reader.proofs.Theorems.{front}
-use Rattle.sample.specs.State.{State}
+use Rattle.sample_questions.specs.State.{State}
 use Rattle.sample.specs.Contract.{OpenPost}
 use Rattle.sample.specs.Calls.{Runs}
 use Rattle.sample.specs.ReadBack.{ReadsAs, SealReadsBack}

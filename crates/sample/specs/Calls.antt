@@ -22,8 +22,9 @@ use Rattle.capture.specs.Contract as side-capture
 use Rattle.luma.specs.Contract as side-luma
 use Rattle.luma_cuts.specs.Counts.{tilesAt}
 use Rattle.luma_state.specs.State.{slot}
-use Rattle.sample.specs.State.{State, wordsOf}
-use Rattle.sample.specs.Contract.{OpenPost, Asked}
+use Rattle.sample_questions.specs.State.{State, wordsOf}
+use Rattle.sample_questions.specs.Contract.{Asked}
+use Rattle.sample.specs.Contract.{OpenPost}
 
 -- one call on a state, which leaves another: no more and no less than the function's own contract. A feed changes its
 -- own side alone, a question nothing

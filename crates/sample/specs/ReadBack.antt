@@ -16,7 +16,7 @@ use Rattle.rules.specs.Capture.{units}
 use Rattle.rules.specs.Reading.{headerAnswer, unitAnswer, sceneAnswer}
 use Rattle.rules.specs.Seal as rule
 use Rattle.rules.specs.Calls.{seal, sealedInto, Call, ask, Outcome, replied, captureFed, lumaFed}
-use Rattle.sample.specs.State.{State}
+use Rattle.sample_questions.specs.State.{State}
 use Rattle.sample.specs.Contract.{OpenPost}
 use Rattle.sample.specs.Calls.{Runs}
 

@@ -11,7 +11,7 @@ use Rattle.rules.specs.Calls.{repeats, counted, refusalOf}
 use Rattle.capture.specs.State.{Arrays}
 use Rattle.luma_state.specs.State.{openingIn}
 use Rattle.luma.specs.Contract.{totalsIn}
-use Rattle.sample.specs.Contract.{Asked}
+use Rattle.sample_questions.specs.Contract.{Asked}
 
 -- the luma words, a and b, the answer
 pub record RepeatsPost (luma : List ℕ) (a b : ℕ) (r : Answer) : Type 0 where

@@ -4,11 +4,11 @@ use native.Mathlib.Omega.{arith}
 use mathlib.Core.Path.{refl, ap}
 use Rattle.rules.specs.declared.Header.{Header}
 use Rattle.rules.specs.Record.{recordLength}
-use Rattle.sample.proofs.Writing.{few-units, few-pictures, too-short, written-post}
-use Rattle.sample.proofs.Sealing.{refused-leaves, done-leaves}
+use Rattle.sample_seal.proofs.Writing.{few-units, few-pictures, too-short, written-post}
+use Rattle.sample_seal.proofs.Sealing.{refused-leaves, done-leaves}
 use borrow.Author.Needs.{needs}
-use Rattle.sample.proofs.write.Statement.{statement}
-use Rattle.sample.proofs.write.Tie as tie
+use Rattle.sample_seal.proofs.write.Statement.{statement}
+use Rattle.sample_seal.proofs.write.Tie as tie
 
 refused-requires : tie.Need-refused-requires
 refused-requires c κs = search needs

@@ -1,5 +1,5 @@
 // Repeats in a passage (document 02, R-12): counted in the map that is kept while feeding.
-ghost use Rattle.sample.specs.Passage.{RepeatsPost};
+ghost use Rattle.sample_questions.specs.Passage.{RepeatsPost};
 use crate::refused;
 use rules::Answer;
 

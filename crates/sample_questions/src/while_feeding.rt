@@ -1,7 +1,7 @@
 // The index while feeding (document 02, R-7): it reads the totals and the refusals kept, and no row.
 ghost use mathlib.Core.Path.{_≡_};
 ghost use Rattle.rules.specs.Refusals.{listed};
-ghost use Rattle.sample.specs.WhileFeeding.{IndexPost};
+ghost use Rattle.sample_questions.specs.WhileFeeding.{IndexPost};
 use crate::index_in;
 use capture::Numbers;
 use figures::listed_number;

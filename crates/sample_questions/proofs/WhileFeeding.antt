@@ -41,10 +41,10 @@ use Rattle.luma.specs.declared.Totals as luma-totals
 use Rattle.luma.specs.Contract as of-luma
 use Rattle.luma.specs.Contract.{Summarised, Known, insideOf}
 use Rattle.luma.proofs.Seals.{summarised}
-use Rattle.sample.specs.State.{State, Words, Means}
-use Rattle.sample.specs.WhileFeeding.{noneOf, indexBy, IndexPost}
-use Rattle.sample.proofs.Sealing.{either}
-use Rattle.sample.proofs.Writing.{index-is-rule}
+use Rattle.sample_questions.specs.State.{State, Words, Means}
+use Rattle.sample_questions.specs.WhileFeeding.{noneOf, indexBy, IndexPost}
+use Rattle.sample_questions.proofs.Refusals.{either}
+use Rattle.sample_questions.proofs.Taken.{index-is-rule}
 
 -- ---- 12: a unit has at least one cell, so that no unit and no cell counted in one are the same
 

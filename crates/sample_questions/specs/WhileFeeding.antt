@@ -15,7 +15,7 @@ use Rattle.capture.specs.declared.Totals as of-capture
 use Rattle.capture.specs.Contract as side-capture
 use Rattle.luma.specs.declared.Totals as of-luma
 use Rattle.luma.specs.Contract as side-luma
-use Rattle.sample.specs.Contract.{Asked}
+use Rattle.sample_questions.specs.Contract.{Asked}
 
 -- the refusal that stands on a side, with a number of the table; number 0 says that none does
 abbrev pub keptAs : ℕ → ℕ → Fault

@@ -1,9 +1,9 @@
 -- `index` meets its contract: each return is one of the refusals in document 02's order, and the last one the index.
 use mathlib.Core.Path.{refl}
-use Rattle.sample.proofs.WhileFeeding.{post-capture, post-luma, post-cells, post-pictures, post-given}
+use Rattle.sample_questions.proofs.WhileFeeding.{post-capture, post-luma, post-cells, post-pictures, post-given}
 use borrow.Author.Needs.{needs}
-use Rattle.sample.proofs.while_feeding.index.Statement.{statement}
-use Rattle.sample.proofs.while_feeding.index.Tie as tie
+use Rattle.sample_questions.proofs.while_feeding.index.Statement.{statement}
+use Rattle.sample_questions.proofs.while_feeding.index.Tie as tie
 
 totals-in-requires : tie.Need-totals-in-requires
 totals-in-requires c κs = search needs

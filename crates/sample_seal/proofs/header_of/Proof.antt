@@ -1,7 +1,7 @@
 -- `header_of` meets its contract: the bits are taken where the header is made. Assumes nothing.
 use borrow.Author.Needs.{needs}
-use Rattle.sample.proofs.header_of.Statement.{statement}
-use Rattle.sample.proofs.header_of.Tie as tie
+use Rattle.sample_seal.proofs.header_of.Statement.{statement}
+use Rattle.sample_seal.proofs.header_of.Tie as tie
 
 index-bits-requires : tie.Need-index-bits-requires
 index-bits-requires c κs = search needs

@@ -10,7 +10,7 @@ use Rattle.rules.specs.declared.Opening.{Opening}
 use Rattle.rules.specs.declared.Answer.{Answer}
 use Rattle.rules.specs.declared.Answer.the-variants.{Done, Refused}
 use Rattle.rules.specs.declared.UnitRow.{UnitRow}
-use Rattle.rules.specs.Refusals.{Fault, none, fault, _orElse_, listed}
+use Rattle.rules.specs.Refusals.{none, fault, _orElse_, listed}
 use Rattle.rules.specs.Opening.{openingFault}
 use Rattle.rules.specs.Capture.{units, captureFault}
 use Rattle.rules.specs.Pictures.{pictureCount, lumaFault}
@@ -23,14 +23,12 @@ use Rattle.capture.specs.Contract.{SumsUp, SumOf, Figures}
 use Rattle.luma.specs.declared.Summary as of-luma
 use Rattle.luma.specs.Contract.{SummaryPost, Summarised, Known}
 use Rattle.luma_state.specs.State.{openingIn}
-use Rattle.sample.specs.State.{State, Words, wordsOf, Means}
-use Rattle.sample.specs.Contract.{Leaves, SealPost, Ready, WritePost}
+use Rattle.sample_questions.specs.State.{State, Words, wordsOf, Means}
+use Rattle.sample_questions.specs.Contract.{Leaves}
+use Rattle.sample_questions.proofs.Refusals.{either}
+use Rattle.sample_seal.specs.Contract.{SealPost, Ready, WritePost}
 
 -- ---- refusals one after the other
-
-pub either : (a b c : Fault) → a orElse (b orElse c) ≡ (a orElse b) orElse c
-either none b c = refl
-either (fault k p) b c = refl
 
 no-units : (us : List UnitRow) → length us ≡ 0 → noPacket us ≡ fault 12 0
 unfolding noPacket

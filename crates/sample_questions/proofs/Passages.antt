@@ -27,8 +27,8 @@ use Rattle.luma.proofs.Posts.{Alive}
 use Rattle.luma.proofs.Seals.{pictures-are, reduced-are}
 use Rattle.luma_passage.specs.Contract.{AnswerPost}
 use Rattle.luma_passage.proofs.Sample.{sample-passage}
-use Rattle.sample.specs.State.{State, Words, Means}
-use Rattle.sample.specs.Passage.{RepeatsPost}
+use Rattle.sample_questions.specs.State.{State, Words, Means}
+use Rattle.sample_questions.specs.Passage.{RepeatsPost}
 
 -- ---- what the luma words know of the whole pictures, refusal 10 or not
 

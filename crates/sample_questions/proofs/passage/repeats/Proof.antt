@@ -1,8 +1,8 @@
 -- `repeats` meets its contract: the opening's number, or what the passage answers.
-use Rattle.sample.proofs.Passages.{post-opening, post-counted}
+use Rattle.sample_questions.proofs.Passages.{post-opening, post-counted}
 use borrow.Author.Needs.{needs}
-use Rattle.sample.proofs.passage.repeats.Statement.{statement}
-use Rattle.sample.proofs.passage.repeats.Tie as tie
+use Rattle.sample_questions.proofs.passage.repeats.Statement.{statement}
+use Rattle.sample_questions.proofs.passage.repeats.Tie as tie
 
 opening-in-requires : tie.Need-opening-in-requires
 opening-in-requires c κs = search needs

@@ -1,10 +1,10 @@
 -- `seal` meets its contract: each return is one of the refusals in document 01's order, and the last one the record or
 -- 15. Assumes nothing.
-use Rattle.sample.proofs.Sealing.{post-capture, post-luma, post-inside-capture, post-no-packet}
-use Rattle.sample.proofs.Sealing.{post-inside-luma, post-no-picture, post-written}
+use Rattle.sample_seal.proofs.Sealing.{post-capture, post-luma, post-inside-capture, post-no-packet}
+use Rattle.sample_seal.proofs.Sealing.{post-inside-luma, post-no-picture, post-written}
 use borrow.Author.Needs.{needs}
-use Rattle.sample.proofs.seal.Statement.{statement}
-use Rattle.sample.proofs.seal.Tie as tie
+use Rattle.sample_seal.proofs.seal.Statement.{statement}
+use Rattle.sample_seal.proofs.seal.Tie as tie
 
 sum-up-requires : tie.Need-sum-up-requires
 sum-up-requires c κs = search needs

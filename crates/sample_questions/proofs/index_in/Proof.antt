@@ -1,8 +1,8 @@
 -- `index_in` meets its contract: each count is handed on below 2 ^ 32. Assumes nothing.
-use Rattle.sample.proofs.Writing.{index-by}
+use Rattle.sample_questions.proofs.Taken.{index-by}
 use borrow.Author.Needs.{needs}
-use Rattle.sample.proofs.index_in.Statement.{statement}
-use Rattle.sample.proofs.index_in.Tie as tie
+use Rattle.sample_questions.proofs.index_in.Statement.{statement}
+use Rattle.sample_questions.proofs.index_in.Tie as tie
 
 low-requires : tie.Need-low-requires
 low-requires c κs = search needs

@@ -1,0 +1,4 @@
+pub mod Refusals
+pub mod Taken
+pub mod WhileFeeding
+pub mod Passages
