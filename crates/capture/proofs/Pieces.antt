@@ -1,5 +1,5 @@
 -- From step to step through a piece, refusals that stay, and the numbers in the words.
-use Prim.Native.Nat.{ℕ, zero, suc, _+_, _≤_, _<_}
+use Prim.Native.Nat.{ℕ, zero, suc, _+_, _≤_}
 use native.Mathlib.Omega.{arith}
 use mathlib.Core.Path.{_≡_, refl, sym, ap, _∙_}
 use mathlib.Core.List.{List, [], _∷_, _++_, append-nil, append-assoc}
@@ -16,7 +16,6 @@ use Rattle.capture_laws.proofs.Begins.{capture-kept}
 use Rattle.capture_laws.proofs.Format.{magic-early, link-early, header-units, capture-format, header-shows}
 use Rattle.capture_steps.specs.declared.types.Walk.{Walk}
 use Rattle.capture_steps.specs.declared.types.Step.{Step}
-use Rattle.capture_steps.specs.Format.{formatFault}
 use Rattle.capture_steps.specs.State as walk
 use Rattle.capture_steps.specs.Contract as walking
 use Rattle.capture_walk.specs.Contract.{Stood, Stepped}

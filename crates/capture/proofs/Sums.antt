@@ -1,16 +1,15 @@
 -- The summary of a state that stands for an opening and joined bytes.
-use Prim.Native.Nat.{ℕ, _%_, _^_, _*_, _≤_, _<_}
+use Prim.Native.Nat.{ℕ, _^_, _<_}
 use native.Mathlib.Omega.{arith}
 use mathlib.Core.Path.{_≡_, refl, sym, ap, _∙_}
-use mathlib.Core.List.{List, map}
+use mathlib.Core.List.{List}
 use mathlib.Core.Bool.{Bool}
 use lib.ListN.{length}
 use borrow.Author.Tests.{eq-eqb, ne-eqb}
 use Rattle.rules.specs.declared.Opening.{Opening}
-use Rattle.rules.specs.Capture.{units, frameCount, skippedCount, tooManyUnits, captureInside}
+use Rattle.rules.specs.Capture.{units, tooManyUnits, captureInside}
 use Rattle.capture_laws.proofs.Format.{none-both, capture-format}
 use Rattle.capture_laws.proofs.Bounds.{frame-count-few, skipped-few, bad-few}
-use Rattle.capture_cells.specs.declared.Cell.{Cell}
 use Rattle.capture_steps.specs.declared.types.Walk.{Walk}
 use Rattle.capture_steps.specs.Format.{formatFault, wholeCells}
 use Rattle.capture_steps.specs.State as walk
@@ -74,7 +73,7 @@ sum-with {kept} {table} {w} {t} {o} {joined} inside a s = go (s .counting)
           figures = λ _. figures f v h inside (a h f);
         }
 
-pub sum-of : {kept table : List ℕ} {w : Walk} {t : Tally} {o : Opening} {joined : List ℕ} (inside : Bool) →
+sum-of : {kept table : List ℕ} {w : Walk} {t : Tally} {o : Opening} {joined : List ℕ} (inside : Bool) →
     Asks w inside → Stands kept table w t o joined →
     SumOf table o joined (summaryOf w t inside)
 sum-of {kept} {joined = joined} inside a s = sum-with inside (λ h f. a kept joined h f) s

@@ -1,11 +1,11 @@
 -- What each event of the walk does to the counts.
 use Prim.Native.Nat.{ℕ, _+_, _≤_, _<_}
 use native.Mathlib.Omega.{arith}
-use mathlib.Core.Path.{_≡_, refl, sym, ap, _∙_}
+use mathlib.Core.Path.{_≡_, sym, ap, _∙_}
 use mathlib.Core.List.{List, [], _∷_, _++_, append-nil, map}
 use lib.ListN.{length, length-append}
 use Rattle.rules.specs.declared.Opening.{Opening}
-use Rattle.rules.specs.Refusals.{Fault, none, fault, _orElse_}
+use Rattle.rules.specs.Refusals.{none, fault}
 use Rattle.rules.specs.Opening.{openingFault}
 use Rattle.rules.specs.Capture.{captureFault}
 use Rattle.capture_cells.specs.declared.Cell.{Cell}
@@ -18,7 +18,7 @@ use Rattle.capture_steps.proofs.Use.{says-clear, clear-long, whole-few}
 use Rattle.capture_units.specs.Units.{nineIn}
 use Rattle.capture_units.proofs.Laws.{nine-level, on-nothing, on-shown, on-whole, on-cells, on-refused}
 use Rattle.capture_counts.specs.declared.Tally.{Tally}
-use Rattle.capture_counts.specs.Counts.{Counts, Stops, Counted, going, stopped as ended, Checked, fits, full, Checks}
+use Rattle.capture_counts.specs.Counts.{Counted, going, stopped as ended, Checked, fits, full, Checks}
 use Rattle.capture_counts.specs.Counts.{Accounts, Runs}
 use Rattle.capture.specs.State.{Live, Counting, stopped, live}
 

@@ -13,7 +13,6 @@ use Rattle.rules.specs.Opening.{openingFault}
 use Rattle.rules.specs.Capture as rule
 use Rattle.rules.specs.Capture.{frameCount, skippedCount, badCount, captureFault, captureInside}
 use Rattle.rules.specs.Seal.{captureAnswer}
-use Rattle.capture_cells.specs.declared.Cell.{Cell}
 use Rattle.capture_steps.specs.declared.types.Walk.{Walk}
 use Rattle.capture_steps.specs.declared.types.Event.{Event}
 use Rattle.capture_steps.specs.Format.{wholeCells}

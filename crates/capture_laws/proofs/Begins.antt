@@ -436,7 +436,7 @@ units-grow o s t = at-follow
 
 -- ---- THE LAW: what the capture shows first, it shows first for good
 
-pub capture-grows : (o : Opening) (s t : List ℕ) → Grows (length s) (captureFault o s) (captureFault o (s ++ t))
+capture-grows : (o : Opening) (s t : List ℕ) → Grows (length s) (captureFault o s) (captureFault o (s ++ t))
 unfolding captureFault
 capture-grows o s t = earlier-grows (format-grows s t) (units-grow o s t)
 

@@ -81,7 +81,7 @@ clear-of o s h =
 
 -- ---- 4
 
-pub long-none : (s : List ℕ) → length s ≤ 268435456 → tooLong s ≡ none
+long-none : (s : List ℕ) → length s ≤ 268435456 → tooLong s ≡ none
 unfolding tooLong
 long-none s h = showing-none (length s) 0 4 268435456 true true h
 

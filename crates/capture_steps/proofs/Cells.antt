@@ -58,9 +58,6 @@ gathered {k} {k′} {piece} {got} {from} {n} l h c =
       below = c .below;
     }
 
-pub gathered-none : (k : List ℕ) (got : ℕ) (t : List ℕ) → length t ≡ 0 → Gathered k got t k
-gathered-none k got t e = record { size = refl; new = λ i g f. absurd (omega arith); below = λ j g. refl }
-
 -- ---- m cells that are there at once, behind k others
 
 module _ (d : ℕ) (some : 0 < d) (small : d ≤ 188) (s t : List ℕ) (h : 24 ≤ length s)

@@ -32,7 +32,7 @@ pub one-is : code-one ≡ one64
 unfolding ofBits ofInt
 one-is = refl
 
-pub hundredth-is : code-hundredth ≡ hundredth
+hundredth-is : code-hundredth ≡ hundredth
 unfolding ofBits hundredth round
 hundredth-is = refl
 

@@ -1,5 +1,5 @@
 -- What the functions within promise makes what the calls promise. No code.
-use Prim.Native.Nat.{ℕ, zero, suc, _+_, _-_, _*_, _≤_, _<_}
+use Prim.Native.Nat.{ℕ, zero, suc, _+_, _*_, _≤_, _<_}
 use native.Mathlib.Omega.{arith}
 use native.Mathlib.Nat.{lt-of-not-le, add-mul, mul-le-mul-right}
 use native.Mathlib.Decide.{decLe}

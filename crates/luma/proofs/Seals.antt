@@ -1,5 +1,5 @@
 -- What a seal needs of the luma side: every figure is the rule's. No code.
-use Prim.Native.Nat.{ℕ, _+_, _-_, _*_, _%_, _^_, _≤_, _<_}
+use Prim.Native.Nat.{ℕ, _+_, _*_, _%_, _^_, _≤_, _<_}
 use native.Mathlib.Omega.{arith}
 use native.Mathlib.Nat.{zero-mul, mul-pos, mod-eq-of-lt, mul-add-mod-self-right}
 use native.Mathlib.Decide.{ℕ-discrete}

@@ -7,14 +7,8 @@ use lib.ListN.{take}
 use Rattle.rules.specs.declared.Opening.{Opening}
 use Rattle.rules.specs.Opening.{side, columns, lines}
 use Rattle.rules.specs.Pictures.{pixels}
-use Rattle.luma_laws.proofs.Blocks.{rows-are, pixels-are}
+use Rattle.luma_laws.proofs.Blocks.{pixels-are}
 use Rattle.luma_blocks.specs.Pixels.{RowsOf}
-
--- the first b rows of the pixels, whatever follows in the picture
-pub rows-whole : (o : Opening) (b : ℕ) (p t : List ℕ) {m : List ℕ} → RowsOf (o .width) (side o) (columns o) b p m →
-    b ≤ lines o → b * columns o ≤ 14104 →
-    take (b * columns o) m ≡ take (b * columns o) (pixels o (p ++ t))
-rows-whole o b p t {m} f few room = rows-are o (p ++ t) m b few (omega (arith, f .size)) (λ r c h k. f .each r c h k t)
 
 -- all rows
 pub picture-whole : (o : Opening) (p t : List ℕ) {m : List ℕ} → RowsOf (o .width) (side o) (columns o) (lines o) p m →

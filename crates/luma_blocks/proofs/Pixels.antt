@@ -21,7 +21,7 @@ use Rattle.luma_blocks.specs.Pixels.{Finished, RowDone}
 use Rattle.luma_blocks.proofs.Rows.{bridge}
 
 -- a run of a row gives a block column at most 255 a column of it that is not passed
-pub column-most : (n c x : ℕ) (t : List ℕ) → 0 < n → Bytes t → tally (inColumn n c) x t ≤ 255 * min n (c * n + n - x)
+column-most : (n c x : ℕ) (t : List ℕ) → 0 < n → Bytes t → tally (inColumn n c) x t ≤ 255 * min n (c * n + n - x)
 unfolding tally
 column-most n c x [] hn empty = omega arith
 column-most n c x (v ∷ t) hn (and h hs) = one (eqb (x / n) c) refl (column-most n c (suc x) t hn hs)
@@ -36,7 +36,7 @@ column-most n c x (v ∷ t) hn (and h hs) = one (eqb (x / n) c) refl (column-mos
     one false e k = rw e (omega arith)
 
 -- y rows of a block row give a block at most 255 a byte
-pub rows-most : (W n b c y : ℕ) (p : List ℕ) → 0 < n → 0 < W → y ≤ n → length p ≡ (b * n + y) * W → Bytes p →
+rows-most : (W n b c y : ℕ) (p : List ℕ) → 0 < n → 0 < W → y ≤ n → length p ≡ (b * n + y) * W → Bytes p →
     blockTally W n b c p ≤ 255 * (y * n)
 rows-most W n b c zero p hn hw h e k =
     let empty : blockTally W n b c p ≡ 0 = earlier W n b c p hn hw (omega (arith, rw (add-zero (b * n)) at e)) in

@@ -43,8 +43,8 @@ fn advance(width: usize, p: Spot, t: usize) -> Spot
     }
 }
 
-// Whether two whole rows come next in the piece. Blocks of fewer than 8 columns, and of more than 16, are faster row by
-// row. Two rows are read side by side, and memory is quick only where it is read in order: so both are read ahead.
+// Whether two whole rows come next in the piece. Blocks of fewer than 8 columns, and of more than 16, are faster row
+// by row. Two rows are read side by side, and memory is quick only where it is read in order: so both are read ahead.
 fn two_next(n: usize, w: usize, width: usize, p: Spot, piece: &[u8]) -> bool
     requires { ⌜ (Ready width n w (p .row) (p .col)) × (p .used ≤ length (now piece)) ⌝ }
     ensures { λ r. ⌜ (r ≡ true → TwoNext width n w p (length (now (piece .entry)))) ⌝ }

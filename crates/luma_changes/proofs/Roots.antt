@@ -1,6 +1,6 @@
 -- Changes: a number that fits, with the next one too large, is the rule's root; and four times V is small enough for
 -- 64 bits.
-use Prim.Native.Nat.{ℕ, _-_, _*_, _≤_, _<_}
+use Prim.Native.Nat.{ℕ, _*_, _≤_, _<_}
 use native.Mathlib.Omega.{arith}
 use native.Mathlib.Nat.{mul-assoc, mul-comm, mul-pos, mul-le-mul, mul-le-mul-left, le-antisymm, le-trans, sub-le}
 use mathlib.Core.Path.{_≡_}

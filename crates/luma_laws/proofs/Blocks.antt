@@ -137,7 +137,7 @@ column-inside o c h =
     omega (arith, add-mul c 1 (side o))
 
 -- the pixel in row r and column c
-pub pixel-tally : (o : Opening) (p : List ℕ) (r c : ℕ) → r < lines o → c < columns o →
+pixel-tally : (o : Opening) (p : List ℕ) (r c : ℕ) → r < lines o → c < columns o →
     pixel o p r c ≡ blockTally (o .width) (side o) r c p / (side o * side o)
 unfolding pixel pixelIn blockSum band rows
 pixel-tally o p r c h k =
@@ -147,7 +147,7 @@ pixel-tally o p r c h k =
     rw (area-side o, sum)
 
 -- it stands at place r × w + c
-pub pixels-at : (o : Opening) (p : List ℕ) (r c : ℕ) → r < lines o → c < columns o →
+pixels-at : (o : Opening) (p : List ℕ) (r c : ℕ) → r < lines o → c < columns o →
     getD (pixels o p) (r * columns o + c) 0 ≡ pixel o p r c
 unfolding pixels pixelLine pixel
 pixels-at o p r c h k =
@@ -165,7 +165,7 @@ factor-some b w {i} l = go (eq-zero-or-pos w)
     go (inr s) = s
 
 -- a list that has the first b rows of the pixels begins with them
-pub rows-are : (o : Opening) (p m : List ℕ) (b : ℕ) → b ≤ lines o → b * columns o ≤ length m →
+rows-are : (o : Opening) (p m : List ℕ) (b : ℕ) → b ≤ lines o → b * columns o ≤ length m →
     ((r c : ℕ) → r < b → c < columns o →
     getD m (r * columns o + c) 0 ≡ blockTally (o .width) (side o) r c p / (side o * side o)) →
     take (b * columns o) m ≡ take (b * columns o) (pixels o p)

@@ -17,7 +17,7 @@ use Rattle.rules.specs.Pictures.{pictureSize, ifOpened, pictureCount, pictures,
 use Rattle.rules.specs.Histograms.{histograms}
 use Rattle.rules.specs.Seal.{reduced}
 use Rattle.rules.specs.Counted.{Whole, otherBin, Counted, hits}
-use Rattle.luma_laws.proofs.Tables.{getD-mapped, parts-length, part-at}
+use Rattle.luma_laws.proofs.Tables.{parts-length}
 use Rattle.luma_laws.proofs.Tally.{tally-append}
 use Rattle.luma_laws.proofs.Histograms.{histograms-total}
 use Rattle.luma_laws.proofs.Moves.{byte-at}
@@ -74,16 +74,6 @@ unfolding reduced pictures
 reduced-length o luma =
     length-map (parts (pictureCount o luma) (pictureSize o) luma) (pixels o)
     ∙ parts-length (pictureCount o luma) (pictureSize o) luma
-
--- the pixels of picture i are those of its W × H bytes
-pub reduced-is : (o : Opening) (luma : List ℕ) (i : ℕ) → i < pictureCount o luma →
-    getD (reduced o luma) i [] ≡ pixels o (take (pictureSize o) (drop (i * pictureSize o) luma))
-unfolding reduced pictures
-reduced-is o luma i h =
-    let n = pictureCount o luma in
-    let m = pictureSize o in
-    getD-mapped (pixels o) (parts n m luma) i [] [] (omega (arith, parts-length n m luma))
-    ∙ ap (pixels o) (part-at n m i luma h)
 
 -- ---- their histograms
 

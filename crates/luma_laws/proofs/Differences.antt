@@ -34,7 +34,7 @@ bins-most (x ∷ xs) (y ∷ ys) = omega (arith, bins-most xs ys)
 pub bins-twice : (xs ys : List ℕ) → total xs ≡ total ys → binsApart xs ys ≤ 2 * total xs
 bins-twice xs ys e = omega (arith, bins-most xs ys)
 
-pub tile-most : (xs ys : List ℕ) → total xs ≡ total ys → tileDifference xs ys ≤ 1000000
+tile-most : (xs ys : List ℕ) → total xs ≡ total ys → tileDifference xs ys ≤ 1000000
 unfolding tileDifference perMillion
 tile-most xs ys e = div-le-of-le-mul (2 * total xs) (omega (arith, bins-twice xs ys e))
 
@@ -87,7 +87,7 @@ smaller-first a b = go (leb a b) refl
     go false e = omega (arith, leb-false a b e)
 
 -- of histograms of pictures of one sample
-pub score-most : (hs : List (List (List ℕ))) (i : ℕ) →
+score-most : (hs : List (List (List ℕ))) (i : ℕ) →
     ((j k : ℕ) → j < length hs → k < length hs → Alike (at hs j) (at hs k)) → cutScore hs i ≤ 1000000
 unfolding cutScore leastOfSix
 score-most hs i alike = go (leb 2 i) (ltb (i + 2) (length hs)) refl refl

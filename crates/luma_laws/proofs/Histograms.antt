@@ -94,7 +94,7 @@ tiles-from w h p (v ∷ px) k =
     split true more = omega arith
     split false more = omega arith
 
-pub tiles-total : (o : Opening) (px : List ℕ) → 0 < columns o → length px ≡ columns o * lines o →
+tiles-total : (o : Opening) (px : List ℕ) → 0 < columns o → length px ≡ columns o * lines o →
     total (table 9 0 (λ t. length (inTile o t px))) ≡ length px
 unfolding inTile
 tiles-total o px k e =

@@ -1,5 +1,5 @@
 -- No sample has more scenes: each start is at least m pictures after the one before and has two pictures behind it.
-use Prim.Native.Nat.{ℕ, suc, _+_, _-_, _*_, _/_, _≤_, _<_}
+use Prim.Native.Nat.{ℕ, _+_, _-_, _*_, _/_, _≤_, _<_}
 use native.Mathlib.Omega.{arith}
 use native.Mathlib.Nat.{mul-comm, mul-le-mul-left, le-div-iff-mul-le, zero-div, le-refl}
 use native.Mathlib.Decide.{decLt}

@@ -24,7 +24,6 @@ use Rattle.rules.specs.Editions.{roundsToNearest}
 use Rattle.rules.specs.Seal.{reduced, scenesIn, scenes}
 use Rattle.rules.proofs.Laws.Lists.{both, length-table}
 use Rattle.luma_laws.proofs.Tables.{getD-table, parts-length}
-use Rattle.luma_laws.proofs.Sizes.{good}
 
 -- ---- starts
 
@@ -109,7 +108,7 @@ starts-first d [] h = absurd (omega arith)
 starts-first d (s ∷ ss) h = let e : suc (length ss) - 1 ≡ length ss = omega arith in rw e
 
 -- the scenes of pictures start at 0, join without gap and total the pictures
-pub scenes-join : (d : ℕ) (ss : List ℕ) (rs : List Bool) (qs : List ℕ) → 1 ≤ length ss →
+scenes-join : (d : ℕ) (ss : List ℕ) (rs : List Bool) (qs : List ℕ) → 1 ≤ length ss →
     Joins (length ss) 0 (scenesOf d ss rs qs)
 unfolding scenesOf starts
 scenes-join d [] rs qs h = absurd (omega arith)

@@ -2,28 +2,20 @@
 -- level is the greatest of all.
 use Prim.Native.Nat.{ℕ, zero, suc, _*_, _/_, _^_, _≤_, _<_}
 use native.Mathlib.Omega.{arith}
-use native.Mathlib.Nat.{mul-comm, mul-le-mul, pow-suc, pow-le-pow-right, one-le-pow, div-one, le-div-iff-mul-le}
+use native.Mathlib.Nat.{mul-le-mul, pow-suc, pow-le-pow-right, one-le-pow, div-one, le-div-iff-mul-le}
 use native.Mathlib.Nat.{div-lt-iff-lt-mul, lt-of-not-le}
 use native.Mathlib.Decide.{decLe}
-use mathlib.Core.Path.{_≡_, refl, _∙_}
+use mathlib.Core.Path.{_≡_, refl}
 use mathlib.Core.Bool.{Bool, true, false, _&&_}
-use mathlib.Core.List.{List, [], map}
-use lib.ListN.{length, getD}
 use lib.Dec.{leb}
 use borrow.Author.Tests.{leb-true, le-leb, lt-leb}
 use Rattle.rules.specs.declared.Opening.{Opening}
-use Rattle.rules.specs.Bytes.{pick, within, total, Bytes}
+use Rattle.rules.specs.Bytes.{pick, within}
 use Rattle.rules.specs.Refusals.{Fault, none, unless, _orElse_}
 use Rattle.rules.specs.Editions.{isEdition}
 use Rattle.rules.specs.Opening.{goodSize, goodTime, goodPid, openingFault, levelUpTo, level, side, columns, lines}
 use Rattle.rules.specs.Opening.{pixelCount}
-use Rattle.rules.specs.Pictures.{pixels}
-use Rattle.rules.specs.Histograms.{histograms}
 use Rattle.rules.proofs.Laws.Lists.{both, inside}
-use Rattle.luma_laws.proofs.Histograms.{histograms-total}
-use Rattle.luma_laws.proofs.Pictures.{pixels-length, pixels-small}
-use Rattle.luma_laws.proofs.Tiles.{tile-total}
-use Rattle.luma_laws.proofs.Thirds.{tile-some}
 
 -- ---- the given values
 
@@ -177,22 +169,3 @@ sizes o g =
     }
 
 -- ---- its pictures
-
--- the bins of a picture's nine histograms total w × h
-pub picture-total : (o : Opening) (picture : List ℕ) → Good o → Bytes picture →
-    total (map total (histograms o (pixels o picture))) ≡ pixelCount o
-unfolding pixelCount
-picture-total o picture g h =
-    let s = sizes o g in
-    histograms-total o (pixels o picture) (omega (arith, s .columns-low)) (pixels-length o picture)
-    (pixels-small o picture h)
-
--- no tile of a picture is empty
-pub picture-tiles : (o : Opening) (picture : List ℕ) (t : ℕ) → Good o → Bytes picture → t < 9 →
-    0 < total (getD (histograms o (pixels o picture)) t [])
-picture-tiles o picture t g h l =
-    let s = sizes o g in
-    let px = pixels o picture in
-    let size : length px ≡ lines o * columns o = pixels-length o picture ∙ mul-comm (columns o) (lines o) in
-    rw (tile-total o px t (pixels-small o picture h) l)
-    (tile-some (columns o) (lines o) t px (omega (arith, s .columns-low)) (omega (arith, s .lines-low)) l size)

@@ -1,13 +1,13 @@
 -- The figures of pictures i to before j, taken picture by picture.
 use Prim.Native.Nat.{ℕ, zero, suc, _+_, _-_, _*_, _≤_, _<_, max}
 use native.Mathlib.Omega.{arith}
-use native.Mathlib.Nat.{sub-self, sub-zero, mul-suc}
+use native.Mathlib.Nat.{sub-self, mul-suc}
 use native.Mathlib.Numerals.{add-one}
 use mathlib.Core.Path.{_≡_, refl}
 use mathlib.Core.List.{List, [], _∷_}
 use mathlib.Core.Bool.{Bool, true, false, not}
 use lib.ListN.{length, getD, take, drop, length-drop}
-use lib.Seq.{drop-cons, take-suc, take-all, getD-drop}
+use lib.Seq.{drop-cons, take-suc, getD-drop}
 use Rattle.rules.specs.Bytes.{pick, total, greatestOf, count}
 use Rattle.rules.specs.Scenes.{span, isTrue, longestFrom}
 use Rattle.rules.proofs.Laws.Lists.{total-append, larger-max}
@@ -124,7 +124,3 @@ unfolding count
 both [] = refl
 both (true ∷ rs) = let h = both rs in omega arith
 both (false ∷ rs) = let h = both rs in omega arith
-
--- a whole list is the span from 0
-pub span-all : (xs : List Bool) (n : ℕ) → length xs ≡ n → span 0 n xs ≡ xs
-span-all xs n e = rw (sub-zero n) (take-all n xs (omega arith))

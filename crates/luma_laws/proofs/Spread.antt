@@ -4,8 +4,7 @@
 use Prim.Native.Nat.{ℕ, zero, suc, _+_, _-_, _*_, _≤_, _<_}
 use native.Mathlib.Omega.{arith}
 use native.Mathlib.Nat.{mul-add, add-mul, mul-comm, mul-assoc, mul-left-comm, mul-zero, zero-mul, suc-mul, mul-pos}
-use native.Mathlib.Nat.{mul-le-mul, mul-le-mul-left, mul-le-mul-right, le-of-mul-le-mul-left, le-trans, lt-of-not-le}
-use native.Mathlib.Nat.{le-of-suc-le-suc}
+use native.Mathlib.Nat.{mul-le-mul, mul-le-mul-left, le-of-mul-le-mul-left, le-trans}
 use mathlib.Core.Path.{_≡_, refl, ap, _∙_}
 use mathlib.Core.Bool.{Bool, true, false}
 use mathlib.Core.List.{List, [], _∷_}
@@ -67,7 +66,7 @@ grow n a s d h =
     )
 
 -- (sum of f)² ≤ n × sum of f²
-pub cauchy : (f : ℕ → ℕ → ℕ) (q : ℕ) (t : List ℕ) →
+cauchy : (f : ℕ → ℕ → ℕ) (q : ℕ) (t : List ℕ) →
     tally f q t * tally f q t ≤ length t * tally (λ i v. f i v * f i v) q t
 unfolding tally
 cauchy f q [] = omega arith
@@ -77,7 +76,7 @@ cauchy f q (v ∷ t) =
 -- ---- V
 
 -- (sum of e)² ≤ n × sum of e², with the tallies that a picture's pixels add to
-pub never-cut : (old new : List ℕ) →
+never-cut : (old new : List ℕ) →
     apart (ups old new) (downs old new) * apart (ups old new) (downs old new) ≤ length new * squared old new
 never-cut old new =
     let e = tally-add (rise old) (fall old) 0 new in

@@ -38,7 +38,7 @@ third-after : (n j i : ℕ) → 0 < n → thirdFrom n (j + 1) ≤ i → j + 1 �
 unfolding third
 third-after n j i some h = le-div-iff-mul-le some .1 (omega arith)
 
-pub third-some : (n j : ℕ) → 3 ≤ n → 0 < thirdSize n j
+third-some : (n j : ℕ) → 3 ≤ n → 0 < thirdSize n j
 third-some n j h = omega (arith, add-mul j 1 n)
 
 third-last : (n j : ℕ) → j < 3 → thirdFrom n j + thirdSize n j ≤ n

@@ -1,5 +1,5 @@
 -- A block row of the current picture, and its end. No code.
-use Prim.Native.Nat.{ℕ, zero, suc, _+_, _-_, _*_, _/_, _%_, _^_, _≤_, _<_}
+use Prim.Native.Nat.{ℕ, zero, suc, _+_, _*_, _/_, _%_, _^_, _≤_, _<_}
 use native.Mathlib.Omega.{arith}
 use native.Mathlib.Nat.{add-mul, mul-le-mul-right, mul-pos, lt-of-not-le, add-zero, div-add-mod', div-lt-iff-lt-mul}
 use native.Mathlib.Nat.{mod-lt}

@@ -2,7 +2,7 @@
 // made, counted and compared.
 ghost use mathlib.Core.Path.{_≡_};
 ghost use lib.ListN.{length};
-ghost use Prim.Native.Nat.{_+_, _%_, _^_, _≤_, _<_};
+ghost use Prim.Native.Nat.{_+_, _≤_, _<_};
 ghost use Rattle.luma_changes.specs.Figures.{Compared};
 ghost use Rattle.luma_state.specs.State.{Fits, slot};
 ghost use Rattle.luma_rows.specs.Contract.{Keeps, movedTo, nextRow, AtRowEnd, RowEnded, Puts, AtPlainRows};

@@ -1,5 +1,5 @@
 -- The scalars in the words, and a place inside a picture. No code.
-use Prim.Native.Nat.{ℕ, suc, _+_, _-_, _/_, _≤_}
+use Prim.Native.Nat.{ℕ, suc, _+_, _/_, _≤_}
 use native.Mathlib.Omega.{arith}
 use native.Mathlib.Nat.{mul-le-mul, mul-le-mul-right, mul-comm, div-mul-le-self, div-le-self}
 use mathlib.Core.Path.{_≡_, refl, ap, _∙_}

@@ -1,5 +1,5 @@
 -- The opening. No code.
-use Prim.Native.Nat.{ℕ, zero, suc, _+_, _-_, _*_, _^_, _≤_, _<_}
+use Prim.Native.Nat.{ℕ, zero, suc, _+_, _*_, _^_, _≤_, _<_}
 use native.Mathlib.Omega.{arith}
 use native.Mathlib.Nat.{zero-mul, mod-eq-of-lt, lt-of-not-le}
 use native.Mathlib.Decide.{decLe}

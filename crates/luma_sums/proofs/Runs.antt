@@ -47,7 +47,7 @@ unfolding tally
 added-none n w x b = record { size = refl; grown = λ e c h. rw (add-zero (getD b c 0)) refl; other = λ c h. refl }
 
 -- two runs, one after the other
-pub added-append : {n w x : ℕ} {p t b a z : List ℕ} → Added n w x p b a → Added n w (x + length p) t a z →
+added-append : {n w x : ℕ} {p t b a z : List ℕ} → Added n w x p b a → Added n w (x + length p) t a z →
     Added n w x (p ++ t) b z
 added-append {n} {w} {x} {p} {t} {b} {a} {z} f g =
     record {
@@ -62,7 +62,7 @@ added-past n w q c t a p lo h =
     record { size = refl; grown = λ e d y. omega (arith, past n c d q t p lo (omega arith)); other = λ d y. refl }
 
 -- a run within the block column c
-pub added-one : (n w q c v : ℕ) (t a : List ℕ) → c < w → w ≤ 240 → c * n ≤ q → q + length t ≤ c * n + n →
+added-one : (n w q c v : ℕ) (t a : List ℕ) → c < w → w ≤ 240 → c * n ≤ q → q + length t ≤ c * n + n →
     v ≡ (getD a c 0 + total t) % 2 ^ 32 →
     Added n w q t a (set a c v)
 added-one n w q c v t a h k lo hi e =

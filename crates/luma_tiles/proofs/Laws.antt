@@ -10,7 +10,6 @@ use lib.ListN.{length, getD, drop, set, length-append, length-drop, length-set}
 use lib.Dec.{eqb}
 use lib.Seq.{take-suc, getD-drop, getD-set-same, getD-set-other}
 use borrow.Author.Count.{below-more}
-use mathlib.Core.Logic.{_⊎_, inl, inr}
 use borrow.Author.Tests.{eqb-true, eqb-false}
 use Rattle.rules.specs.Bytes.{pick, count, tally}
 use Rattle.rules.specs.Histograms.{third, tileAt, bin, inBin}
@@ -21,9 +20,9 @@ use Rattle.luma_laws.proofs.Tiles.{bin-more}
 use Rattle.luma_laws.proofs.Thirds.{tile-of}
 use Rattle.luma_sums.specs.Sums.{run}
 use Rattle.luma_sums.proofs.Runs.{run-length, run-split, column}
-use Rattle.luma_tiles.specs.Bins.{Counts, Kept, Cleared, inTile, Grown, Three, CountedRow}
+use Rattle.luma_tiles.specs.Bins.{Kept, Cleared, inTile, Grown, Three, CountedRow}
 
-pub kept-none : (base : ℕ) (a : List ℕ) → Kept base a a
+kept-none : (base : ℕ) (a : List ℕ) → Kept base a a
 kept-none base a = record { size = refl; low = λ i h. refl; high = λ i h. refl }
 
 pub kept-more : {base : ℕ} {a b d : List ℕ} → Kept base a b → Kept base b d → Kept base a d
@@ -37,21 +36,6 @@ kept-set base k x a h =
       size = length-set a (base + k) x;
       low = λ i l. getD-set-other a (base + k) i x 0 (λ m. omega arith);
       high = λ i l. getD-set-other a (base + k) i x 0 (λ m. omega arith);
-    }
-
--- the counts of another picture of the ring stay
-pub others-stay : {w h other base : ℕ} {p a b : List ℕ} → Kept base a b →
-    (slot : (other + 144 ≤ base) ⊎ (base + 144 ≤ other)) → Counts w h other p a → Counts w h other p b
-others-stay {other = other} k (inl below) s =
-    record {
-      size = k .size ∙ s .size;
-      each = λ t b ht hb. ap (λ (z : ℕ). z % 2 ^ 32) (k .low (other + (16 * t + b)) (omega arith)) ∙ s .each t b ht hb;
-    }
-others-stay {other = other} k (inr above) s =
-    record {
-      size = k .size ∙ s .size;
-      each =
-          λ t b ht hb. ap (λ (z : ℕ). z % 2 ^ 32) (k .high (other + (16 * t + b)) (omega arith)) ∙ s .each t b ht hb;
     }
 
 -- ---- counts that grow

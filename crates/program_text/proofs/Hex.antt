@@ -14,7 +14,7 @@ use Rattle.words.proofs.Laws.{written-sets}
 use Rattle.record_text.proofs.Texts.{line-more}
 use Rattle.program_text.specs.Text.{digit, hexText}
 
-pub length-hexText : (bs : List ℕ) → length (hexText bs) ≡ 2 * length bs
+length-hexText : (bs : List ℕ) → length (hexText bs) ≡ 2 * length bs
 unfolding hexText endToEnd
 length-hexText [] = refl
 length-hexText (b ∷ bs) = omega (arith, length-hexText bs)

@@ -43,7 +43,7 @@ length-from (suc n) time place s = ap suc (length-from n time (place + 188) (dro
 abbrev cellsIn : List ℕ → ℕ
 cellsIn f = (udpLength f - 8) / 188
 
-pub cells-told : (place : ℕ) (fs : List (List ℕ)) → length (packets place fs) ≡ total (map cellsIn (only carries fs))
+cells-told : (place : ℕ) (fs : List (List ℕ)) → length (packets place fs) ≡ total (map cellsIn (only carries fs))
 unfolding packets only total packetsOf packetsIn
 cells-told place [] = refl
 cells-told place (f ∷ fs) = go (carries f) (cells-told (place + length f) fs)

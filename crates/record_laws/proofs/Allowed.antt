@@ -21,7 +21,7 @@ use Rattle.rules.specs.Reading.{headerOf, unitPlace, scenePlace, unitAt, sceneA
 use Rattle.rules.specs.Reading.{allowedUnits, allowedScene, allowedScenes, allowedRows, allowed}
 use Rattle.record_laws.proofs.Words.{EachByte, word32-bytes, bytes-word32, bytes-word64, word32-fits}
 use Rattle.record_laws.proofs.Words.{word64-fits}
-use Rattle.rules.proofs.Laws.Lists.{both, inside, length-table}
+use Rattle.rules.proofs.Laws.Lists.{both, inside}
 use Rattle.rules.specs.Reading.{unitIn, sceneIn}
 use Rattle.record_laws.proofs.Record.{HeaderFits, UnitFits, SceneFits, Each, Figures, unit-back, scene-back}
 use Rattle.record_laws.proofs.Record.{scene-zero, length-header, length-unit, length-scene}
@@ -404,23 +404,6 @@ unfolding table
 each-table P f h zero from = tt
 each-table P f h (suc n) from = (h from, each-table P f h n (suc from))
 
-header-fits : (r : List ℕ) → EachByte r → HeaderAllowed (length r) r → HeaderFits (headerOf r)
-unfolding headerOf recordLength
-header-fits r b a =
-    record {
-      edition = word32-fits r 0 b;
-      length = omega (arith, a .unitsLess, a .scenesLess);
-      width = word32-fits r 24 b;
-      height = word32-fits r 28 b;
-      time = word32-fits r 32 b;
-      pid = word32-fits r 36 b;
-      pictures = word32-fits r 40 b;
-      frames = word32-fits r 44 b;
-      skipped = word32-fits r 48 b;
-      bad = word32-fits r 52 b;
-      index = word64-fits r 56 b;
-    }
-
 pub unit-fits : (r : List ℕ) → EachByte r → (j : ℕ) → UnitFits (unitAt r j)
 unfolding unitAt unitIn
 unit-fits r b j =
@@ -449,19 +432,3 @@ scene-fits r b j =
       peak = word32-fits t 20 y;
       change = word32-fits t 24 y;
     }
-
-pub figures-read : (r : List ℕ) → EachByte r → allowed r ≡ true → Figures (headerOf r) (unitsRead r) (scenesRead r)
-unfolding headerOf unitsRead scenesRead
-figures-read r b e =
-    record {
-      header = header-fits r b (record-allowed r e .header);
-      units = length-table (word32 r 8) 0 (unitAt r);
-      scenes = length-table (word32 r 16) 0 (sceneAt r);
-      unitRows = each-table UnitFits (unitAt r) (unit-fits r b) (word32 r 8) 0;
-      sceneRows = each-table SceneFits (sceneAt r) (scene-fits r b) (word32 r 16) 0;
-    }
-
-pub good-read : (r : List ℕ) → EachByte r → allowed r ≡ true →
-    goodFigures (headerOf r) (unitsRead r) (scenesRead r) ≡ true
-good-read r b e = sym (allowed-figures (headerOf r) (unitsRead r) (scenesRead r) (figures-read r b e))
-    ∙ (ap allowed (record-again r b e) ∙ e)

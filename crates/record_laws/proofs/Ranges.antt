@@ -454,7 +454,7 @@ scene-fits {n} {s} h r =
 
 -- ---- the index's bits, and the header
 
-pub index-small : (o : Opening) (capture luma : List ℕ) → indexBits (index o capture luma) < 2 ^ 64
+index-small : (o : Opening) (capture luma : List ℕ) → indexBits (index o capture luma) < 2 ^ 64
 unfolding indexBits index indexFrom indexOf valueOf
 index-small o capture luma = toBits-lt binary64 _ (add-fits binary64 (float 1) _)
 

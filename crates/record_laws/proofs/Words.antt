@@ -37,7 +37,7 @@ length-bytes zero x = refl
 length-bytes (suc n) x = ap suc (length-bytes n (x / 256))
 
 -- what stands behind p is read from place length p on
-pub number-behind : (n : ℕ) (p s : List ℕ) (i : ℕ) → number n (p ++ s) (length p + i) ≡ number n s i
+number-behind : (n : ℕ) (p s : List ℕ) (i : ℕ) → number n (p ++ s) (length p + i) ≡ number n s i
 unfolding number
 number-behind zero p s i = refl
 number-behind (suc n) p s i =
@@ -97,10 +97,6 @@ bytes-word64 s i b h = rw (word64-number s i) (bytes-number 8 s i b h)
 pub word32-drop : (i : ℕ) (s : List ℕ) (j : ℕ) → word32 (drop i s) j ≡ word32 s (i + j)
 unfolding word32
 word32-drop i s j = simp (getD-drop, add-assoc)
-
-pub word64-drop : (i : ℕ) (s : List ℕ) (j : ℕ) → word64 (drop i s) j ≡ word64 s (i + j)
-unfolding word64
-word64-drop i s j = simp (word32-drop, add-assoc)
 
 -- a word of a byte string fits
 pub word32-fits : (s : List ℕ) (i : ℕ) → EachByte s → word32 s i < 2 ^ 32

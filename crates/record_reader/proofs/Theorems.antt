@@ -41,9 +41,6 @@ pub allowed-opened : (r : List ℕ) → allowed r ≡ true → openedAs r ≡ Ac
 unfolding openedAs
 allowed-opened r e = rw (allowed-accepted r e)
 
-pub opened-allowed : (r : List ℕ) (u s : ℕ) → openedAs r ≡ Accepted u s → allowed r ≡ true
-opened-allowed r u s e = accepted-as r u s e .allowed
-
 -- ---- reading what was written
 
 module _ (h : Header) (us : List UnitRow) (ss : List SceneRow) (f : Figures h us ss)

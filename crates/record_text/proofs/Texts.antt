@@ -137,7 +137,7 @@ pub length-field : (n : ℕ) → length (field n) ≤ 21
 unfolding field decimal
 length-field n = omega (arith, length-decimal 20 n)
 
-pub field-more : (ns : List ℕ) (i : ℕ) → i < length ns →
+field-more : (ns : List ℕ) (i : ℕ) → i < length ns →
     fields (take (i + 1) ns) ≡ fields (take i ns) ++ field (getD ns i 0)
 unfolding fields endToEnd
 field-more ns i h =

@@ -18,7 +18,7 @@ use Rattle.words.proofs.Behind.{next, over-written}
 abbrev pub four : ℕ → ℕ → ℕ → ℕ → List ℕ
 four a b c d = bytesOf 4 a ++ bytesOf 4 b ++ bytesOf 4 c ++ bytesOf 4 d
 
-pub length-four : (a b c d : ℕ) → length (four a b c d) ≡ 16
+length-four : (a b c d : ℕ) → length (four a b c d) ≡ 16
 length-four a b c d = simp (length-append, length-bytes)
 
 module _ (at a b c d : ℕ) (s : List ℕ) {s₁ s₂ s₃ s₄ : List ℕ} (fits : at + 16 ≤ length s) where

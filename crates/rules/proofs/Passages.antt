@@ -1,5 +1,4 @@
 -- Document 02, R-12: passages by hand, as a table with one theorem over its entries.
-use Prim.Native.Nat.{ℕ}
 use mathlib.Core.Path.{_≡_, refl}
 use mathlib.Core.List.{List, [], _∷_, _++_, map}
 use mathlib.Core.Bool.{Bool, true, false}

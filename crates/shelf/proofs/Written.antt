@@ -54,7 +54,7 @@ offset-is at [] k h = absurd (omega arith)
 offset-is at (l ∷ ls) zero h = omega arith
 offset-is at (l ∷ ls) (suc k) h = omega (arith, offset-is (at + l) ls k (omega arith))
 
-pub offsets-below : (at m : ℕ) (ls : List ℕ) → at + total ls < m → All (λ (x : ℕ). x < m) (offsetsFrom at ls)
+offsets-below : (at m : ℕ) (ls : List ℕ) → at + total ls < m → All (λ (x : ℕ). x < m) (offsetsFrom at ls)
 unfolding offsetsFrom total
 offsets-below at m [] h = empty
 offsets-below at m (l ∷ ls) h = and {x = at} (omega arith) (offsets-below (at + l) m ls (omega arith))

@@ -3,7 +3,7 @@ use Prim.Native.Nat.{ℕ}
 use mathlib.Core.Path.{_≡_, refl, sym, ap, _∙_}
 use mathlib.Core.List.{List, [], _∷_, _++_, append-nil, append-assoc, head-eq-of-cons-eq, tail-eq-of-cons-eq}
 use mathlib.Core.List.{cons-ne-nil}
-use Rattle.rules.specs.Survey.{SurveyCall, feedSurvey, askSurvey, SurveyOutcome, fedSurvey, found, surveyExpected}
+use Rattle.rules.specs.Survey.{SurveyCall, feedSurvey, askSurvey, SurveyOutcome, found, surveyExpected}
 use Rattle.rules.specs.Survey.{surveyFed, surveyAnswer}
 use Rattle.survey.specs.State.{State, Means}
 use Rattle.survey.specs.Calls.{feeds, asks, Runs, done, next, EverySurvey, CuttingsAlike}

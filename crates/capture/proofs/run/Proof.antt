@@ -1,10 +1,9 @@
 -- `run` meets its contract. The invariant: the bytes before i are taken in.
-use Prim.Native.Nat.{_+_, _-_, _≤_}
+use Prim.Native.Nat.{_-_, _≤_}
 use native.Mathlib.Omega.{arith}
 use lib.ListN.{length, take}
 use Rattle.capture.specs.Contract.{Goes}
 use Rattle.capture.proofs.Pieces.{goes-none, goes-stopped, goes-step, goes-all}
-use borrow.Author.Needs.{needs}
 use Rattle.capture.proofs.run.Statement.{statement}
 use Rattle.capture.proofs.run.Tie as tie
 

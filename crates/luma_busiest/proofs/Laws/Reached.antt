@@ -22,7 +22,7 @@ use Rattle.rules.specs.Changes.{repeats}
 use Rattle.rules.specs.Seal.{reduced, scenesIn, scenes}
 use Rattle.rules.specs.Busiest.{leastBetween, mostScenes, shade, busiestLuma, lumaFor, OneHasThatMany}
 use Rattle.rules.proofs.Laws.Lists.{length-table}
-use Rattle.luma_laws.proofs.Tables.{getD-table, getD-mapped, same-table}
+use Rattle.luma_laws.proofs.Tables.{getD-table, getD-mapped}
 use Rattle.luma_laws.proofs.Scenes.{starts-first, cut-inside, score-at, scores-length}
 use Rattle.luma_laws.proofs.Sizes.{good}
 use Rattle.luma_laws.proofs.Least.{between-is, between-three}

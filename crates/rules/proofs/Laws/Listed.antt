@@ -10,7 +10,7 @@ use lib.Dec.{leb, ltb, eqb}
 use borrow.Author.Tests.{le-leb, lt-leb, leb-true}
 use Rattle.rules.specs.declared.Opening.{Opening}
 use Rattle.rules.specs.declared.UnitRow.{UnitRow}
-use Rattle.rules.specs.Bytes.{pick, byte, word32}
+use Rattle.rules.specs.Bytes.{pick, word32}
 use Rattle.rules.specs.Refusals.{Fault, none, fault, unless, _orElse_, lastNumber, InTable, listed}
 use Rattle.rules.specs.Editions.{isEdition}
 use Rattle.rules.specs.Opening.{goodSize, goodTime, goodPid, openingFault}

@@ -1,11 +1,9 @@
 -- `run` meets its contract: step by step, what the walk tells is counted.
-use Prim.Native.Nat.{_+_, _-_, _≤_}
+use Prim.Native.Nat.{_-_, _≤_}
 use native.Mathlib.Omega.{arith}
-use native.Mathlib.Nat.{lt-of-le-of-lt}
 use lib.ListN.{length, take}
 use Rattle.survey.specs.Contract.{Goes}
 use Rattle.survey.proofs.Steps.{goes-none, goes-step, goes-all}
-use borrow.Author.Needs.{needs}
 use Rattle.survey.proofs.run.Statement.{statement}
 use Rattle.survey.proofs.run.Tie as tie
 

@@ -1,7 +1,6 @@
 -- `change` meets its contract: the tests leave only numbers that a picture can give, for which 64 bits are enough.
-use Prim.Native.Nat.{_+_, _*_, _/_, _≤_, _^_, _<_}
+use Prim.Native.Nat.{_≤_}
 use native.Mathlib.Omega.{arith}
-use mathlib.Core.Path.{_≡_, _∙_, ap}
 use borrow.Author.Needs.{needs}
 use Rattle.rules.specs.Changes.{changeFrom, nearest}
 use Rattle.luma_changes.proofs.Roots.{asked, asked-four, spread-few, root-few}
