@@ -39,8 +39,7 @@ fn counts_in(bytes: &[u8]) -> Counts
 }
 
 // Whether the bytes say so many units and have room for the rows of so many units and scenes. An accepted record
-// passes with its own counts; 0 and 0 never pass
-// (proofs/Counted).
+// passes with its own counts; 0 and 0 never pass (proofs/Counted).
 fn fit(bytes: &[u8], units: usize, scenes: usize) -> bool
     ensures { λ r. ⌜ r ≡ fits (now (bytes .entry)) units scenes ⌝ }
 {

@@ -70,7 +70,7 @@ tooLong capture = showing (length capture) 4 268435456 true
 abbrev pub isMagic : List ℕ → Bool
 isMagic s = eqb (byte s 0) 0xD4 && eqb (byte s 1) 0xC3 && eqb (byte s 2) 0xB2 && eqb (byte s 3) 0xA1
 
--- 5: they are not
+-- 5: the first four bytes are not these
 unfoldable pub wrongMagic : List ℕ → Fault
 wrongMagic capture = showing (length capture) 5 3 (not (isMagic capture))
 

@@ -1,7 +1,6 @@
 -- Demand 3, as one statement about a whole list of calls. After one opening, refused or not, every list of capture
--- feeds, luma feeds and questions comes to what
--- the rules give for the opening and the joined strings alone, each call getting the state
--- that the call before it left.
+-- feeds, luma feeds and questions comes to what the rules give for the opening and the joined strings alone, each call
+-- getting the state that the call before it left.
 use Prim.Native.Nat.{ℕ, _+_, _^_, _≤_, _<_}
 use mathlib.Core.Path.{_≡_}
 use mathlib.Core.List.{List, [], _∷_, _++_}
