@@ -199,7 +199,7 @@ pub fn add_cell(table: &mut Table, s: Units, c: Cell) -> Units
         return begin(table, s, c);
     }
     let k = c.condition;
-    if is_damaged(k) {
+    if is_damaged(k) { // it begins no unit, whatever its start mark
         mark(table, s);
         return s;
     }

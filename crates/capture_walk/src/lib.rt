@@ -44,7 +44,7 @@ pub fn open(words: &mut WalkWords, kept: &mut Collected)
 pub fn inside(s: Walk) -> bool
     ensures { λ r. ⌜ Asks s r ⌝ }
 {
-    if s.fed < 24 {
+    if s.fed < 24 { // the file's header
         return true;
     }
     0 < s.at
