@@ -20,11 +20,10 @@ use Rattle.rules.specs.Editions.{knowsDamage}
 use Rattle.rules.specs.Packets.{Packet, udpLength, carries, packetsFrom, packetsIn, packetsOf, packets}
 use Rattle.rules.specs.Packets.{shown, startsCell, damageMark, condition, identifier, isWanted, startMark}
 use Rattle.rules.specs.Packets.{wantedOf}
-use Rattle.rules.specs.Units.{Arrival, setApart, firstArrival, damagedArrival, laterArrival, arrivalsAfter}
-use Rattle.rules.specs.Units.{arrivals, beginnings}
+use Rattle.rules.specs.Units.{Arrival, setApart, arrivalsAfter, arrivals, beginnings}
 use Rattle.rules.specs.Capture.{wholeFrames, unfinished, allFrames, shownWanted, beginsAt, tooManyUnits}
 use Rattle.rules.specs.Capture.{captureFault}
-use Rattle.rules.proofs.Laws.Lists.{all-drop, all-append, only-all, only-append}
+use Rattle.rules.proofs.Laws.Lists.{by-pick, by-picks, all-drop, all-append, only-all, only-append}
 use Rattle.capture_laws.proofs.Faults.{no-fault, at-fault, late-fault, Grows, same, new, grows-kept}
 use Rattle.capture_laws.proofs.Faults.{earlier-grows, format-grows}
 use Rattle.capture_laws.proofs.Frames.{size-least, size-append, frames-none, rest-none, frames-one, rest-one}
@@ -146,12 +145,8 @@ isShown p = leb 4 (length (p .bytes))
 
 of-late : (n place : ℕ) (f : List ℕ) → n ≤ place + 61 → All (After n) (shown (packetsOf place f))
 unfolding shown packetsOf packetsIn
-of-late n place f h = go (carries f)
-  where
-    go : (b : Bool) → All (After n) (shown (pick b (packetsIn place f) []))
-    go true = only-all isShown
-        (from-late n ((udpLength f - 8) / 188) (frameTime f) (place + 58) (drop 42 (body f)) (omega arith))
-    go false = only-all isShown empty
+of-late n place f h = only-all isShown (by-pick (All (After n)) (carries f)
+    (from-late n ((udpLength f - 8) / 188) (frameTime f) (place + 58) (drop 42 (body f)) (omega arith)) empty)
 
 of-early : (n place : ℕ) (f : List ℕ) → place + length f ≤ n → All (Early n) (shown (packetsOf place f))
 unfolding shown packetsOf packetsIn only body
@@ -186,25 +181,17 @@ in-none place x h = from-none ((udpLength x - 8) / 188) (frameTime x) (place + 5
 
 of-none : (place : ℕ) (x : List ℕ) → length x < 62 → shown (packetsOf place x) ≡ []
 unfolding packetsOf shown only
-of-none place x h = go (carries x)
-  where
-    go : (b : Bool) → shown (pick b (packetsIn place x) []) ≡ []
-    go true = in-none place x h
-    go false = refl
+of-none place x h = by-pick (λ (ps : List Packet). shown ps ≡ []) (carries x) (in-none place x h) refl
 
 of-grow : (n place : ℕ) (x t : List ℕ) → n ≡ place + length x →
     Extends n (shown (packetsOf place x)) (shown (packetsOf place (x ++ t)))
 unfolding packetsOf shown only
-of-grow n place x t e = go (decLe 62 (length x))
-  where
-    there : 62 ≤ length x → (b : Bool) →
-        Extends n (shown (pick b (packetsIn place x) [])) (shown (pick b (packetsIn place (x ++ t)) []))
-    there h true = in-grow n place x t e h
-    there h false = ends empty
-
-    go : Dec (62 ≤ length x) → Extends n (shown (packetsOf place x)) (shown (packetsOf place (x ++ t)))
-    go (yes h) = rw (carries-more x t (omega arith)) (there h (carries x))
-    go (no h) = rw (of-none place x (lt-of-not-le h)) (ends (of-late n place (x ++ t) (omega arith)))
+of-grow n place x t e = elim (decLe 62 (length x)) [
+  | yes h ↦ rw (carries-more x t (omega arith))
+      (by-picks (λ (ps qs : List Packet). Extends n (shown ps) (shown qs)) (carries x) (in-grow n place x t e h)
+      (ends empty))
+  | no h ↦ rw (of-none place x (lt-of-not-le h)) (ends (of-late n place (x ++ t) (omega arith)))
+]
 
 -- ---- the packets of frames
 
@@ -304,13 +291,9 @@ wanted-extends : (o : Opening) {n : ℕ} {ps qs : List Packet} → Extends n ps 
     Extends n (wantedOf o ps) (wantedOf o qs)
 unfolding wantedOf only
 wanted-extends o (ends h) = ends (only-all (λ (p : Packet). isWanted o (p .bytes)) h)
-wanted-extends o {n} (pair {p} {q} {ps} {qs} a e) =
-    rw (wanted-alike o a) (go (isWanted o (p .bytes)) (wanted-extends o e))
-  where
-    go : (b : Bool) → Extends n (wantedOf o ps) (wantedOf o qs) →
-        Extends n (pick b (p ∷ wantedOf o ps) (wantedOf o ps)) (pick b (q ∷ wantedOf o qs) (wantedOf o qs))
-    go true r = pair a r
-    go false r = r
+wanted-extends o {n} (pair {p} a e) =
+    let r = wanted-extends o e in
+    rw (wanted-alike o a) (by-picks (Extends n) (isWanted o (p .bytes)) (pair a r) r)
 
 -- ---- the units that begin
 
@@ -327,24 +310,14 @@ module _ (known : Bool) where
       All (Behind n) (arrivalsAfter false known q qs)
   unfolding arrivalsAfter
   after-late n q empty = empty
-  after-late n q (and {x} {xs} h hs) = go (setApart known x) (after-late n q hs) (after-late n x hs)
-    where
-      go : (t : Bool) → All (Behind n) (arrivalsAfter false known q xs) →
-          All (Behind n) (arrivalsAfter false known x xs) →
-          All (Behind n) (pick t (damagedArrival x ∷ arrivalsAfter false known q xs)
-          (laterArrival false q x ∷ arrivalsAfter false known x xs))
-      go true d e = and h d
-      go false d e = and h e
+  after-late n q (and {x} h hs) =
+      by-pick (All (Behind n)) (setApart known x) (and h (after-late n q hs)) (and h (after-late n x hs))
 
   arrivals-late : (n : ℕ) {qs : List Packet} → All (After n) qs → All (Behind n) (arrivals false known qs)
   unfolding arrivals
   arrivals-late n empty = empty
-  arrivals-late n (and {x} {xs} h hs) = go (setApart known x) (arrivals-late n hs)
-    where
-      go : (t : Bool) → All (Behind n) (arrivals false known xs) →
-          All (Behind n) (pick t (arrivals false known xs) (firstArrival x ∷ arrivalsAfter false known x xs))
-      go true d = d
-      go false d = and h (after-late n x hs)
+  arrivals-late n (and {x} h hs) =
+      by-pick (All (Behind n)) (setApart known x) (arrivals-late n hs) (and h (after-late n x hs))
 
   start-alike : {n : ℕ} {p q : Packet} → Alike n p q → startMark (q .bytes) ≡ startMark (p .bytes)
   unfolding startMark
@@ -358,29 +331,16 @@ module _ (known : Bool) where
       Follows n (arrivalsAfter false known p ps) (arrivalsAfter false known q qs)
   unfolding arrivalsAfter
   after-follows {n} p q (ends h) = stops (after-late n q h)
-  after-follows {n} p q (pair {p = p′} {q = q′} {ps = ps} {qs = qs} a e) =
-      rw (apart-alike a) (go (setApart known p′) (after-follows p q e) (after-follows p′ q′ e))
-    where
-      go : (t : Bool) → Follows n (arrivalsAfter false known p ps) (arrivalsAfter false known q qs) →
-          Follows n (arrivalsAfter false known p′ ps) (arrivalsAfter false known q′ qs) →
-          Follows n (pick t (damagedArrival p′ ∷ arrivalsAfter false known p ps)
-          (laterArrival false p p′ ∷ arrivalsAfter false known p′ ps))
-          (pick t (damagedArrival q′ ∷ arrivalsAfter false known q qs)
-          (laterArrival false q q′ ∷ arrivalsAfter false known q′ qs))
-      go true d f = next (a .place) refl (a .early) d
-      go false d f = next (a .place) (start-alike a) (a .early) f
+  after-follows {n} p q (pair {p = p′} {q = q′} a e) = rw (apart-alike a) (by-picks (Follows n) (setApart known p′)
+      (next (a .place) refl (a .early) (after-follows p q e))
+      (next (a .place) (start-alike a) (a .early) (after-follows p′ q′ e)))
 
   arrivals-follow : {n : ℕ} {ps qs : List Packet} → Extends n ps qs →
       Follows n (arrivals false known ps) (arrivals false known qs)
   unfolding arrivals
   arrivals-follow {n} (ends h) = stops (arrivals-late n h)
-  arrivals-follow {n} (pair {p} {q} {ps} {qs} a e) = rw (apart-alike a) (go (setApart known p) (arrivals-follow e))
-    where
-      go : (t : Bool) → Follows n (arrivals false known ps) (arrivals false known qs) →
-          Follows n (pick t (arrivals false known ps) (firstArrival p ∷ arrivalsAfter false known p ps))
-          (pick t (arrivals false known qs) (firstArrival q ∷ arrivalsAfter false known q qs))
-      go true d = d
-      go false d = next (a .place) refl (a .early) (after-follows p q e)
+  arrivals-follow {n} (pair {p} {q} a e) = rw (apart-alike a) (by-picks (Follows n) (setApart known p)
+      (arrivals-follow e) (next (a .place) refl (a .early) (after-follows p q e)))
 
 abbrev beginsUnit : Arrival → Bool
 beginsUnit a = a .begins
@@ -411,22 +371,20 @@ at-follow (next p e l f) = rw p (same (at-fault l))
 shown-extend : (s t : List ℕ) →
     Extends (length s) (shown (packets 24 (allFrames s))) (shown (packets 24 (allFrames (s ++ t))))
 unfolding allFrames wholeFrames unfinished behindHeader
-shown-extend s t = go (decLe 24 (length s))
-  where
-    go : Dec (24 ≤ length s) →
-        Extends (length s) (shown (packets 24 (pieces (drop 24 s)))) (shown (packets 24 (pieces (drop 24 (s ++ t)))))
-    go (yes g) =
-        rw (drop-append-le 24 s t g) (pieces-extend (length s) t (drop 24 s) 24 (simp length-drop (omega arith)))
-    go (no g) =
-        let c : length {A = ℕ} [] < frameSize [] = omega (arith, size-least []) in
-        rw (
-          drop-of-length-le s {i = 24} (omega arith),
-          frames-none [] c,
-          rest-none [] c,
-          single 24 [],
-          of-none 24 [] (omega arith),
-        )
-        (ends (packets-late (length s) 24 (pieces (drop 24 (s ++ t))) (omega arith)))
+shown-extend s t = elim (decLe 24 (length s)) [
+  | yes g ↦
+      rw (drop-append-le 24 s t g) (pieces-extend (length s) t (drop 24 s) 24 (simp length-drop (omega arith)))
+  | no g ↦
+      let c : length {A = ℕ} [] < frameSize [] = omega (arith, size-least []) in
+      rw (
+        drop-of-length-le s {i = 24} (omega arith),
+        frames-none [] c,
+        rest-none [] c,
+        single 24 [],
+        of-none 24 [] (omega arith),
+      )
+      (ends (packets-late (length s) 24 (pieces (drop 24 (s ++ t))) (omega arith)))
+]
 
 pub units-grow : (o : Opening) (s t : List ℕ) → Grows (length s) (tooManyUnits o s) (tooManyUnits o (s ++ t))
 unfolding tooManyUnits beginnings shownWanted

@@ -17,6 +17,7 @@ use Rattle.rules.specs.Units.{Arrival, setApart, firstArrival, damagedArrival, 
 use Rattle.rules.specs.Units.{arrivals}
 use Rattle.rules.specs.Units.{intoFirst, groups, cellsOf, leastTime, unitOf, unitsOf}
 use Rattle.rules.specs.Capture.{allFrames, wholeWanted, units, badCount}
+use Rattle.rules.proofs.Laws.Lists.{by-pick}
 use Rattle.capture_laws.proofs.UnitsMore.{allPackets, allDamaged, packets-total}
 
 -- ---- where no damage is known, no arrival is set apart
@@ -44,12 +45,9 @@ module _ {P : Arrival → Type 0} where
   unfolding groups
   groups-all [] h = empty
   groups-all (a ∷ []) h = and h empty
-  groups-all (a ∷ b ∷ xs) (and h hs) = go (b .begins) (groups-all (b ∷ xs) hs)
-    where
-      go : (t : Bool) → All (All P) (groups (b ∷ xs)) →
-          All (All P) (pick t ((a ∷ []) ∷ groups (b ∷ xs)) (intoFirst a (groups (b ∷ xs))))
-      go true r = and (and h empty) r
-      go false r = into-all a h r
+  groups-all (a ∷ b ∷ xs) (and h hs) =
+      let r = groups-all (b ∷ xs) hs in
+      by-pick (All (All P)) (b .begins) (and (and h empty) r) (into-all a h r)
 
 -- ---- document 01's row: every arrival is a cell, and word 28 is zero
 
@@ -64,14 +62,13 @@ plainUnit group =
       damaged = 0;
     }
 
-sound-cells : {xs : List Arrival} → All Sound xs → cellsOf xs ≡ xs
+pub cells-kept : (b : Arrival) (xs : List Arrival) → b .damaged ≡ false → cellsOf (b ∷ xs) ≡ b ∷ cellsOf xs
 unfolding cellsOf only
-sound-cells empty = refl
-sound-cells (and {x} {xs} h hs) = go (x .damaged) h (sound-cells hs)
-  where
-    go : (t : Bool) → t ≡ false → cellsOf xs ≡ xs → pick (not t) (x ∷ cellsOf xs) (cellsOf xs) ≡ x ∷ xs
-    go true z e = absurd (true≢false z)
-    go false z e = ap (λ (r : List Arrival). x ∷ r) e
+cells-kept b xs z = ap (λ (t : Bool). pick (not t) (b ∷ cellsOf xs) (cellsOf xs)) z
+
+sound-cells : {xs : List Arrival} → All Sound xs → cellsOf xs ≡ xs
+sound-cells empty = unfold cellsOf only in refl
+sound-cells (and {x} {xs} h hs) = rw (cells-kept x xs h, sound-cells hs)
 
 sound-none : {xs : List Arrival} → All Sound xs → count (λ x. x .damaged) xs ≡ 0
 unfolding count
@@ -149,13 +146,9 @@ module _ (heeded known : Bool) where
   after-quiet : (q : Packet) (ps : List Packet) → All Quiet (arrivalsAfter heeded known q ps)
   unfolding arrivalsAfter
   after-quiet q [] = empty
-  after-quiet q (p ∷ ps) = go (setApart known p) (after-quiet q ps) (after-quiet p ps)
-    where
-      go : (t : Bool) → All Quiet (arrivalsAfter heeded known q ps) → All Quiet (arrivalsAfter heeded known p ps) →
-          All Quiet (pick t (damagedArrival p ∷ arrivalsAfter heeded known q ps)
-          (laterArrival heeded q p ∷ arrivalsAfter heeded known p ps))
-      go true d e = and (record { begins = λ _. refl; lost = λ _. refl }) d
-      go false d e = and (sound-quiet refl) e
+  after-quiet q (p ∷ ps) =
+      by-pick (All Quiet) (setApart known p) (and (record { begins = λ _. refl; lost = λ _. refl }) (after-quiet q ps))
+      (and (sound-quiet refl) (after-quiet p ps))
 
   after-sounds : (q : Packet) (ps : List Packet) →
       cellsOf (arrivalsAfter heeded known q ps) ≡ arrivalsAfter heeded known q (sounds known ps)
@@ -205,24 +198,10 @@ damaged-front a b (y ∷ ys) h = go (y .begins) (groups (y ∷ ys))
 
 into-cells : (a : Arrival) (gs : List (List Arrival)) → a .damaged ≡ false →
     map cellsOf (intoFirst a gs) ≡ intoFirst a (map cellsOf gs)
-unfolding cellsOf only
-into-cells a [] h = go (a .damaged) h
-  where
-    go : (t : Bool) → t ≡ false → pick (not t) (a ∷ []) [] ∷ [] ≡ (a ∷ []) ∷ []
-    go true z = absurd (true≢false z)
-    go false z = refl
-into-cells a (g ∷ gs) h = go (a .damaged) h
-  where
-    go : (t : Bool) → t ≡ false →
-        pick (not t) (a ∷ cellsOf g) (cellsOf g) ∷ map cellsOf gs ≡ (a ∷ cellsOf g) ∷ map cellsOf gs
-    go true z = absurd (true≢false z)
-    go false z = refl
+into-cells a [] h = rw (cells-kept a [] h) (unfold cellsOf only in refl)
+into-cells a (g ∷ gs) h = rw (cells-kept a g h)
 
 -- the units' cells are the units of the cells
-pub cells-kept : (b : Arrival) (xs : List Arrival) → b .damaged ≡ false → cellsOf (b ∷ xs) ≡ b ∷ cellsOf xs
-unfolding cellsOf only
-cells-kept b xs z = ap (λ (t : Bool). pick (not t) (b ∷ cellsOf xs) (cellsOf xs)) z
-
 cells-dropped : (b : Arrival) (xs : List Arrival) → b .damaged ≡ true → cellsOf (b ∷ xs) ≡ cellsOf xs
 unfolding cellsOf only
 cells-dropped b xs z = ap (λ (t : Bool). pick (not t) (b ∷ cellsOf xs) (cellsOf xs)) z
@@ -295,25 +274,18 @@ pub cells-groups : (heeded known : Bool) (ps : List Packet) →
     groups (cellsOf (arrivals heeded known ps)) ≡ map cellsOf (groups (arrivals heeded known ps))
 unfolding arrivals
 cells-groups heeded known [] = unfold cellsOf only groups in refl
-cells-groups heeded known (p ∷ ps) = go (setApart known p) (cells-groups heeded known ps)
-  where
-    go : (t : Bool) → groups (cellsOf (arrivals heeded known ps)) ≡ map cellsOf (groups (arrivals heeded known ps)) →
-        groups (cellsOf (pick t (arrivals heeded known ps) (firstArrival p ∷ arrivalsAfter heeded known p ps)))
-        ≡ map cellsOf (groups (pick t (arrivals heeded known ps) (firstArrival p ∷ arrivalsAfter heeded known p ps)))
-    go true e = e
-    go false e =
-        ap groups (cells-kept (firstArrival p) (arrivalsAfter heeded known p ps) refl)
-        ∙ groups-cells (firstArrival p) (arrivalsAfter heeded known p ps) refl (after-quiet heeded known p ps)
+cells-groups heeded known (p ∷ ps) =
+    by-pick (λ (xs : List Arrival). groups (cellsOf xs) ≡ map cellsOf (groups xs)) (setApart known p)
+    (cells-groups heeded known ps)
+    (ap groups (cells-kept (firstArrival p) (arrivalsAfter heeded known p ps) refl)
+    ∙ groups-cells (firstArrival p) (arrivalsAfter heeded known p ps) refl (after-quiet heeded known p ps))
 
 arrivals-quiet : (heeded known : Bool) (ps : List Packet) → All Quiet (arrivals heeded known ps)
 unfolding arrivals
 arrivals-quiet heeded known [] = empty
-arrivals-quiet heeded known (p ∷ ps) = go (setApart known p) (arrivals-quiet heeded known ps)
-  where
-    go : (t : Bool) → All Quiet (arrivals heeded known ps) →
-        All Quiet (pick t (arrivals heeded known ps) (firstArrival p ∷ arrivalsAfter heeded known p ps))
-    go true e = e
-    go false e = and (sound-quiet refl) (after-quiet heeded known p ps)
+arrivals-quiet heeded known (p ∷ ps) =
+    by-pick (All Quiet) (setApart known p) (arrivals-quiet heeded known ps)
+    (and (sound-quiet refl) (after-quiet heeded known p ps))
 
 -- THE LAW: but for word 28, the units are those of the packets that are not set apart. So one that is begins no unit,
 -- adds no loss, is not counted in cells or size, and leaves times and counter alone

@@ -170,11 +170,10 @@ module _ (n place : ℕ) (x t : List ℕ) (e : n ≡ place + length x) where
 
 -- a frame that is not whole is shorter than the frame that it becomes
 cut-short : (x t : List ℕ) → length x < frameSize x → length x ≤ frameSize (x ++ t)
-cut-short x t h = go (decLe 16 (length x))
-  where
-    go : Dec (16 ≤ length x) → length x ≤ frameSize (x ++ t)
-    go (yes g) = let e = size-append x t g in omega arith
-    go (no g) = let e = size-least (x ++ t) in omega arith
+cut-short x t h = elim (decLe 16 (length x)) [
+  | yes g ↦ let e = size-append x t g in omega arith
+  | no g ↦ let e = size-least (x ++ t) in omega arith
+]
 
 -- the frames of a string and the bytes behind them
 abbrev pieces : List ℕ → List (List ℕ)
@@ -229,17 +228,15 @@ module _ (n : ℕ) where
 pub frames-grow : (s t : List ℕ) →
     Grows (length s) (wrongFrame (length s) 24 (allFrames s)) (wrongFrame (length (s ++ t)) 24 (allFrames (s ++ t)))
 unfolding allFrames wholeFrames unfinished behindHeader
-frames-grow s t = go (decLe 24 (length s))
-  where
-    go : Dec (24 ≤ length s) → Grows (length s) (wrongFrame (length s) 24 (allFrames s))
-        (wrongFrame (length (s ++ t)) 24 (allFrames (s ++ t)))
-    go (yes g) =
-        rw (drop-append-le 24 s t g)
-        (pieces-grow (length s) (length (s ++ t)) t (grown s t) (drop 24 s) 24 (simp length-drop (omega arith)))
-    go (no g) =
-        rw (frame-none (length s) 24 (frames (drop 24 s) ++ rest (drop 24 s) ∷ []) (omega arith))
-        (new (frame-late (length s) (length (s ++ t)) (grown s t) 24
-        (frames (drop 24 (s ++ t)) ++ rest (drop 24 (s ++ t)) ∷ []) (omega arith)))
+frames-grow s t = elim (decLe 24 (length s)) [
+  | yes g ↦
+      rw (drop-append-le 24 s t g)
+      (pieces-grow (length s) (length (s ++ t)) t (grown s t) (drop 24 s) 24 (simp length-drop (omega arith)))
+  | no g ↦
+      rw (frame-none (length s) 24 (frames (drop 24 s) ++ rest (drop 24 s) ∷ []) (omega arith))
+      (new (frame-late (length s) (length (s ++ t)) (grown s t) 24
+      (frames (drop 24 (s ++ t)) ++ rest (drop 24 (s ++ t)) ∷ []) (omega arith)))
+]
 
 -- ---- 4 to 8 together
 

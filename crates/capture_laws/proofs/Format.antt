@@ -86,11 +86,10 @@ unfolding tooLong
 long-none s h = showing-none (length s) 0 4 268435456 true true h
 
 pub long-of : (s : List ℕ) → tooLong s ≡ none → length s ≤ 268435456
-long-of s h = go (decLe (length s) 268435456)
-  where
-    go : Dec (length s ≤ 268435456) → length s ≤ 268435456
-    go (yes g) = g
-    go (no g) = absurd (never (sym (too-long s (omega arith)) ∙ h))
+long-of s h = elim (decLe (length s) 268435456) [
+  | yes g ↦ g
+  | no g ↦ absurd (never (sym (too-long s (omega arith)) ∙ h))
+]
 
 grows-late : {n : ℕ} {f g : Fault} → Grows n f g → f ≡ none → Late n g
 grows-late (same b) e = rw e late-none
@@ -153,11 +152,10 @@ shows n k place w h = go w (lt-ltb place n h)
 
 shows-not : (n k place : ℕ) (w : Bool) → (place < n → w ≡ false) → showing n k place w ≡ none
 unfolding showing
-shows-not n k place w h = go (decLe n place)
-  where
-    go : Dec (n ≤ place) → pick (ltb place n && w) (fault k place) none ≡ none
-    go (yes g) = rw (le-ltb place n g)
-    go (no g) = rw (h (omega arith), and-false (ltb place n))
+shows-not n k place w h = elim (decLe n place) [
+  | yes g ↦ rw (le-ltb place n g)
+  | no g ↦ rw (h (omega arith), and-false (ltb place n))
+]
 
 module _ (n place : ℕ) (r : List ℕ) (e : n ≡ place + length r) where
   pub header-fine : Fine r → wrongFrameHeader n place r ≡ none
@@ -254,28 +252,25 @@ module _ (s t : List ℕ) (h : 24 ≤ length s) (fits : length (unfinished s ++ 
   frame-more : wrongFrame (length (s ++ t)) 24 (allFrames (s ++ t)) ≡ wrongFrameHeader (length (s ++ t)) (base s)
       (unfinished s ++ t)
   unfolding allFrames
-  frame-more = go (decLe (frameSize (unfinished s ++ t)) (length (unfinished s ++ t)))
-    where
-      go : Dec (frameSize (unfinished s ++ t) ≤ length (unfinished s ++ t)) →
-          wrongFrame (length (s ++ t)) 24 (wholeFrames (s ++ t) ++ unfinished (s ++ t) ∷ [])
-          ≡ wrongFrameHeader (length (s ++ t)) (base s) (unfinished s ++ t)
-      go (no g) =
-          rw (
-            whole-part s t h (omega arith),
-            unfinished-part s t h (omega arith),
-            behind-frames ((unfinished s ++ t) ∷ []),
-          )
-          (one-frame (length (s ++ t)) (base s) (unfinished s ++ t))
-      go (yes g) =
-          let e : length (unfinished s ++ t) ≡ frameSize (unfinished s ++ t) = omega arith in
-          rw (
-            whole-full s t h e,
-            unfinished-full s t h e,
-            append-assoc (wholeFrames s) ((unfinished s ++ t) ∷ []) ([] ∷ []),
-            behind-frames ((unfinished s ++ t) ∷ [] ∷ []),
-          )
-          (unfold wrongFrame in rw (empty-frame (length (s ++ t)) (base s + length (unfinished s ++ t))
-          (omega (arith, size-now))) (earlier-none (wrongFrameHeader (length (s ++ t)) (base s) (unfinished s ++ t))))
+  frame-more = elim (decLe (frameSize (unfinished s ++ t)) (length (unfinished s ++ t))) [
+    | no g ↦
+        rw (
+          whole-part s t h (omega arith),
+          unfinished-part s t h (omega arith),
+          behind-frames ((unfinished s ++ t) ∷ []),
+        )
+        (one-frame (length (s ++ t)) (base s) (unfinished s ++ t))
+    | yes g ↦
+        let e : length (unfinished s ++ t) ≡ frameSize (unfinished s ++ t) = omega arith in
+        rw (
+          whole-full s t h e,
+          unfinished-full s t h e,
+          append-assoc (wholeFrames s) ((unfinished s ++ t) ∷ []) ([] ∷ []),
+          behind-frames ((unfinished s ++ t) ∷ [] ∷ []),
+        )
+        (unfold wrongFrame in rw (empty-frame (length (s ++ t)) (base s + length (unfinished s ++ t))
+        (omega (arith, size-now))) (earlier-none (wrongFrameHeader (length (s ++ t)) (base s) (unfinished s ++ t))))
+  ]
 
 -- of the frame that is not whole yet
 pub fine-now : {s : List ℕ} → 24 ≤ length s → Sound s → Fine (unfinished s)

@@ -262,11 +262,10 @@ frames-whole s =
     (behindHeader s)
 
 whole-room : (f : List ℕ) → Whole f → 188 * countOf f ≤ length (drop 58 f)
-whole-room f w = go (decLe (countOf f) 0)
-  where
-    go : Dec (countOf f ≤ 0) → 188 * countOf f ≤ length (drop 58 f)
-    go (yes z) = omega arith
-    go (no z) = let r = roomy f (omega arith) in let l = length-drop 58 f in omega arith
+whole-room f w = elim (decLe (countOf f) 0) [
+  | yes z ↦ omega arith
+  | no z ↦ let r = roomy f (omega arith) in let l = length-drop 58 f in omega arith
+]
 
 module _ (d : ℕ) (some : 0 < d) (small : d ≤ 188) where
   of-whole : (place : ℕ) (f : List ℕ) → Whole f → reaching d (packetsOf place f) ≡ packetsOf place f

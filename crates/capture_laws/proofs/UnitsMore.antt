@@ -1,5 +1,5 @@
 -- As many units as beginnings, and the totals over all units: cells, damaged ones, lost.
-use Prim.Native.Nat.{ℕ, suc, _+_, _-_, _*_, _%_, _≤_, _<_}
+use Prim.Native.Nat.{ℕ, suc, _+_, _-_, _*_, _%_, _≤_}
 use native.Mathlib.Omega.{arith}
 use mathlib.Core.Path.{_≡_, refl, sym, ap, _∙_}
 use mathlib.Core.List.{List, [], _∷_, _++_, map, map-append}
@@ -10,11 +10,9 @@ use Rattle.rules.specs.declared.UnitRow.{UnitRow}
 use Rattle.rules.specs.Bytes.{pick, total, count, only, endToEnd}
 use Rattle.rules.specs.Editions.{heedsSplices, knowsDamage}
 use Rattle.rules.specs.Packets.{Packet, startMark, counter, spliceMark}
-use Rattle.rules.specs.Units.{Arrival, gapLoss, lossBetween, setApart, firstArrival, damagedArrival}
-use Rattle.rules.specs.Units.{laterArrival}
-use Rattle.rules.specs.Units.{arrivalsAfter, arrivals, beforeUnits, intoFirst, groups, cellsOf, unitOf, unitsOf}
-use Rattle.rules.specs.Units.{beginnings}
-use Rattle.rules.proofs.Laws.Lists.{total-append, count-append, only-append}
+use Rattle.rules.specs.Units.{Arrival, gapLoss, lossBetween, setApart, arrivalsAfter, arrivals, beforeUnits}
+use Rattle.rules.specs.Units.{intoFirst, groups, cellsOf, unitOf, unitsOf, beginnings}
+use Rattle.rules.proofs.Laws.Lists.{by-pick, by-picks, total-append, count-append, only-append}
 
 -- ---- as many units as beginnings
 
@@ -27,58 +25,35 @@ pub length-groups : (a : Arrival) (xs : List Arrival) →
     length (groups (a ∷ xs)) ≡ suc (length (only (λ x. x .begins) xs))
 unfolding groups only
 length-groups a [] = refl
-length-groups a (b ∷ xs) = go (b .begins) (length-groups b xs)
-  where
-    more : List Arrival
-    more = only (λ x. x .begins) xs
-
-    go : (t : Bool) → length (groups (b ∷ xs)) ≡ suc (length more) →
-        length (pick t ((a ∷ []) ∷ groups (b ∷ xs)) (intoFirst a (groups (b ∷ xs))))
-        ≡ suc (length (pick t (b ∷ more) more))
-    go true e = ap suc e
-    go false e = length-intoFirst a (groups (b ∷ xs)) (length more) e
+length-groups a (b ∷ xs) =
+    let e = length-groups b xs in
+    by-picks (λ (gs : List (List Arrival)) (r : List Arrival). length gs ≡ suc (length r)) (b .begins) (ap suc e)
+    (length-intoFirst a (groups (b ∷ xs)) _ e)
 
 -- whatever marks are heeded, the same packets begin units
 abbrev pub beginsUnit : Arrival → Bool
 beginsUnit x = x .begins
 
-same-length : (t : Bool) (a b : Arrival) (xs ys : List Arrival) → length xs ≡ length ys →
-    length (pick t (a ∷ xs) xs) ≡ length (pick t (b ∷ ys) ys)
-same-length true a b xs ys e = ap suc e
-same-length false a b xs ys e = e
+abbrev Alike : List Arrival → List Arrival → Type 0
+Alike xs ys = length (only beginsUnit xs) ≡ length (only beginsUnit ys)
 
 begins-alike : (heeded known : Bool) (q : Packet) (ps : List Packet) →
-    length (only beginsUnit (arrivalsAfter heeded known q ps))
-    ≡ length (only beginsUnit (arrivalsAfter false known q ps))
+    Alike (arrivalsAfter heeded known q ps) (arrivalsAfter false known q ps)
 unfolding arrivalsAfter only
 begins-alike heeded known q [] = refl
 begins-alike heeded known q (p ∷ ps) =
-    go (setApart known p) (begins-alike heeded known q ps) (begins-alike heeded known p ps)
-  where
-    go : (t : Bool) → length (only beginsUnit (arrivalsAfter heeded known q ps))
-        ≡ length (only beginsUnit (arrivalsAfter false known q ps)) →
-        length (only beginsUnit (arrivalsAfter heeded known p ps))
-        ≡ length (only beginsUnit (arrivalsAfter false known p ps)) →
-        length (only beginsUnit
-        (pick t (damagedArrival p ∷ arrivalsAfter heeded known q ps)
-        (laterArrival heeded q p ∷ arrivalsAfter heeded known p ps)))
-        ≡ length (only beginsUnit
-        (pick t (damagedArrival p ∷ arrivalsAfter false known q ps)
-        (laterArrival false q p ∷ arrivalsAfter false known p ps)))
-    go true d e = d
-    go false d e = same-length (startMark (p .bytes)) _ _ _ _ e
+    let e = begins-alike heeded known p ps in
+    by-picks Alike (setApart known p) (begins-alike heeded known q ps)
+    (by-picks (λ (xs ys : List Arrival). length xs ≡ length ys) (startMark (p .bytes)) (ap suc e) e)
 
 units-groups : (heeded known : Bool) (ps : List Packet) →
     length (groups (arrivals heeded known ps)) ≡ length (only beginsUnit (arrivals false known ps))
 unfolding arrivals only
 units-groups heeded known [] = unfold groups in refl
-units-groups heeded known (p ∷ ps) = go (setApart known p) (units-groups heeded known ps)
-  where
-    go : (t : Bool) → length (groups (arrivals heeded known ps)) ≡ length (only beginsUnit (arrivals false known ps)) →
-        length (groups (pick t (arrivals heeded known ps) (firstArrival p ∷ arrivalsAfter heeded known p ps)))
-        ≡ length (only beginsUnit (pick t (arrivals false known ps) (firstArrival p ∷ arrivalsAfter false known p ps)))
-    go true e = e
-    go false e = length-groups _ (arrivalsAfter heeded known p ps) ∙ ap suc (begins-alike heeded known p ps)
+units-groups heeded known (p ∷ ps) =
+    by-picks (λ (xs ys : List Arrival). length (groups xs) ≡ length (only beginsUnit ys)) (setApart known p)
+    (units-groups heeded known ps)
+    (length-groups _ (arrivalsAfter heeded known p ps) ∙ ap suc (begins-alike heeded known p ps))
 
 pub units-beginnings : (edition : ℕ) (ps : List Packet) → length (unitsOf edition ps) ≡ length (beginnings edition ps)
 unfolding unitsOf beginnings
@@ -110,12 +85,10 @@ pub groups-endToEnd : (xs : List Arrival) → endToEnd (groups xs) ≡ xs
 unfolding groups endToEnd
 groups-endToEnd [] = refl
 groups-endToEnd (a ∷ []) = refl
-groups-endToEnd (a ∷ b ∷ xs) = go (b .begins) (groups-endToEnd (b ∷ xs))
-  where
-    go : (t : Bool) → endToEnd (groups (b ∷ xs)) ≡ b ∷ xs →
-        endToEnd (pick t ((a ∷ []) ∷ groups (b ∷ xs)) (intoFirst a (groups (b ∷ xs)))) ≡ a ∷ b ∷ xs
-    go true e = ap (λ (r : List Arrival). a ∷ r) e
-    go false e = intoFirst-endToEnd a (groups (b ∷ xs)) ∙ ap (λ (r : List Arrival). a ∷ r) e
+groups-endToEnd (a ∷ b ∷ xs) =
+    let e = ap (λ (r : List Arrival). a ∷ r) (groups-endToEnd (b ∷ xs)) in
+    by-pick (λ (gs : List (List Arrival)). endToEnd gs ≡ a ∷ b ∷ xs) (b .begins) e
+    (intoFirst-endToEnd a (groups (b ∷ xs)) ∙ e)
 
 abbrev pub isApart : Arrival → Bool
 isApart a = a .damaged
@@ -159,27 +132,19 @@ length-after : (heeded known : Bool) (q : Packet) (ps : List Packet) →
 unfolding arrivalsAfter
 length-after heeded known q [] = refl
 length-after heeded known q (p ∷ ps) =
-    go (setApart known p) (length-after heeded known q ps) (length-after heeded known p ps)
-  where
-    go : (t : Bool) → length (arrivalsAfter heeded known q ps) ≡ length ps →
-        length (arrivalsAfter heeded known p ps) ≡ length ps →
-        length (pick t (damagedArrival p ∷ arrivalsAfter heeded known q ps)
-        (laterArrival heeded q p ∷ arrivalsAfter heeded known p ps)) ≡ suc (length ps)
-    go true d e = ap suc d
-    go false d e = ap suc e
+    by-pick (λ (xs : List Arrival). length xs ≡ suc (length ps)) (setApart known p)
+    (ap suc (length-after heeded known q ps)) (ap suc (length-after heeded known p ps))
 
 -- every packet of PID arrives, or stands before the first unit
 length-arrivals : (heeded known : Bool) (ps : List Packet) →
     length (arrivals heeded known ps) + beforeUnits known ps ≡ length ps
 unfolding arrivals beforeUnits
 length-arrivals heeded known [] = refl
-length-arrivals heeded known (p ∷ ps) = go (setApart known p) (length-arrivals heeded known ps)
-  where
-    go : (t : Bool) → length (arrivals heeded known ps) + beforeUnits known ps ≡ length ps →
-        length (pick t (arrivals heeded known ps) (firstArrival p ∷ arrivalsAfter heeded known p ps)) + pick t
-        (suc (beforeUnits known ps)) 0 ≡ suc (length ps)
-    go true e = omega arith
-    go false e = let l = length-after heeded known p ps in omega arith
+length-arrivals heeded known (p ∷ ps) =
+    let e = length-arrivals heeded known ps in
+    let l = length-after heeded known p ps in
+    by-picks (λ (xs : List Arrival) (n : ℕ). length xs + n ≡ suc (length ps)) (setApart known p) (omega arith)
+    (omega arith)
 
 -- every packet of PID is a unit's cell, a unit's damaged one, or one before the first unit
 pub packets-total : (edition : ℕ) (ps : List Packet) →
@@ -205,44 +170,32 @@ lost-total edition ps =
 
 pub gap-small : (c d : ℕ) → gapLoss c d ≤ 14
 unfolding gapLoss
-gap-small c d = go (ltb 1 ((d + 16 - c) % 16)) ((d + 16 - c) % 16) (omega arith)
-  where
-    go : (b : Bool) (g : ℕ) → g < 16 → pick b (g - 1) 0 ≤ 14
-    go true g h = omega arith
-    go false g h = omega arith
+gap-small c d = by-pick (λ (n : ℕ). n ≤ 14) (ltb 1 ((d + 16 - c) % 16)) (omega arith) (omega arith)
 
 between-small : (heeded : Bool) (q p : Packet) → lossBetween heeded q p ≤ 14
 unfolding lossBetween
-between-small heeded q p = go (heeded && spliceMark (p .bytes)) _ (gap-small (counter (q .bytes)) (counter (p .bytes)))
-  where
-    go : (b : Bool) (n : ℕ) → n ≤ 14 → pick b 0 n ≤ 14
-    go true n h = omega arith
-    go false n h = h
+between-small heeded q p = by-pick (λ (n : ℕ). n ≤ 14) (heeded && spliceMark (p .bytes)) (omega arith)
+    (gap-small (counter (q .bytes)) (counter (p .bytes)))
 
 after-small : (heeded known : Bool) (q : Packet) (ps : List Packet) →
     total (losses (arrivalsAfter heeded known q ps)) ≤ 14 * length ps
 unfolding arrivalsAfter total
 after-small heeded known q [] = omega arith
 after-small heeded known q (p ∷ ps) =
-    go (setApart known p) (after-small heeded known q ps) (after-small heeded known p ps)
-  where
-    go : (t : Bool) → total (losses (arrivalsAfter heeded known q ps)) ≤ 14 * length ps →
-        total (losses (arrivalsAfter heeded known p ps)) ≤ 14 * length ps →
-        total (losses (pick t (damagedArrival p ∷ arrivalsAfter heeded known q ps)
-        (laterArrival heeded q p ∷ arrivalsAfter heeded known p ps))) ≤ 14 * suc (length ps)
-    go true d e = omega arith
-    go false d e = let g = between-small heeded q p in omega arith
+    let d = after-small heeded known q ps in
+    let e = after-small heeded known p ps in
+    let g = between-small heeded q p in
+    by-pick (λ (xs : List Arrival). total (losses xs) ≤ 14 * suc (length ps)) (setApart known p) (omega arith)
+    (omega arith)
 
 all-small : (heeded known : Bool) (ps : List Packet) → total (losses (arrivals heeded known ps)) ≤ 14 * length ps
 unfolding arrivals total
 all-small heeded known [] = omega arith
-all-small heeded known (p ∷ ps) = go (setApart known p) (all-small heeded known ps)
-  where
-    go : (t : Bool) → total (losses (arrivals heeded known ps)) ≤ 14 * length ps →
-        total (losses (pick t (arrivals heeded known ps) (firstArrival p ∷ arrivalsAfter heeded known p ps))) ≤ 14 *
-        suc (length ps)
-    go true d = omega arith
-    go false d = let h = after-small heeded known p ps in omega arith
+all-small heeded known (p ∷ ps) =
+    let d = all-small heeded known ps in
+    let h = after-small heeded known p ps in
+    by-pick (λ (xs : List Arrival). total (losses xs) ≤ 14 * suc (length ps)) (setApart known p) (omega arith)
+    (omega arith)
 
 pub lost-small : (edition : ℕ) (ps : List Packet) → allLost (unitsOf edition ps) ≤ 14 * length ps
 lost-small edition ps = rw (lost-total edition ps) (all-small (heedsSplices edition) (knowsDamage edition) ps)

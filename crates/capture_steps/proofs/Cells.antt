@@ -354,19 +354,18 @@ module _ {k : List ℕ} {s : Walk} {joined : List ℕ} (start : 24 ≤ length jo
     cur-t = let l = length-append cur t in let c = cur-length some in omega arith
 
     first-held : (i : ℕ) → i < s .got + length t → i < 6 → getD k′ (58 + i) 0 ≡ byte (cur ++ t) i
-    first-held i h x = go (decLt i (s .got))
-      where
-        go : Dec (i < s .got) → getD k′ (58 + i) 0 ≡ byte (cur ++ t) i
-        go (yes d) =
-            ga .below (58 + i) (omega arith) ∙ v .first some i d x
-            ∙ sym (List·getD-append cur t 0 i (omega (arith, cur-length some)))
-        go (no d) =
-            let j : ℕ = i - s .got in
-            let c = cur-length some in
-            let e : s .got + j ≡ i = omega arith in
-            let f : length cur + j ≡ i = omega arith in
-            let g : byte (cur ++ t) i ≡ byte t j = ap (byte (cur ++ t)) (sym f) ∙ getD-append-add cur t j 0 in
-            ap (λ (x : ℕ). getD k′ (58 + x) 0) (sym e) ∙ ga .new j (omega arith) (omega arith) ∙ sym g
+    first-held i h x = elim (decLt i (s .got)) [
+      | yes d ↦
+          ga .below (58 + i) (omega arith) ∙ v .first some i d x
+          ∙ sym (List·getD-append cur t 0 i (omega (arith, cur-length some)))
+      | no d ↦
+          let j : ℕ = i - s .got in
+          let c = cur-length some in
+          let e : s .got + j ≡ i = omega arith in
+          let f : length cur + j ≡ i = omega arith in
+          let g : byte (cur ++ t) i ≡ byte t j = ap (byte (cur ++ t)) (sym f) ∙ getD-append-add cur t j 0 in
+          ap (λ (x : ℕ). getD k′ (58 + x) 0) (sym e) ∙ ga .new j (omega arith) (omega arith) ∙ sym g
+    ]
 
     agree-cell : (n : ℕ) → n ≤ 6 → n ≤ s .got + length t → Agree n (drop 58 k′) (cur ++ t)
     agree-cell n h g = record { bytes = λ i x. getD-drop 58 k′ i 0 ∙ first-held i (omega arith) (omega arith) }

@@ -86,16 +86,15 @@ module _ {k : List ℕ} {s : Walk} {joined chunk : List ℕ} (v : Taken k s join
 
     -- what is collected tells whether a whole frame carries
     carries-now : carries k ≡ carries (unfinished joined ++ chunk)
-    carries-now = go (decLe 58 (length (unfinished joined ++ chunk)))
-      where
-        go : Dec (58 ≤ length (unfinished joined ++ chunk)) → carries k ≡ carries (unfinished joined ++ chunk)
-        go (yes d) = carries-agree (held-agree 58 bytes d (omega arith)) (omega arith)
-        go (no d) =
-            let i = size-is (unfinished joined ++ chunk) in
-            let a = all in
-            let m = v .core .many in
-            let e = stored-agree (held-agree 12 bytes (omega arith) (omega arith)) (omega arith) in
-            carries-short k (omega arith) ∙ sym (carries-short (unfinished joined ++ chunk) (omega arith))
+    carries-now = elim (decLe 58 (length (unfinished joined ++ chunk))) [
+      | yes d ↦ carries-agree (held-agree 58 bytes d (omega arith)) (omega arith)
+      | no d ↦
+          let i = size-is (unfinished joined ++ chunk) in
+          let a = all in
+          let m = v .core .many in
+          let e = stored-agree (held-agree 12 bytes (omega arith) (omega arith)) (omega arith) in
+          carries-short k (omega arith) ∙ sym (carries-short (unfinished joined ++ chunk) (omega arith))
+    ]
 
     counts : (length (wholeFrames joined) ≤ 268435456) × (skipped (wholeFrames joined) ≤ 268435456)
     counts =

@@ -140,11 +140,10 @@ module _ {k : List ℕ} {s : Walk} {joined : List ℕ} (u : Head k s joined) (k�
         head-done (shows ∙ rw (magic-kept later, link-shown a (omega (arith, size)), m)) l
       where
         later : 4 ≤ s .fed
-        later = go (decLt (s .fed) 4)
-          where
-            go : Dec (s .fed < 4) → 4 ≤ s .fed
-            go (yes d) = let f = upto d in absurd (omega arith)
-            go (no d) = omega arith
+        later = elim (decLt (s .fed) 4) [
+          | yes d ↦ let f = upto d in absurd (omega arith)
+          | no d ↦ omega arith
+        ]
 
   pub file-bad-magic : {b : Bool} → s .fed + length t ≡ 4 → b ≡ isMagic k′ → b ≡ false → r .status ≡ 5 → r .place ≡ 3 →
       Passed k′ (record { taken = n; walk = r; event = Refused }) piece joined (joined ++ t)
@@ -165,8 +164,7 @@ module _ {k : List ℕ} {s : Walk} {joined : List ℕ} (u : Head k s joined) (k�
       (omega arith) rs rp (shown-same joined a (nothing 4 (omega arith) (omega arith)))
     where
       later : 4 ≤ s .fed
-      later = go (decLt (s .fed) 4)
-        where
-          go : Dec (s .fed < 4) → 4 ≤ s .fed
-          go (yes d) = let f = upto d in absurd (omega arith)
-          go (no d) = omega arith
+      later = elim (decLt (s .fed) 4) [
+        | yes d ↦ let f = upto d in absurd (omega arith)
+        | no d ↦ omega arith
+      ]

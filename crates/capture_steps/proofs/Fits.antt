@@ -60,17 +60,16 @@ module _ (r t : List ℕ) (size : ℕ) (f : Fine r) (v : Within (length r) size 
 
   pub fits-run : length r < frameSize r → (12 ≤ length r → size ≡ storedLength r) →
       length (r ++ t) ≤ frameSize (r ++ t)
-  fits-run short known = go (decLe 16 (length r))
-    where
-      go : Dec (16 ≤ length r) → length (r ++ t) ≤ frameSize (r ++ t)
-      go (yes h) =
-          let e = size-append r t h in
-          let k = known (omega arith) in
-          let g = f .size (omega arith) in
-          let i = size-is r in
-          let m = v .frame h (omega arith) (omega arith) in
-          omega (arith, total)
-      go (no h) = let m = v .header (omega arith) in let e = size-least (r ++ t) in omega (arith, total)
+  fits-run short known = elim (decLe 16 (length r)) [
+    | yes h ↦
+        let e = size-append r t h in
+        let k = known (omega arith) in
+        let g = f .size (omega arith) in
+        let i = size-is r in
+        let m = v .frame h (omega arith) (omega arith) in
+        omega (arith, total)
+    | no h ↦ let m = v .header (omega arith) in let e = size-least (r ++ t) in omega (arith, total)
+  ]
 
 pub within-header : {at size n : ℕ} → at + n ≤ 16 → Within at size n
 within-header h = record { header = λ k. h; front = omega arith; frame = λ a b c. omega arith }

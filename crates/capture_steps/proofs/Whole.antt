@@ -122,11 +122,10 @@ module _ {k : List ℕ} {s : Walk} {joined : List ℕ} (start : 24 ≤ length jo
   room h = let r = roomy f h in let e = size in omega arith
 
   whole : 188 * countOf f ≤ length (drop 58 f)
-  whole = go (decLe (countOf f) 0)
-    where
-      go : Dec (countOf f ≤ 0) → 188 * countOf f ≤ length (drop 58 f)
-      go (yes z) = omega arith
-      go (no z) = let r = room (omega arith) in let l = length-drop 58 f in let e = long in omega arith
+  whole = elim (decLe (countOf f) 0) [
+    | yes z ↦ omega arith
+    | no z ↦ let r = room (omega arith) in let l = length-drop 58 f in let e = long in omega arith
+  ]
 
   reached-old : (d : ℕ) → 0 < d → d ≤ 188 → reached d joined ≡ old
   reached-old d some small =

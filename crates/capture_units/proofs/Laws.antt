@@ -19,7 +19,7 @@ use Rattle.rules.specs.Packets.{Packet, condition, isBad, isDamaged, isWanted, 
 use Rattle.rules.specs.Packets.{wantedOf, badOf}
 use Rattle.rules.specs.Units as rule
 use Rattle.rules.specs.Capture.{units, badCount, earlier, beginsAt, tooManyUnits, captureFault}
-use Rattle.rules.proofs.Laws.Lists.{only-append}
+use Rattle.rules.proofs.Laws.Lists.{by-pick, by-picks, only-append}
 use Rattle.capture_laws.proofs.Flow.{reached, nine, nine-of, bad-of, wanted-of}
 use Rattle.capture_laws.proofs.Format.{none-both, capture-format}
 use Rattle.capture_laws.proofs.Faults.{no-fault, at-fault, Late, late-none, late-fault, Grows, same, new}
@@ -68,12 +68,10 @@ wanted-cells : (e : ℕ) (o : Opening) (ps : List Packet) →
     map (cellBy e) (wantedOf o ps) ≡ allOf e (o .pid) (map cellOf ps)
 unfolding wantedOf allOf only
 wanted-cells e o [] = refl
-wanted-cells e o (p ∷ ps) = rw (wanted-cell o p) (go _ _ (isOf (o .pid) (cellOf p)) (wanted-cells e o ps))
-  where
-    go : (rest : List Packet) (more : List Cell) (b : Bool) → map (cellBy e) rest ≡ map (seen e) more →
-        map (cellBy e) (pick b (p ∷ rest) rest) ≡ map (seen e) (pick b (cellOf p ∷ more) more)
-    go rest more true z = ap (λ (r : List Cell). cellBy e p ∷ r) z
-    go rest more false z = z
+wanted-cells e o (p ∷ ps) =
+    let z = wanted-cells e o ps in
+    rw (wanted-cell o p) (by-picks (λ (r : List Packet) (m : List Cell). map (cellBy e) r ≡ map (seen e) m)
+    (isOf (o .pid) (cellOf p)) (ap (λ (r : List Cell). cellBy e p ∷ r) z) z)
 
 bad-cells : (ps : List Packet) → badOf ps ≡ count (λ c. isBad (c .condition)) (map cellOf ps)
 unfolding badOf count cellIn
@@ -121,18 +119,10 @@ arrivals-cells : (e : ℕ) (ps : List Packet) →
     rule.arrivals (heedsSplices e) (knowsDamage e) ps ≡ arrivals (fromSound (map (cellBy e) ps))
 unfolding rule.arrivals fromSound arrivals
 arrivals-cells e [] = refl
-arrivals-cells e (p ∷ ps) = rw (apart-cell e p) (go (isDamaged (cellBy e p .condition)) (arrivals-cells e ps))
-  where
-    first : rule.firstArrival p ∷ rule.arrivalsAfter (heedsSplices e) (knowsDamage e) p ps
-        ≡ arrivals (cellBy e p ∷ map (cellBy e) ps)
-    first = unfold cellIn in ap (λ (r : List rule.Arrival). rule.firstArrival p ∷ r) (after-cells e p ps)
-
-    go : (t : Bool) → rule.arrivals (heedsSplices e) (knowsDamage e) ps ≡ arrivals (fromSound (map (cellBy e) ps)) →
-        pick t (rule.arrivals (heedsSplices e) (knowsDamage e) ps)
-        (rule.firstArrival p ∷ rule.arrivalsAfter (heedsSplices e) (knowsDamage e) p ps)
-        ≡ arrivals (pick t (fromSound (map (cellBy e) ps)) (cellBy e p ∷ map (cellBy e) ps))
-    go true a = a
-    go false a = first
+arrivals-cells e (p ∷ ps) = rw (apart-cell e p)
+    (by-picks (λ (xs : List rule.Arrival) (cs : List Cell). xs ≡ arrivals cs) (isDamaged (cellBy e p .condition))
+    (arrivals-cells e ps)
+    (unfold cellIn in ap (λ (r : List rule.Arrival). rule.firstArrival p ∷ r) (after-cells e p ps)))
 
 -- ---- the figures
 
@@ -160,11 +150,9 @@ bad-all o s =
 from-few : (xs : List Cell) → length (fromSound xs) ≤ length xs
 unfolding fromSound
 from-few [] = omega arith
-from-few (c ∷ cs) = go (isDamaged (c .condition)) (from-few cs)
-  where
-    go : (t : Bool) → length (fromSound cs) ≤ length cs → length (pick t (fromSound cs) (c ∷ cs)) ≤ suc (length cs)
-    go true h = omega arith
-    go false h = omega arith
+from-few (c ∷ cs) =
+    let h = from-few cs in
+    by-pick (λ (r : List Cell). length r ≤ suc (length cs)) (isDamaged (c .condition)) (omega arith) (omega arith)
 
 pub all-few : (e pid : ℕ) (cs : List Cell) → length (allOf e pid cs) ≤ length cs
 unfolding allOf
@@ -242,36 +230,22 @@ places-only false a b xs ys e f = f
 abbrev beginning : List rule.Arrival → List rule.Arrival
 beginning xs = only (λ a. a .begins) xs
 
+abbrev Placed : List rule.Arrival → List rule.Arrival → Type 0
+Placed xs ys = places (beginning xs) ≡ places (beginning ys)
+
 -- over packets: the marks that are heeded
 rule-after : (g h known : Bool) (q r : Packet) (ps : List Packet) →
-    places (beginning (rule.arrivalsAfter g known q ps)) ≡ places (beginning (rule.arrivalsAfter h known r ps))
+    Placed (rule.arrivalsAfter g known q ps) (rule.arrivalsAfter h known r ps)
 unfolding rule.arrivalsAfter only
 rule-after g h known q r [] = refl
-rule-after g h known q r (p ∷ ps) =
-    go (rule.setApart known p) (rule-after g h known q r ps) (rule-after g h known p p ps)
-  where
-    go : (t : Bool) → places (beginning (rule.arrivalsAfter g known q ps))
-        ≡ places (beginning (rule.arrivalsAfter h known r ps)) →
-        places (beginning (rule.arrivalsAfter g known p ps)) ≡ places (beginning (rule.arrivalsAfter h known p ps)) →
-        places (beginning (pick t (rule.damagedArrival p ∷ rule.arrivalsAfter g known q ps)
-        (rule.laterArrival g q p ∷ rule.arrivalsAfter g known p ps)))
-        ≡ places (beginning (pick t (rule.damagedArrival p ∷ rule.arrivalsAfter h known r ps)
-        (rule.laterArrival h r p ∷ rule.arrivalsAfter h known p ps)))
-    go true a b = a
-    go false a b = places-only (startMark (p .bytes)) _ _ _ _ refl b
+rule-after g h known q r (p ∷ ps) = by-picks Placed (rule.setApart known p) (rule-after g h known q r ps)
+    (places-only (startMark (p .bytes)) _ _ _ _ refl (rule-after g h known p p ps))
 
-rule-places : (g h known : Bool) (ps : List Packet) →
-    places (beginning (rule.arrivals g known ps)) ≡ places (beginning (rule.arrivals h known ps))
+rule-places : (g h known : Bool) (ps : List Packet) → Placed (rule.arrivals g known ps) (rule.arrivals h known ps)
 unfolding rule.arrivals only
 rule-places g h known [] = refl
-rule-places g h known (p ∷ ps) = go (rule.setApart known p) (rule-places g h known ps)
-  where
-    go : (t : Bool) → places (beginning (rule.arrivals g known ps)) ≡ places (beginning (rule.arrivals h known ps)) →
-        places (beginning (pick t (rule.arrivals g known ps) (rule.firstArrival p ∷ rule.arrivalsAfter g known p ps)))
-        ≡ places (beginning (pick t (rule.arrivals h known ps)
-        (rule.firstArrival p ∷ rule.arrivalsAfter h known p ps)))
-    go true a = a
-    go false a = ap (λ (ns : List ℕ). p .place ∷ ns) (rule-after g h known p p ps)
+rule-places g h known (p ∷ ps) = by-picks Placed (rule.setApart known p) (rule-places g h known ps)
+    (ap (λ (ns : List ℕ). p .place ∷ ns) (rule-after g h known p p ps))
 
 -- over cells: their first four bytes
 after-places : (q r : Cell) (cs : List Cell) →
@@ -295,33 +269,26 @@ at-places (suc n) [] (y ∷ ys) e = absurd (no-cons e)
 at-places (suc n) (x ∷ xs) [] e = absurd (no-cons (sym e))
 at-places (suc n) (x ∷ xs) (y ∷ ys) e = at-places n xs ys (let f : places xs ≡ places ys = cc in f)
 
+and-false : (b : Bool) → b && false ≡ false
+and-false true = refl
+and-false false = refl
+
 -- a cell's first four bytes, as they are seen
 head-seen : (e : ℕ) (c : Cell) → seen e (head c) ≡ head (seen e c)
-head-seen e c = rw (go (heedsSplices e))
-  where
-    go : (b : Bool) → b && false ≡ false
-    go true = refl
-    go false = refl
+head-seen e c = rw (and-false (heedsSplices e))
 
 head-all : (e pid : ℕ) (cs : List Cell) → allOf e pid (map head cs) ≡ map head (allOf e pid cs)
 unfolding allOf only
 head-all e pid [] = refl
-head-all e pid (c ∷ cs) = go _ _ (isOf pid c) (head-all e pid cs)
-  where
-    go : (a b : List Cell) (t : Bool) → map (seen e) a ≡ map head (map (seen e) b) →
-        map (seen e) (pick t (head c ∷ a) a) ≡ map head (map (seen e) (pick t (c ∷ b) b))
-    go a b true z = rw (head-seen e c, z)
-    go a b false z = z
+head-all e pid (c ∷ cs) =
+    let z = head-all e pid cs in
+    by-picks (λ (a b : List Cell). map (seen e) a ≡ map head (map (seen e) b)) (isOf pid c) (rw (head-seen e c, z)) z
 
 head-from : (xs : List Cell) → fromSound (map head xs) ≡ map head (fromSound xs)
 unfolding fromSound
 head-from [] = refl
-head-from (c ∷ cs) = go (isDamaged (c .condition)) (head-from cs)
-  where
-    go : (t : Bool) → fromSound (map head cs) ≡ map head (fromSound cs) →
-        pick t (fromSound (map head cs)) (head c ∷ map head cs) ≡ map head (pick t (fromSound cs) (c ∷ cs))
-    go true z = z
-    go false z = refl
+head-from (c ∷ cs) =
+    by-picks (λ (a b : List Cell). a ≡ map head b) (isDamaged (c .condition)) (head-from cs) refl
 
 head-nine : (e pid : ℕ) (cs : List Cell) → nineIn e pid (map head cs) ≡ nineIn e pid cs
 unfolding nineIn ofPid
@@ -454,14 +421,13 @@ first-kept [] zs k p e = let z : _≡_ {A = ℕ} 0 1 = cc in absurd (omega arith
 first-kept (u ∷ us) zs k p e = e
 
 past : (us : List rule.Arrival) (k p : ℕ) → beginsAt (drop 750 us) ≡ fault k p → 750 ≤ length us
-past us k p e = go (decLe 750 (length us))
-  where
-    go : Dec (750 ≤ length us) → 750 ≤ length us
-    go (yes h) = h
-    go (no h) =
-        let f : beginsAt [] ≡ fault k p = ap beginsAt (sym (drop-of-length-le us {i = 750} (omega arith))) ∙ e in
-        let z : _≡_ {A = ℕ} 0 1 = cc in
-        absurd (omega arith)
+past us k p e = elim (decLe 750 (length us)) [
+  | yes h ↦ h
+  | no h ↦
+      let f : beginsAt [] ≡ fault k p = ap beginsAt (sym (drop-of-length-le us {i = 750} (omega arith))) ∙ e in
+      let z : _≡_ {A = ℕ} 0 1 = cc in
+      absurd (omega arith)
+]
 
 pub nine-kept : (e pid : ℕ) (xs ys : List Cell) (k p : ℕ) → nineIn e pid xs ≡ fault k p →
     nineIn e pid (xs ++ ys) ≡ fault k p

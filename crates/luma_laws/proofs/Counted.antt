@@ -28,18 +28,16 @@ use Rattle.luma_laws.proofs.Differences.{reduced-at}
 -- ---- whole pictures
 
 smaller-least : (a b i : ℕ) → i < smaller a b → (i < a) × (i < b)
-smaller-least a b i h = go (decLe a b)
-  where
-    go : Dec (a ≤ b) → (i < a) × (i < b)
-    go (yes l) = let k : i < a = rw (le-leb a b l) at h in (k, omega arith)
-    go (no l) = let k : i < b = rw (lt-leb a b (lt-of-not-le l)) at h in (omega (arith, lt-of-not-le l), k)
+smaller-least a b i h = elim (decLe a b) [
+  | yes l ↦ let k : i < a = rw (le-leb a b l) at h in (k, omega arith)
+  | no l ↦ let k : i < b = rw (lt-leb a b (lt-of-not-le l)) at h in (omega (arith, lt-of-not-le l), k)
+]
 
 least-smaller : (a b i : ℕ) → i < a → i < b → i < smaller a b
-least-smaller a b i g h = go (decLe a b)
-  where
-    go : Dec (a ≤ b) → i < smaller a b
-    go (yes l) = rw (le-leb a b l) g
-    go (no l) = rw (lt-leb a b (lt-of-not-le l)) h
+least-smaller a b i g h = elim (decLe a b) [
+  | yes l ↦ rw (le-leb a b l) g
+  | no l ↦ rw (lt-leb a b (lt-of-not-le l)) h
+]
 
 size-some : (o : Opening) → openingFault o ≡ none → 0 < pictureSize o
 unfolding pictureSize

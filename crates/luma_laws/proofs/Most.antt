@@ -69,16 +69,15 @@ none-has-more o luma h =
 -- whatever N and d, document 01's 250 is the greatest number of all
 pub most-few : (d n : ℕ) → 10000 ≤ d → d ≤ 200000 → n ≤ 750 → mostScenes d n ≤ 250
 unfolding mostScenes
-most-few d n low high few = go (decLt n 3)
-  where
-    go : Dec (n < 3) → mostScenes d n ≤ 250
-    go (yes l) = rw (lt-ltb n 3 l) (omega arith)
-    go (no l) =
-        let q = (n - 3) / leastBetween d in
-        let three = between-three d low high in
-        let some : 0 < leastBetween d = omega arith in
-        let all : q * leastBetween d ≤ n - 3 = le-div-iff-mul-le some .0 (le-refl q) in
-        rw (le-ltb n 3 (omega arith)) (omega (arith, mul-le-mul-left q three))
+most-few d n low high few = elim (decLt n 3) [
+  | yes l ↦ rw (lt-ltb n 3 l) (omega arith)
+  | no l ↦
+      let q = (n - 3) / leastBetween d in
+      let three = between-three d low high in
+      let some : 0 < leastBetween d = omega arith in
+      let all : q * leastBetween d ≤ n - 3 = le-div-iff-mul-le some .0 (le-refl q) in
+      rw (le-ltb n 3 (omega arith)) (omega (arith, mul-le-mul-left q three))
+]
 
 -- so a sample has at most 250 scenes
 pub sample-few : (o : Opening) (luma : List ℕ) → openingFault o ≡ none → length (scenes o luma) ≤ 250

@@ -29,13 +29,12 @@ module _ {A : Type 0} where
   getD-last xs y d = getD-append-seam xs y [] d
 
   pub getD-other : (xs : List A) (y d : A) (i : ℕ) → (i ≡ length xs → ⊥) → getD (xs ++ y ∷ []) i d ≡ getD xs i d
-  getD-other xs y d i h = go (decLe (length xs) i)
-    where
-      go : Dec (length xs ≤ i) → getD (xs ++ y ∷ []) i d ≡ getD xs i d
-      go (yes k) =
-          let far : length (xs ++ y ∷ []) ≤ i = simp length-append (omega arith) in
-          List·getD-eq-default (xs ++ y ∷ []) d far ∙ sym (List·getD-eq-default xs d k)
-      go (no k) = List·getD-append xs (y ∷ []) d i (lt-of-not-le k)
+  getD-other xs y d i h = elim (decLe (length xs) i) [
+    | yes k ↦
+        let far : length (xs ++ y ∷ []) ≤ i = simp length-append (omega arith) in
+        List·getD-eq-default (xs ++ y ∷ []) d far ∙ sym (List·getD-eq-default xs d k)
+    | no k ↦ List·getD-append xs (y ∷ []) d i (lt-of-not-le k)
+  ]
 
 -- ---- the parts of a string that goes on
 
@@ -71,11 +70,10 @@ count-whole o n whole cur f e k h =
     rw (f, q) (least n h)
   where
     least : (n : ℕ) → n ≤ 750 → smaller 750 n ≡ n
-    least n h = go (decLe 750 n)
-      where
-        go : Dec (750 ≤ n) → smaller 750 n ≡ n
-        go (yes k) = rw (le-leb 750 n k) (omega arith)
-        go (no k) = rw (lt-leb 750 n (lt-of-not-le k))
+    least n h = elim (decLe 750 n) [
+      | yes k ↦ rw (le-leb 750 n k) (omega arith)
+      | no k ↦ rw (lt-leb 750 n (lt-of-not-le k))
+    ]
 
 pub reduced-whole : (o : Opening) (n : ℕ) (whole cur : List ℕ) → openingFault o ≡ none →
     length whole ≡ n * pictureSize o → length cur < pictureSize o → n ≤ 750 →
@@ -173,11 +171,10 @@ next-none hs x h = rw (lt-leb 4 (length hs) h)
 
 pub score-next : (hs : List (List (List ℕ))) (x : List (List ℕ)) (i : ℕ) → i + 2 ≡ length hs →
     cutScore (hs ++ x ∷ []) i ≡ nextScore hs x
-score-next hs x i e = go (decLe 2 i)
-  where
-    go : Dec (2 ≤ i) → cutScore (hs ++ x ∷ []) i ≡ nextScore hs x
-    go (no g) = score-none (hs ++ x ∷ []) i (lt-of-not-le g) ∙ sym (next-none hs x (omega (arith, lt-of-not-le g)))
-    go (yes g) = score-six hs x i g e ∙ sym (next-six hs x i g e)
+score-next hs x i e = elim (decLe 2 i) [
+  | no g ↦ score-none (hs ++ x ∷ []) i (lt-of-not-le g) ∙ sym (next-none hs x (omega (arith, lt-of-not-le g)))
+  | yes g ↦ score-six hs x i g e ∙ sym (next-six hs x i g e)
+]
 
 -- ---- repeats and changes
 
@@ -291,18 +288,17 @@ word-more bs b =
 pub word-other : (bs : List Bool) (b : Bool) (j : ℕ) → (j ≡ length bs / 64 → ⊥) →
     mapWord (bs ++ b ∷ []) j ≡ mapWord bs j
 unfolding mapWord
-word-other bs b j h = go (decLe (64 * j) (length bs))
-  where
-    go : Dec (64 * j ≤ length bs) → ones (take 64 (drop (64 * j) (bs ++ b ∷ []))) ≡ ones (take 64 (drop (64 * j) bs))
-    go (yes k) =
-        let full : 64 ≤ length (drop (64 * j) bs) = simp length-drop (omega (arith, h)) in
-        rw (drop-append-le (64 * j) bs (b ∷ []) k, take-append-le 64 (drop (64 * j) bs) (b ∷ []) full)
-    go (no k) =
-        let far : length (bs ++ b ∷ []) ≤ 64 * j = simp length-append (omega (arith, lt-of-not-le k)) in
-        rw (
-          lib.ListN.drop-of-length-le (bs ++ b ∷ []) {i = 64 * j} far,
-          lib.ListN.drop-of-length-le bs {i = 64 * j} (omega (arith, lt-of-not-le k)),
-        )
+word-other bs b j h = elim (decLe (64 * j) (length bs)) [
+  | yes k ↦
+      let full : 64 ≤ length (drop (64 * j) bs) = simp length-drop (omega (arith, h)) in
+      rw (drop-append-le (64 * j) bs (b ∷ []) k, take-append-le 64 (drop (64 * j) bs) (b ∷ []) full)
+  | no k ↦
+      let far : length (bs ++ b ∷ []) ≤ 64 * j = simp length-append (omega (arith, lt-of-not-le k)) in
+      rw (
+        lib.ListN.drop-of-length-le (bs ++ b ∷ []) {i = 64 * j} far,
+        lib.ListN.drop-of-length-le bs {i = 64 * j} (omega (arith, lt-of-not-le k)),
+      )
+]
 
 -- ---- reading the map
 

@@ -114,14 +114,13 @@ pixels-small o picture h = all-lines (lines o) 0 (λ r. pixelLine o (band o pict
 
 pub luma-kept : (o : Opening) (s t : List ℕ) (k p : ℕ) → lumaFault o s ≡ fault k p → lumaFault o (s ++ t) ≡ fault k p
 unfolding lumaFault
-luma-kept o s t k p h = go (decLe (length s) (750 * pictureSize o))
-  where
-    go : Dec (length s ≤ 750 * pictureSize o) → lumaFault o (s ++ t) ≡ fault k p
-    go (yes g) =
-        let e : Fault.none ≡ fault k p = rw (le-ltb (750 * pictureSize o) (length s) g) at h in
-        let z : _≡_ {A = ℕ} 0 1 = cc in
-        absurd (omega arith)
-    go (no g) =
-        let e : fault 10 (750 * pictureSize o) ≡ fault k p =
-        rw (lt-ltb (750 * pictureSize o) (length s) (lt-of-not-le g)) at h in
-        rw (lt-ltb (750 * pictureSize o) (length (s ++ t)) (simp length-append (omega (arith, lt-of-not-le g)))) e
+luma-kept o s t k p h = elim (decLe (length s) (750 * pictureSize o)) [
+  | yes g ↦
+      let e : Fault.none ≡ fault k p = rw (le-ltb (750 * pictureSize o) (length s) g) at h in
+      let z : _≡_ {A = ℕ} 0 1 = cc in
+      absurd (omega arith)
+  | no g ↦
+      let e : fault 10 (750 * pictureSize o) ≡ fault k p =
+      rw (lt-ltb (750 * pictureSize o) (length s) (lt-of-not-le g)) at h in
+      rw (lt-ltb (750 * pictureSize o) (length (s ++ t)) (simp length-append (omega (arith, lt-of-not-le g)))) e
+]

@@ -59,21 +59,19 @@ module _ (d : ℕ) (ss : List ℕ) (m end : ℕ) (long : (n : ℕ) → 600000 �
 
 -- a start is a picture: there is no cut score behind the last picture
 pub below-length : (ss : List ℕ) (i : ℕ) → 1000 < getD ss i 0 → i < length ss
-below-length ss i h = go (decLe (length ss) i)
-  where
-    go : Dec (length ss ≤ i) → i < length ss
-    go (yes g) = let e = List·getD-eq-default ss 0 g in absurd (omega arith)
-    go (no g) = omega arith
+below-length ss i h = elim (decLe (length ss) i) [
+  | yes g ↦ let e = List·getD-eq-default ss 0 g in absurd (omega arith)
+  | no g ↦ omega arith
+]
 
 -- with d at most 200,000 a scene has at least three pictures
 pub three : (d : ℕ) → d ≤ 200000 → (n : ℕ) → 600000 ≤ n * d → 3 ≤ n
-three d h n g = go (decLe 3 n)
-  where
-    go : Dec (3 ≤ n) → 3 ≤ n
-    go (yes k) = k
-    go (no k) =
-        let a : n * d ≤ 2 * 200000 = mul-le-mul {n₁ = n} {m₁ = d} {n₂ = 2} {m₂ = 200000} (omega arith) h in
-        absurd (omega arith)
+three d h n g = elim (decLe 3 n) [
+  | yes k ↦ k
+  | no k ↦
+      let a : n * d ≤ 2 * 200000 = mul-le-mul {n₁ = n} {m₁ = d} {n₂ = 2} {m₂ = 200000} (omega arith) h in
+      absurd (omega arith)
+]
 
 pub apart-count : {m end b : ℕ} {is : List ℕ} → Apart m end b is → m * length is ≤ end - suc b
 apart-count {m} last = omega arith

@@ -96,18 +96,17 @@ up-to (suc n) h e = go (decLe 30 (h / 2 ^ suc n)) (up-to n h e)
 
 -- H below 60 × 2^k, by cases of the level
 below-sixty : (h k : ℕ) → h ≤ 1088 → k ≤ 5 → ((j : ℕ) → j ≤ 5 → 30 ≤ h / 2 ^ j → j ≤ k) → h < 60 * 2 ^ k
-below-sixty h k high few most = go (decLe (suc k) 5)
-  where
-    go : Dec (suc k ≤ 5) → h < 60 * 2 ^ k
-    go (yes l) =
-        let less : h / 2 ^ suc k < 30 =
-        lt-of-not-le (λ (f : 30 ≤ h / 2 ^ suc k). let m = most (suc k) l f in absurd (omega arith)) in
-        let some : 0 < 2 ^ suc k = omega (arith, one-le-pow (suc k) 2 (omega arith)) in
-        let lower : h < 30 * 2 ^ suc k = div-lt-iff-lt-mul some .0 less in
-        omega (arith, pow-suc 2 k)
-    go (no l) =
-        let last : k ≡ 5 = omega (arith, lt-of-not-le l) in
-        rw last (omega arith)
+below-sixty h k high few most = elim (decLe (suc k) 5) [
+  | yes l ↦
+      let less : h / 2 ^ suc k < 30 =
+      lt-of-not-le (λ (f : 30 ≤ h / 2 ^ suc k). let m = most (suc k) l f in absurd (omega arith)) in
+      let some : 0 < 2 ^ suc k = omega (arith, one-le-pow (suc k) 2 (omega arith)) in
+      let lower : h < 30 * 2 ^ suc k = div-lt-iff-lt-mul some .0 less in
+      omega (arith, pow-suc 2 k)
+  | no l ↦
+      let last : k ≡ 5 = omega (arith, lt-of-not-le l) in
+      rw last (omega arith)
+]
 
 -- the level is the greatest of all numbers k with H / 2^k at least 30
 pub record Level (o : Opening) : Type 0 where

@@ -33,15 +33,6 @@ module _ {ℓ} {A : Type ℓ} where
       let e : q + suc k ≡ suc q + k = omega arith in
       rw e (omega (arith, tally-split f k (suc q) t))
 
-  -- one element more
-  pub tally-take : (f : ℕ → A → ℕ) (d : A) (p : List A) (i : ℕ) → i < length p →
-      tally f 0 (take (i + 1) p) ≡ tally f 0 (take i p) + f i (getD p i d)
-  unfolding tally
-  tally-take f d p i h =
-      let size : length (take i p) ≡ i = length-take-le i p (omega arith) in
-      let here : 0 + length (take i p) ≡ i = omega arith in
-      rw (add-one i, take-suc p i d) (omega (arith, rw here at (tally-append f 0 (take i p) (getD p i d ∷ []))))
-
   -- two tallies are equal where each element gives the same to both, wherever the two lists stand
   pub tally-shift : (f g : ℕ → A → ℕ) (q x : ℕ) (t : List A) →
       ((j : ℕ) (a : A) → j < length t → f (q + j) a ≡ g (x + j) a) → tally f q t ≡ tally g x t

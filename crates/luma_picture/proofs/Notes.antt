@@ -82,19 +82,18 @@ module _ (o : Opening) (pxs : List (List ℕ)) (px : List ℕ) {bins : List ℕ}
   pub score-is : (4 ≤ length pxs → kept ≡ keptOf (map (histograms o) pxs)) →
       r .score ≡ nextScore (map (histograms o) pxs) (histograms o px)
   unfolding keptOf
-  score-is keeps = go (decLe 4 i)
-    where
-      go : Dec (4 ≤ i) → r .score ≡ nextScore (map (histograms o) pxs) (histograms o px)
-      go (no h) = s .early (lt-of-not-le h)
-          ∙ sym (next-none (map (histograms o) pxs) (histograms o px) (omega (arith, long, lt-of-not-le h)))
-      go (yes h) =
-          let n = long in
-          let a = tile (i - 4) (omega arith) (omega arith) in
-          let b = tile (i - 3) (omega arith) (omega arith) in
-          let c = tile (i - 2) (omega arith) (omega arith) in
-          let d = tile (i - 1) (omega arith) (omega arith) in
-          s .later h (keeps (omega arith) ∙ rw (n, a, c, d))
-          ∙ rw (next-some (map (histograms o) pxs) (histograms o px) (omega arith), n, a, b, c, d, own)
+  score-is keeps = elim (decLe 4 i) [
+    | no h ↦ s .early (lt-of-not-le h)
+        ∙ sym (next-none (map (histograms o) pxs) (histograms o px) (omega (arith, long, lt-of-not-le h)))
+    | yes h ↦
+        let n = long in
+        let a = tile (i - 4) (omega arith) (omega arith) in
+        let b = tile (i - 3) (omega arith) (omega arith) in
+        let c = tile (i - 2) (omega arith) (omega arith) in
+        let d = tile (i - 1) (omega arith) (omega arith) in
+        s .later h (keeps (omega arith) ∙ rw (n, a, c, d))
+        ∙ rw (next-some (map (histograms o) pxs) (histograms o px) (omega arith), n, a, b, c, d, own)
+  ]
 
   -- what it keeps is what the next one needs
   pub kept-is : 3 ≤ length pxs → r .kept ≡ keptOf (map (histograms o) pxs ++ histograms o px ∷ [])

@@ -113,11 +113,10 @@ elsewhere {w} {h} {base} {other} {p} {a} {z} k (inr f) c =
 
 -- two of five neighbouring pictures have their own slots
 pub apart : (i j : ℕ) → i < j → j ≤ i + 4 → (slot j + 144 ≤ slot i) ⊎ (slot i + 144 ≤ slot j)
-apart i j h k = go (decLe (i % 5) (j % 5))
-  where
-    go : Dec (i % 5 ≤ j % 5) → (slot j + 144 ≤ slot i) ⊎ (slot i + 144 ≤ slot j)
-    go (yes l) = inr (omega arith)
-    go (no l) = inl (omega (arith, lt-of-not-le l))
+apart i j h k = elim (decLe (i % 5) (j % 5)) [
+  | yes l ↦ inr (omega arith)
+  | no l ↦ inl (omega (arith, lt-of-not-le l))
+]
 
 -- ---- the end of a block row
 
@@ -253,17 +252,16 @@ bytes-of (b ∷ s) h = and (h 0) (bytes-of s (λ i. h (suc i)))
 -- where there is something to take in, something is
 pub some-used : {W n w row col : ℕ} {rest a z : List ℕ} {p : Spot} → FedRows W n w row col rest a p z → row < n →
     col < W → 0 < length rest → 0 < p .used
-some-used {W} {n} {w} {row} {col} {rest} {a} {z} {p} f h k l = go (decLe 1 (p .used))
-  where
-    go : Dec (1 ≤ p .used) → 0 < p .used
-    go (yes y) = y
-    go (no y) =
-        let zero : p .used ≡ 0 = omega (arith, lt-of-not-le y) in
-        let end : p .row ≡ n = f .all (omega arith) in
-        let first : p .col ≡ 0 = f .going .stops end in
-        let up : row + 1 ≤ n = omega arith in
-        let place : n * W ≡ row * W + col = omega (arith, rw end at (f .going .place)) in
-        absurd (omega (arith, add-mul row 1 W, mul-le-mul-right W up))
+some-used {W} {n} {w} {row} {col} {rest} {a} {z} {p} f h k l = elim (decLe 1 (p .used)) [
+  | yes y ↦ y
+  | no y ↦
+      let zero : p .used ≡ 0 = omega (arith, lt-of-not-le y) in
+      let end : p .row ≡ n = f .all (omega arith) in
+      let first : p .col ≡ 0 = f .going .stops end in
+      let up : row + 1 ≤ n = omega arith in
+      let place : n * W ≡ row * W + col = omega (arith, rw end at (f .going .place)) in
+      absurd (omega (arith, add-mul row 1 W, mul-le-mul-right W up))
+]
 
 pub drew-live : {g : Grid} {o : Opening} {s : Progress} {luma sums bins picture joined rest sums′ : List ℕ}
     {p : Spot} → s .line < g .lines → s .pictures < 750 →

@@ -68,22 +68,6 @@ module _ (d : ℕ) (ss : List ℕ) where
   unfolding startsAfter
   after-follow b = from-follow (length ss - suc b) b (suc b) refl
 
-  pub next-more : (b : ℕ) → b < length ss → b < nextStart d ss b
-  unfolding nextStart
-  next-more b h = go (startsAfter d ss b) (after-follow b)
-    where
-      go : (is : List ℕ) → Follow d ss (suc b) is → b < firstOr (length ss) is
-      go is (no-more e) = rw e h
-      go is (another j k l e) = rw e k
-
-  pub next-most : (b : ℕ) → nextStart d ss b ≤ length ss
-  unfolding nextStart
-  next-most b = go (startsAfter d ss b) (after-follow b)
-    where
-      go : (is : List ℕ) → Follow d ss (suc b) is → firstOr (length ss) is ≤ length ss
-      go is (no-more e) = rw e (omega arith)
-      go is (another j k l e) = rw e (omega arith)
-
   module _ (rs : List Bool) (qs : List ℕ) where
     pub scenes-none : (b : ℕ) → length ss ≤ b → scenesFrom d ss rs qs b ≡ []
     unfolding scenesFrom

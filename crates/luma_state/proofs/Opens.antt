@@ -71,11 +71,10 @@ no-words o luma n e z =
     }
   where
     none-yet : (i : ℕ) → cutScore (map (histograms o) []) i ≡ 0
-    none-yet i = go (decLe 2 i)
-      where
-        go : Dec (2 ≤ i) → cutScore [] i ≡ 0
-        go (yes h) = rw (le-leb 2 i h, le-ltb (i + 2) 0 (omega arith))
-        go (no h) = rw (lt-leb 2 i (lt-of-not-le h))
+    none-yet i = elim (decLe 2 i) [
+      | yes h ↦ rw (le-leb 2 i h, le-ltb (i + 2) 0 (omega arith))
+      | no h ↦ rw (lt-leb 2 i (lt-of-not-le h))
+    ]
 
     no-bits : (j : ℕ) → mapWord [] j ≡ 0
     no-bits j = rw (drop-nil {A = Bool} (64 * j))

@@ -399,11 +399,6 @@ record-again r b e = again r b (record-allowed r e)
 
 -- ---- the figures read from an allowed record fit their words, and meet the conditions
 
-each-table : {A : Type 0} (P : A → Type 0) (f : ℕ → A) → ((i : ℕ) → P (f i)) → (n from : ℕ) → Each P (table n from f)
-unfolding table
-each-table P f h zero from = tt
-each-table P f h (suc n) from = (h from, each-table P f h n (suc from))
-
 pub unit-fits : (r : List ℕ) → EachByte r → (j : ℕ) → UnitFits (unitAt r j)
 unfolding unitAt unitIn
 unit-fits r b j =

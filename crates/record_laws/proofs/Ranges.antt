@@ -21,9 +21,8 @@ use Rattle.rules.specs.Editions.{isEdition, heedsSplices, knowsDamage}
 use Rattle.rules.specs.Opening.{openingFault}
 use Rattle.rules.specs.Frames.{seconds, microseconds, storedLength, frameTime, frameSize, frames, behindHeader}
 use Rattle.rules.specs.Packets.{Packet, packetsFrom, packetsOf, packets, isWanted, wantedOf}
-use Rattle.rules.specs.Units.{Arrival, setApart, firstArrival, damagedArrival, laterArrival, arrivalsAfter, arrivals}
-use Rattle.rules.specs.Units.{beforeUnits}
-use Rattle.rules.specs.Units.{intoFirst, groups, cellsOf, leastTime, unitOf, unitsOf}
+use Rattle.rules.specs.Units.{Arrival, setApart, arrivalsAfter, arrivals, beforeUnits, intoFirst, groups, cellsOf}
+use Rattle.rules.specs.Units.{leastTime, unitOf, unitsOf}
 use Rattle.rules.specs.Capture.{wholeFrames, unfinished, allFrames, wholeWanted, units, showing, wrongFrameHeader}
 use Rattle.rules.specs.Capture.{wrongFrame, captureFault, captureInside}
 use Rattle.rules.specs.Pictures.{pictureCount, lumaFault}
@@ -41,7 +40,7 @@ use Rattle.record_laws.proofs.Words.{word32-fits}
 use Rattle.capture_laws.proofs.Frames.{size-least, by-frames, frames-none, frames-one}
 use Rattle.capture_laws.proofs.Onward.{base, base-sum, Whole, frames-whole, of-none, of-from, layout}
 use Rattle.capture_laws.proofs.Flow.{reached, wanted-of, nine-of, few-begin}
-use Rattle.rules.proofs.Laws.Lists.{all-drop, count-few, inside, smaller-min, larger-max, only-all, all-append}
+use Rattle.rules.proofs.Laws.Lists.{by-pick, all-drop, count-few, inside, smaller-min, larger-max, only-all, all-append}
 use Rattle.capture_laws.proofs.Format.{none-both, clear-of, long-of, shows}
 use Rattle.capture_laws.proofs.Bounds.{frame-count-few, skipped-few, bad-few, wanted-few}
 use Rattle.luma_laws.proofs.Sizes.{good}
@@ -229,23 +228,15 @@ after-arrived : (heeded known : Bool) (q : Packet) (ps : List Packet) → All Ti
 unfolding arrivalsAfter
 after-arrived heeded known q [] h = empty
 after-arrived heeded known q (p ∷ ps) (and h hs) =
-    go (setApart known p) (after-arrived heeded known q ps hs) (after-arrived heeded known p ps hs)
-  where
-    go : (t : Bool) → All Arrived (arrivalsAfter heeded known q ps) → All Arrived (arrivalsAfter heeded known p ps) →
-        All Arrived (pick t (damagedArrival p ∷ arrivalsAfter heeded known q ps)
-        (laterArrival heeded q p ∷ arrivalsAfter heeded known p ps))
-    go true d e = and h d
-    go false d e = and h e
+    by-pick (All Arrived) (setApart known p) (and h (after-arrived heeded known q ps hs))
+    (and h (after-arrived heeded known p ps hs))
 
 all-arrived : (heeded known : Bool) (ps : List Packet) → All Timed ps → All Arrived (arrivals heeded known ps)
 unfolding arrivals
 all-arrived heeded known [] h = empty
-all-arrived heeded known (p ∷ ps) (and h hs) = go (setApart known p) (all-arrived heeded known ps hs)
-  where
-    go : (t : Bool) → All Arrived (arrivals heeded known ps) →
-        All Arrived (pick t (arrivals heeded known ps) (firstArrival p ∷ arrivalsAfter heeded known p ps))
-    go true d = d
-    go false d = and h (after-arrived heeded known p ps hs)
+all-arrived heeded known (p ∷ ps) (and h hs) =
+    by-pick (All Arrived) (setApart known p) (all-arrived heeded known ps hs)
+    (and h (after-arrived heeded known p ps hs))
 
 cells-arrived : (xs : List Arrival) → All Arrived xs → All Arrived (cellsOf xs)
 unfolding cellsOf
@@ -263,12 +254,9 @@ all-groups : (xs : List Arrival) → All Arrived xs → All Group (groups xs)
 unfolding groups
 all-groups [] h = empty
 all-groups (a ∷ []) h = and (group h) empty
-all-groups (a ∷ b ∷ xs) (and h hs) = go (b .begins) (all-groups (b ∷ xs) hs)
-  where
-    go : (t : Bool) → All Group (groups (b ∷ xs)) →
-        All Group (pick t ((a ∷ []) ∷ groups (b ∷ xs)) (intoFirst a (groups (b ∷ xs))))
-    go true g = and (group (and h empty)) g
-    go false g = intoFirst-group a h g
+all-groups (a ∷ b ∷ xs) (and h hs) =
+    let g = all-groups (b ∷ xs) hs in
+    by-pick (All Group) (b .begins) (and (group (and h empty)) g) (intoFirst-group a h g)
 
 abbrev times : List Arrival → List ℕ
 times xs = map (λ (a : Arrival). a .time) xs

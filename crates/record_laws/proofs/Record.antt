@@ -231,11 +231,6 @@ module _ (h : Header) (us : List UnitRow) (ss : List SceneRow) (f : Figures h us
       ∙ scene-back (getD ss j z) (endToEnd (map sceneBytes (drop (suc j) ss)))
       (each-at SceneFits ss j z (f .sceneRows) k)
 
-  pub scene-zero-read : (j : ℕ) → SceneRow → j < length ss →
-      word32 (drop (scenePlace (recordBytes h us ss) j) (recordBytes h us ss)) 28 ≡ 0
-  scene-zero-read j z k =
-      rw (scene-place-read j z k) (scene-zero (getD ss j z) (endToEnd (map sceneBytes (drop (suc j) ss))))
-
 -- two sets of figures that fit never have one record
 noUnit : UnitRow
 noUnit = record { least = 0; greatest = 0; size = 0; packets = 0; lost = 0; damaged = 0 }

@@ -1,3 +1,2 @@
 -- The laws of buffers that are written on, and what the calls of writing come to.
 pub mod Buffers
-pub mod Composed

@@ -325,11 +325,6 @@ module _ (marker rows : List ℕ) (i k : ℕ) (is-k : k ≡ arrivalOf (getD rows
 
 -- ---- unit rows in the buffer, one behind the other
 
-rows-length : (us : List UnitRow) → length (rowsBytes us) ≡ 32 * length us
-unfolding endToEnd
-rows-length [] = refl
-rows-length (u ∷ us) = length-append (unitBytes u) (rowsBytes us) ∙ omega (arith, length-unit u, rows-length us)
-
 written-none : (at : ℕ) (s : List ℕ) → written at [] s ≡ s
 unfolding written
 written-none at s = rw (append-nil (take at s), add-zero at) (take-append-drop at s)

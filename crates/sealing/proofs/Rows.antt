@@ -52,12 +52,6 @@ module _ {A : Type 0} (f : A → List ℕ) (wide : (x : A) → length (f x) ≡ 
       e₂ ∙ rw (e₁, p) (written-append at (endToEnd (map f xs)) s room (f x))
       ∙ ap (λ (bs : List ℕ). written at bs s) (sym (rows-append xs x))
 
-  pub rows-length : (xs : List A) {s₁ : List ℕ} → at + 32 * length xs ≤ length s →
-      s₁ ≡ written at (endToEnd (map f xs)) s → length s₁ ≡ length s
-  rows-length xs fits e =
-      let n = length-rows f wide xs in
-      rw e (length-written at (endToEnd (map f xs)) s (omega arith))
-
 -- nothing was written
 pub written-none : (at : ℕ) (s : List ℕ) → s ≡ written at [] s
 unfolding written
@@ -73,13 +67,12 @@ at-last (y ∷ xs) x d (suc j) e = at-last xs x d j (omega arith)
 module _ {A : Type 0} (P : ℕ → A → Type 0) (xs : List A) (x : A) where
   pub each-more : (n : ℕ) → length xs ≡ n → ((j : ℕ) → j < n → (d : A) → P j (getD xs j d)) → P n x → (j : ℕ) →
       j < n + 1 → (d : A) → P j (getD (xs ++ x ∷ []) j d)
-  each-more n e old new j h d = go (decLt j n)
-    where
-      go : Dec (j < n) → P j (getD (xs ++ x ∷ []) j d)
-      go (yes k) = subst⁻¹ (P j) (List·getD-append xs (x ∷ []) d j (omega arith)) (old j k d)
-      go (no k) =
-          let i : j ≡ n = omega arith in
-          subst⁻¹ (P j) (at-last xs x d j (omega arith)) (subst⁻¹ (λ (i : ℕ). P i x) i new)
+  each-more n e old new j h d = elim (decLt j n) [
+    | yes k ↦ subst⁻¹ (P j) (List·getD-append xs (x ∷ []) d j (omega arith)) (old j k d)
+    | no k ↦
+        let i : j ≡ n = omega arith in
+        subst⁻¹ (P j) (at-last xs x d j (omega arith)) (subst⁻¹ (λ (i : ℕ). P i x) i new)
+  ]
 
 length-more : {A : Type 0} (xs : List A) (x : A) (n : ℕ) → length xs ≡ n → length (xs ++ x ∷ []) ≡ n + 1
 length-more xs x n e = simp length-append (omega arith)
@@ -107,9 +100,6 @@ module _ (capture : List ℕ) (n : ℕ) (s s₁ s₂ : List ℕ) (fits : 64 + 32
         bytes = row-more unitBytes length-unit 64 s (w .rows) row (omega arith) (w .bytes) e′;
       }
 
-  pub units-length : UnitsWritten capture n s s₁ → length s₁ ≡ length s
-  units-length w = let m = w .many in rows-length unitBytes length-unit 64 s (w .rows) (omega arith) (w .bytes)
-
 -- ---- scenes
 
 -- j rows of scenes were written, and the next scene starts at `start`
@@ -136,14 +126,13 @@ scenes-none luma pictures d units s =
 start-picture : (d : ℕ) (ss : List ℕ) (rs : List Bool) (qs : List ℕ) (j : ℕ) → j < length (scenesOf d ss rs qs) →
     startAt d ss j < length ss
 unfolding scenesFrom
-start-picture d ss rs qs j h = go (decLt (startAt d ss j) (length ss))
-  where
-    go : Dec (startAt d ss j < length ss) → startAt d ss j < length ss
-    go (yes k) = k
-    go (no k) =
-        let e : drop j (scenesOf d ss rs qs) ≡ [] =
-        scenes-rest d ss rs qs j ∙ rw (le-ltb (startAt d ss j) (length ss) (omega arith)) in
-        absurd (omega (arith, ap length e, length-drop j (scenesOf d ss rs qs)))
+start-picture d ss rs qs j h = elim (decLt (startAt d ss j) (length ss)) [
+  | yes k ↦ k
+  | no k ↦
+      let e : drop j (scenesOf d ss rs qs) ≡ [] =
+      scenes-rest d ss rs qs j ∙ rw (le-ltb (startAt d ss j) (length ss) (omega arith)) in
+      absurd (omega (arith, ap length e, length-drop j (scenesOf d ss rs qs)))
+]
 
 module _ (luma : List ℕ) (pictures d units : ℕ) (s s₁ : List ℕ) (start j : ℕ)
     (w : ScenesSoFar luma pictures d units s start j s₁) where
@@ -185,10 +174,6 @@ module _ (luma : List ℕ) (pictures d units : ℕ) (s s₁ : List ℕ) (start j
               (λ ss rs qs z k t l. is-scene ss rs qs k t l z);
           bytes = row-more sceneBytes length-scene at s (w .rows) row (omega arith) (w .bytes) e′;
         }
-
-  pub scenes-length : sceneOffset units + 32 * j ≤ length s → length s₁ ≡ length s
-  scenes-length fits =
-      let m = w .many in rows-length sceneBytes length-scene (sceneOffset units) s (w .rows) (omega arith) (w .bytes)
 
   pub scenes-all : (n : ℕ) → j ≡ n → ScenesWritten luma pictures d units n s s₁
   scenes-all n e =

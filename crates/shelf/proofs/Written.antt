@@ -195,32 +195,31 @@ module _ (rs : List (List ℕ)) (h : Shelved rs) where
 
   edge-is : (k : ℕ) → k ≤ n → edge s k ≡ headLength n + total (take k ls)
   unfolding s ls n shelfOf headBytes
-  edge-is k few = go (decLt k n)
-    where
-      go : Dec (k < n) → edge s k ≡ headLength n + total (take k ls)
-      go (yes l) =
-          let size = length (map length rs) in
-          let head = headLength size in
-          let front = bytesOf 4 size ++ bytesOf 4 (head + total (map length rs)) in
-          let same-size = length-map rs length in
-          let at : 8 + 4 * k ≡ length front + 4 * k =
-          omega (
-            arith,
-            length-append (bytesOf 4 size) (bytesOf 4 (head + total (map length rs))),
-            length-bytes 4 size,
-            length-bytes 4 (head + total (map length rs)),
-          )
-          in
-          edge-inside s k (omega (arith, counted))
-          ∙ ap (word32 s) at
-          ∙ words-read (offsetsFrom head (map length rs)) front (endToEnd rs) k
-          (omega (arith, offsets-count head (map length rs)))
-          (offsets-below head (2 ^ 32) (map length rs) (omega (arith, fits)))
-          ∙ offset-is head (map length rs) k (omega arith)
-          ∙ omega arith
-      go (no l) =
-          let all : take k ls ≡ ls = take-all k ls (omega (arith, count-lengths)) in
-          edge-end s k (omega (arith, counted)) ∙ whole ∙ ap (λ (z : List ℕ). headLength n + total z) (sym all)
+  edge-is k few = elim (decLt k n) [
+    | yes l ↦
+        let size = length (map length rs) in
+        let head = headLength size in
+        let front = bytesOf 4 size ++ bytesOf 4 (head + total (map length rs)) in
+        let same-size = length-map rs length in
+        let at : 8 + 4 * k ≡ length front + 4 * k =
+        omega (
+          arith,
+          length-append (bytesOf 4 size) (bytesOf 4 (head + total (map length rs))),
+          length-bytes 4 size,
+          length-bytes 4 (head + total (map length rs)),
+        )
+        in
+        edge-inside s k (omega (arith, counted))
+        ∙ ap (word32 s) at
+        ∙ words-read (offsetsFrom head (map length rs)) front (endToEnd rs) k
+        (omega (arith, offsets-count head (map length rs)))
+        (offsets-below head (2 ^ 32) (map length rs) (omega (arith, fits)))
+        ∙ offset-is head (map length rs) k (omega arith)
+        ∙ omega arith
+    | no l ↦
+        let all : take k ls ≡ ls = take-all k ls (omega (arith, count-lengths)) in
+        edge-end s k (omega (arith, counted)) ∙ whole ∙ ap (λ (z : List ℕ). headLength n + total z) (sym all)
+  ]
 
   shelf-is : s ≡ headBytes ls ++ endToEnd rs
   unfolding s ls shelfOf

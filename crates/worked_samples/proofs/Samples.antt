@@ -6,7 +6,6 @@ use mathlib.Core.Path.{_≡_, refl}
 use mathlib.Core.List.{List, [], _∷_, _++_, map}
 use lib.ListN.{replicate, drop}
 use lib.Ieee.{add, mul, div, ofInt, toBits}
-use Rattle.rules.specs.declared.IndexAnswer.the-variants as of-index
 use Rattle.rules.specs.Bytes.{word32, word64, network16, bytesOf, total, greatestOf, leastOf, count, only, table}
 use Rattle.rules.specs.Bytes.{parts, endToEnd}
 use Rattle.rules.specs.Editions.{isEdition, heedsSplices, roundsToNearest, knowsDamage}

@@ -5,14 +5,8 @@ use borrow.Author.Needs.{needs}
 use Rattle.c_numbers.proofs.listed_number.Statement.{statement}
 use Rattle.c_numbers.proofs.listed_number.Tie as tie
 
-listed-number-requires : tie.Need-listed-number-requires
-listed-number-requires c κs = search needs
-
 cast-result : tie.Need-cast-result
 cast-result c = omega (arith, c .listed-number .ensures, listed-in (c .before .args .number))
 
-returns : tie.Need-returns
-returns c = search needs
-
 pub listed-number-spec : {M : Type 1} → statement M
-listed-number-spec = tie.close (tie.spec listed-number-requires cast-result returns)
+listed-number-spec = tie.close (tie.spec (λ c κs. search needs) cast-result (λ c. search needs))

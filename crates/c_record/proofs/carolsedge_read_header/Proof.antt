@@ -4,21 +4,6 @@ use borrow.Author.Needs.{needs}
 use Rattle.c_record.proofs.carolsedge_read_header.Statement.{statement}
 use Rattle.c_record.proofs.carolsedge_read_header.Tie as tie
 
-header-requires : tie.Need-header-requires
-header-requires c κs = search needs
-
-enum-known-h : tie.Need-enum-known-h
-enum-known-h c = search needs
-
-put-header-requires : tie.Need-put-header-requires
-put-header-requires c κs = search needs
-
-enum-known-number : tie.Need-enum-known-number
-enum-known-number c = search needs
-
-listed-number-requires : tie.Need-listed-number-requires
-listed-number-requires c κs = search needs
-
 returns : tie.Need-returns
 returns c =
     let known = c .before .before .before in
@@ -32,12 +17,5 @@ returns-2 c =
 
 pub carolsedge-read-header-spec : {M : Type 1} → statement M
 carolsedge-read-header-spec =
-    tie.close
-    (tie.spec
-    header-requires
-    enum-known-h
-    put-header-requires
-    enum-known-number
-    listed-number-requires
-    returns
-    returns-2)
+    tie.close (tie.spec (λ c κs. search needs) (λ c. search needs) (λ c κs. search needs) (λ c. search needs)
+    (λ c κs. search needs) returns returns-2)

@@ -4,21 +4,6 @@ use borrow.Author.Needs.{needs}
 use Rattle.c_record.proofs.carolsedge_read_scene.Statement.{statement}
 use Rattle.c_record.proofs.carolsedge_read_scene.Tie as tie
 
-scene-requires : tie.Need-scene-requires
-scene-requires c κs = search needs
-
-enum-known-s : tie.Need-enum-known-s
-enum-known-s c = search needs
-
-put-scene-requires : tie.Need-put-scene-requires
-put-scene-requires c κs = search needs
-
-enum-known-number : tie.Need-enum-known-number
-enum-known-number c = search needs
-
-listed-number-requires : tie.Need-listed-number-requires
-listed-number-requires c κs = search needs
-
 returns : tie.Need-returns
 returns c =
     let known = c .before .before .before in
@@ -32,12 +17,5 @@ returns-2 c =
 
 pub carolsedge-read-scene-spec : {M : Type 1} → statement M
 carolsedge-read-scene-spec =
-    tie.close
-    (tie.spec
-    scene-requires
-    enum-known-s
-    put-scene-requires
-    enum-known-number
-    listed-number-requires
-    returns
-    returns-2)
+    tie.close (tie.spec (λ c κs. search needs) (λ c. search needs) (λ c κs. search needs) (λ c. search needs)
+    (λ c κs. search needs) returns returns-2)

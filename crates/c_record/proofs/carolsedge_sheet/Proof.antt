@@ -5,18 +5,6 @@ use Rattle.c_numbers.specs.Numbers.{numberOf, valueOf}
 use Rattle.c_record.proofs.carolsedge_sheet.Statement.{statement}
 use Rattle.c_record.proofs.carolsedge_sheet.Tie as tie
 
-sheet-requires : tie.Need-sheet-requires
-sheet-requires c κs = search needs
-
-value-of-requires : tie.Need-value-of-requires
-value-of-requires c κs = search needs
-
-number-of-requires : tie.Need-number-of-requires
-number-of-requires c κs = search needs
-
-same-length : tie.Need-same-length
-same-length c = search needs
-
 returns : tie.Need-returns
 returns c =
     let promised = c .before .before .before .before .sheet .ensures in
@@ -25,4 +13,5 @@ returns c =
 
 pub carolsedge-sheet-spec : {M : Type 1} → statement M
 carolsedge-sheet-spec =
-    tie.close (tie.spec sheet-requires value-of-requires number-of-requires same-length returns)
+    tie.close (tie.spec (λ c κs. search needs) (λ c κs. search needs) (λ c κs. search needs) (λ c. search needs)
+    returns)

@@ -4,30 +4,6 @@ use borrow.Author.Needs.{needs}
 use Rattle.c_record.proofs.put_header.Statement.{statement}
 use Rattle.c_record.proofs.put_header.Tie as tie
 
-cast-t3 : tie.Need-cast-t3
-cast-t3 c = search needs
-
-cast-t4 : tie.Need-cast-t4
-cast-t4 c = search needs
-
-cast-t5 : tie.Need-cast-t5
-cast-t5 c = search needs
-
-cast-t6 : tie.Need-cast-t6
-cast-t6 c = search needs
-
-cast-t7 : tie.Need-cast-t7
-cast-t7 c = search needs
-
-cast-t8 : tie.Need-cast-t8
-cast-t8 c = search needs
-
-cast-t9 : tie.Need-cast-t9
-cast-t9 c = search needs
-
-cast-t10 : tie.Need-cast-t10
-cast-t10 c = search needs
-
 cast-t11 : tie.Need-cast-t11
 cast-t11 c = omega (arith, c .struct-known9)
 
@@ -37,22 +13,8 @@ cast-t12 c = omega (arith, c .struct-known10)
 cast-t13 : tie.Need-cast-t13
 cast-t13 c = omega (arith, c .struct-known11)
 
-returns : tie.Need-returns
-returns c = search needs
-
 pub put-header-spec : {M : Type 1} → statement M
 put-header-spec =
-    tie.close
-    (tie.spec
-    cast-t3
-    cast-t4
-    cast-t5
-    cast-t6
-    cast-t7
-    cast-t8
-    cast-t9
-    cast-t10
-    cast-t11
-    cast-t12
-    cast-t13
-    returns)
+    tie.close (tie.spec (λ c. search needs) (λ c. search needs) (λ c. search needs) (λ c. search needs)
+    (λ c. search needs) (λ c. search needs) (λ c. search needs) (λ c. search needs) cast-t11 cast-t12 cast-t13
+    (λ c. search needs))

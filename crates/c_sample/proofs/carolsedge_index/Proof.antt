@@ -4,21 +4,6 @@ use borrow.Author.Needs.{needs}
 use Rattle.c_sample.proofs.carolsedge_index.Statement.{statement}
 use Rattle.c_sample.proofs.carolsedge_index.Tie as tie
 
-index-requires : tie.Need-index-requires
-index-requires c κs = search needs
-
-enum-known-i : tie.Need-enum-known-i
-enum-known-i c = search needs
-
-put-three-requires : tie.Need-put-three-requires
-put-three-requires c κs = search needs
-
-enum-known-number : tie.Need-enum-known-number
-enum-known-number c = search needs
-
-listed-number-requires : tie.Need-listed-number-requires
-listed-number-requires c κs = search needs
-
 returns : tie.Need-returns
 returns c =
     let known = c .before .before .before in
@@ -32,12 +17,5 @@ returns-2 c =
 
 pub carolsedge-index-spec : {M : Type 1} → statement M
 carolsedge-index-spec =
-    tie.close
-    (tie.spec
-    index-requires
-    enum-known-i
-    put-three-requires
-    enum-known-number
-    listed-number-requires
-    returns
-    returns-2)
+    tie.close (tie.spec (λ c κs. search needs) (λ c. search needs) (λ c κs. search needs) (λ c. search needs)
+    (λ c κs. search needs) returns returns-2)

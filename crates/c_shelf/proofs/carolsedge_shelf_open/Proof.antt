@@ -4,18 +4,6 @@ use Rattle.c_shelf.proofs.Answers.{shelf-done, shelf-refused}
 use Rattle.c_shelf.proofs.carolsedge_shelf_open.Statement.{statement}
 use Rattle.c_shelf.proofs.carolsedge_shelf_open.Tie as tie
 
-open-requires : tie.Need-open-requires
-open-requires c κs = search needs
-
-enum-known-records : tie.Need-enum-known-records
-enum-known-records c = search needs
-
-enum-known-number : tie.Need-enum-known-number
-enum-known-number c = search needs
-
-listed-number-requires : tie.Need-listed-number-requires
-listed-number-requires c κs = search needs
-
 returns : tie.Need-returns
 returns c =
     let known = c .before .before in
@@ -29,11 +17,5 @@ returns-2 c =
 
 pub carolsedge-shelf-open-spec : {M : Type 1} → statement M
 carolsedge-shelf-open-spec =
-    tie.close
-    (tie.spec
-    open-requires
-    enum-known-records
-    enum-known-number
-    listed-number-requires
-    returns
+    tie.close (tie.spec (λ c κs. search needs) (λ c. search needs) (λ c. search needs) (λ c κs. search needs) returns
     returns-2)

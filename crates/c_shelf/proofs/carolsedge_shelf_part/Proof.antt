@@ -4,18 +4,6 @@ use Rattle.c_shelf.proofs.Answers.{part-done, part-refused}
 use Rattle.c_shelf.proofs.carolsedge_shelf_part.Statement.{statement}
 use Rattle.c_shelf.proofs.carolsedge_shelf_part.Tie as tie
 
-part-requires : tie.Need-part-requires
-part-requires c κs = search needs
-
-enum-known-start : tie.Need-enum-known-start
-enum-known-start c = search needs
-
-enum-known-number : tie.Need-enum-known-number
-enum-known-number c = search needs
-
-listed-number-requires : tie.Need-listed-number-requires
-listed-number-requires c κs = search needs
-
 returns : tie.Need-returns
 returns c =
     let known = c .before .before in
@@ -29,11 +17,5 @@ returns-2 c =
 
 pub carolsedge-shelf-part-spec : {M : Type 1} → statement M
 carolsedge-shelf-part-spec =
-    tie.close
-    (tie.spec
-    part-requires
-    enum-known-start
-    enum-known-number
-    listed-number-requires
-    returns
+    tie.close (tie.spec (λ c κs. search needs) (λ c. search needs) (λ c. search needs) (λ c κs. search needs) returns
     returns-2)

@@ -6,18 +6,6 @@ use Rattle.c_numbers.specs.Numbers.{numberOf, valueOf}
 use Rattle.c_shelf.proofs.carolsedge_shelf_write.Statement.{statement}
 use Rattle.c_shelf.proofs.carolsedge_shelf_write.Tie as tie
 
-write-requires : tie.Need-write-requires
-write-requires c κs = search needs
-
-value-of-requires : tie.Need-value-of-requires
-value-of-requires c κs = search needs
-
-number-of-requires : tie.Need-number-of-requires
-number-of-requires c κs = search needs
-
-same-length : tie.Need-same-length
-same-length c = search needs
-
 returns : tie.Need-returns
 returns c =
     let promised = c .before .before .before .before .write .ensures in
@@ -26,4 +14,5 @@ returns c =
 
 pub carolsedge-shelf-write-spec : {M : Type 1} → statement M
 carolsedge-shelf-write-spec =
-    tie.close (tie.spec write-requires value-of-requires number-of-requires same-length returns)
+    tie.close (tie.spec (λ c κs. search needs) (λ c κs. search needs) (λ c κs. search needs) (λ c. search needs)
+    returns)

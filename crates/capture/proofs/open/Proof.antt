@@ -7,18 +7,6 @@ use borrow.Author.Needs.{needs}
 use Rattle.capture.proofs.open.Statement.{statement}
 use Rattle.capture.proofs.open.Tie as tie
 
-open-requires : tie.Need-open-requires
-open-requires c κs = search needs
-
-element-write-numbers : tie.Need-element-write-numbers
-element-write-numbers c = search needs
-
-element-write-numbers-2 : tie.Need-element-write-numbers-2
-element-write-numbers-2 c = search needs
-
-element-write-numbers-3 : tie.Need-element-write-numbers-3
-element-write-numbers-3 c = search needs
-
 returns : tie.Need-returns
 returns c =
     let a = c .before .before .before .before .before .args in
@@ -27,10 +15,4 @@ returns c =
 
 pub open-spec : {M : Type 1} → statement M
 open-spec =
-    tie.close
-    (tie.spec
-    open-requires
-    element-write-numbers
-    element-write-numbers-2
-    element-write-numbers-3
-    returns)
+    tie.close (tie.spec (λ c κs. search needs) (λ c. search needs) (λ c. search needs) (λ c. search needs) returns)

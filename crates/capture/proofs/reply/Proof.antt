@@ -12,8 +12,4 @@ returns-2 c =
     reply-done _ (c .if1 .left)
 
 pub reply-spec : {M : Type 1} → statement M
-reply-spec =
-    tie.close
-    (tie.spec
-    returns
-    returns-2)
+reply-spec = tie.close (tie.spec returns returns-2)

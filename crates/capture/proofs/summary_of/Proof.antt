@@ -3,18 +3,6 @@ use borrow.Author.Needs.{needs}
 use Rattle.capture.proofs.summary_of.Statement.{statement}
 use Rattle.capture.proofs.summary_of.Tie as tie
 
-low-requires : tie.Need-low-requires
-low-requires c κs = search needs
-
-low-requires-2 : tie.Need-low-requires-2
-low-requires-2 c κs = search needs
-
-low-requires-3 : tie.Need-low-requires-3
-low-requires-3 c κs = search needs
-
-low-requires-4 : tie.Need-low-requires-4
-low-requires-4 c κs = search needs
-
 returns : tie.Need-returns
 returns c =
     rw (
@@ -26,10 +14,5 @@ returns c =
 
 pub summary-of-spec : {M : Type 1} → statement M
 summary-of-spec =
-    tie.close
-    (tie.spec
-    low-requires
-    low-requires-2
-    low-requires-3
-    low-requires-4
+    tie.close (tie.spec (λ c κs. search needs) (λ c κs. search needs) (λ c κs. search needs) (λ c κs. search needs)
     returns)

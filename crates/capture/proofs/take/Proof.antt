@@ -5,17 +5,8 @@ use borrow.Author.Needs.{needs}
 use Rattle.capture.proofs.take.Statement.{statement}
 use Rattle.capture.proofs.take.Tie as tie
 
-enum-told : tie.Need-enum-told
-enum-told c = search needs
-
 returns : tie.Need-returns
 returns c o kept before chunk st te v = take-nothing v (rw (c .enum-told .given .1) at te)
-
-enum-known-e : tie.Need-enum-known-e
-enum-known-e c = search needs
-
-check-requires : tie.Need-check-requires
-check-requires c κs = search needs
 
 returns-2 : tie.Need-returns-2
 returns-2 c o kept before chunk st te v =
@@ -23,19 +14,10 @@ returns-2 c o kept before chunk st te v =
     take-shown v _ (c .check .ensures)
     ((rw (c .before .before .e .given .1) at (c .before .before .before .before .before .pre)) .1) (x .0) (x .1)
 
-enum-known-e-2 : tie.Need-enum-known-e-2
-enum-known-e-2 c = search needs
-
-account-requires : tie.Need-account-requires
-account-requires c κs = search needs
-
 returns-3 : tie.Need-returns-3
 returns-3 c o kept before chunk st te v =
     let x = rw (c .before .before .before .e2 .given .1) at te in
     take-whole v _ (c .account .ensures) (x .0) (x .1)
-
-enum-known-e-3 : tie.Need-enum-known-e-3
-enum-known-e-3 c = search needs
 
 add-run-requires : tie.Need-add-run-requires
 add-run-requires c κs =
@@ -46,9 +28,6 @@ returns-4 c o kept before chunk st te v =
     let x = rw (c .before .before .before .e3 .given .1) at te in
     take-cells v _ (c .add-run .ensures) (x .0) (x .1)
 
-enum-told-2 : tie.Need-enum-told-2
-enum-told-2 c = search needs
-
 returns-5 : tie.Need-returns-5
 returns-5 c o kept before chunk st te v =
     let x = rw (c .enum-told2 .given .1) at te in
@@ -56,18 +35,6 @@ returns-5 c o kept before chunk st te v =
 
 pub take-spec : {M : Type 1} → statement M
 take-spec =
-    tie.close
-    (tie.spec
-    enum-told
-    returns
-    enum-known-e
-    check-requires
-    returns-2
-    enum-known-e-2
-    account-requires
-    returns-3
-    enum-known-e-3
-    add-run-requires
-    returns-4
-    enum-told-2
-    returns-5)
+    tie.close (tie.spec (λ c. search needs) returns (λ c. search needs) (λ c κs. search needs) returns-2
+    (λ c. search needs) (λ c κs. search needs) returns-3 (λ c. search needs) add-run-requires returns-4
+    (λ c. search needs) returns-5)

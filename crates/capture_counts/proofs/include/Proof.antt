@@ -5,17 +5,8 @@ use borrow.Author.Needs.{needs}
 use Rattle.capture_counts.proofs.include.Statement.{statement}
 use Rattle.capture_counts.proofs.include.Tie as tie
 
-is-early-requires : tie.Need-is-early-requires
-is-early-requires c κs = search needs
-
-with-bad-requires : tie.Need-with-bad-requires
-with-bad-requires c κs = search needs
-
 returns : tie.Need-returns
 returns c = as-bad (sym (c .before .before .is-early .ensures) ∙ c .before .if1 .taken) refl (c .with-bad .ensures)
-
-add-cell-requires : tie.Need-add-cell-requires
-add-cell-requires c κs = search needs
 
 returns-2 : tie.Need-returns-2
 returns-2 c =
@@ -25,4 +16,4 @@ returns-2 c =
 
 pub include-spec : {M : Type 1} → statement M
 include-spec =
-    tie.close (tie.spec is-early-requires with-bad-requires returns add-cell-requires returns-2)
+    tie.close (tie.spec (λ c κs. search needs) (λ c κs. search needs) returns (λ c κs. search needs) returns-2)

@@ -7,18 +7,6 @@ use borrow.Author.Needs.{needs}
 use Rattle.capture_counts.proofs.take_cell.Statement.{statement}
 use Rattle.capture_counts.proofs.take_cell.Tie as tie
 
-wanted-requires : tie.Need-wanted-requires
-wanted-requires c κs = search needs
-
-seen-requires : tie.Need-seen-requires
-seen-requires c κs = search needs
-
-is-full-requires : tie.Need-is-full-requires
-is-full-requires c κs = search needs
-
-nine-requires : tie.Need-nine-requires
-nine-requires c κs = search needs
-
 returns : tie.Need-returns
 returns c =
     let at = c .before .before .before .before .before .before .before .args in
@@ -29,9 +17,6 @@ returns c =
     (c .before .before .is-full .ensures) _
     (c .before .if2 .taken) refl refl)
     (λ z. omega (arith, z)))
-
-include-requires : tie.Need-include-requires
-include-requires c κs = search needs
 
 returns-2 : tie.Need-returns-2
 returns-2 c =
@@ -44,9 +29,6 @@ returns-2 c =
     (c .before .before .before .before .seen .ensures) (c .before .before .before .before .before .before .if1 .taken)
     (c .include .ensures))
 
-pass-requires : tie.Need-pass-requires
-pass-requires c κs = search needs
-
 returns-3 : tie.Need-returns-3
 returns-3 c =
     let at = c .before .before .before .args in
@@ -56,14 +38,5 @@ returns-3 c =
 
 pub take-cell-spec : {M : Type 1} → statement M
 take-cell-spec =
-    tie.close
-    (tie.spec
-    wanted-requires
-    seen-requires
-    is-full-requires
-    nine-requires
-    returns
-    include-requires
-    returns-2
-    pass-requires
-    returns-3)
+    tie.close (tie.spec (λ c κs. search needs) (λ c κs. search needs) (λ c κs. search needs) (λ c κs. search needs)
+    returns (λ c κs. search needs) returns-2 (λ c κs. search needs) returns-3)

@@ -3,11 +3,8 @@ use borrow.Author.Needs.{needs}
 use Rattle.capture_counts.proofs.with_bad.Statement.{statement}
 use Rattle.capture_counts.proofs.with_bad.Tie as tie
 
-wrapping-add-u64-requires : tie.Need-wrapping-add-u64-requires
-wrapping-add-u64-requires c κs = search needs
-
 returns : tie.Need-returns
 returns c = rw (c .wrapping-add-u64 .ensures)
 
 pub with-bad-spec : {M : Type 1} → statement M
-with-bad-spec = tie.close (tie.spec wrapping-add-u64-requires returns)
+with-bad-spec = tie.close (tie.spec (λ c κs. search needs) returns)

@@ -9,30 +9,12 @@ use borrow.Author.Needs.{needs}
 use Rattle.capture_frames.proofs.on_frame.Statement.{statement}
 use Rattle.capture_frames.proofs.on_frame.Tie as tie
 
-sub-count-of : tie.Need-sub-count-of
-sub-count-of c = search needs
-
-part-count-of-start : tie.Need-part-count-of-start
-part-count-of-start c = search needs
-
-part-count-of-end : tie.Need-part-count-of-end
-part-count-of-end c = search needs
-
 count-of-requires : tie.Need-count-of-requires
 count-of-requires c κs =
     let a = c .before .before .args in
     let k = c .before .before .pre in
     rw (part-rest (a .piece .now) (a .i) (length (a .piece .now) - a .i) (omega arith))
     (omega (arith, k .2 .long, k .2 .there))
-
-add-r : tie.Need-add-r
-add-r c = search needs
-
-wrapping-add-u64-requires : tie.Need-wrapping-add-u64-requires
-wrapping-add-u64-requires c κs = search needs
-
-wrapping-add-u64-requires-2 : tie.Need-wrapping-add-u64-requires-2
-wrapping-add-u64-requires-2 c κs = search needs
 
 returns : tie.Need-returns
 returns c κ =
@@ -49,27 +31,12 @@ returns c κ =
           refl refl refl (c .before .before .wrapping-add-u64 .ensures) (c .wrapping-add-u642 .ensures);
     }
 
-sub-time-of : tie.Need-sub-time-of
-sub-time-of c = search needs
-
-part-time-of-start : tie.Need-part-time-of-start
-part-time-of-start c = search needs
-
-part-time-of-end : tie.Need-part-time-of-end
-part-time-of-end c = search needs
-
 time-of-requires : tie.Need-time-of-requires
 time-of-requires c κs =
     let a = c .before .before .before .before .before .before .before .args in
     let k = c .before .before .before .before .before .before .before .pre in
     rw (part-rest (a .piece .now) (a .i) (length (a .piece .now) - a .i) (omega arith))
     (omega (arith, k .2 .long, k .2 .there))
-
-add-t10 : tie.Need-add-t10
-add-t10 c = search needs
-
-add-t19 : tie.Need-add-t19
-add-t19 c = search needs
 
 returns-2 : tie.Need-returns-2
 returns-2 c κ =
@@ -97,20 +64,6 @@ returns-2 c κ =
 
 pub on-frame-spec : {M : Type 1} → statement M
 on-frame-spec =
-    tie.close
-    (tie.spec
-    sub-count-of
-    part-count-of-start
-    part-count-of-end
-    count-of-requires
-    add-r
-    wrapping-add-u64-requires
-    wrapping-add-u64-requires-2
-    returns
-    sub-time-of
-    part-time-of-start
-    part-time-of-end
-    time-of-requires
-    add-t10
-    add-t19
-    returns-2)
+    tie.close (tie.spec (λ c. search needs) (λ c. search needs) (λ c. search needs) count-of-requires
+    (λ c. search needs) (λ c κs. search needs) (λ c κs. search needs) returns (λ c. search needs) (λ c. search needs)
+    (λ c. search needs) time-of-requires (λ c. search needs) (λ c. search needs) returns-2)

@@ -8,19 +8,10 @@ use Rattle.capture_frames.proofs.settle.Tie as tie
 returns : tie.Need-returns
 returns c joined chunk v = in-header v (c .if1 .taken)
 
-wrapping-add-u64-requires : tie.Need-wrapping-add-u64-requires
-wrapping-add-u64-requires c κs = search needs
-
 returns-2 : tie.Need-returns-2
 returns-2 c joined chunk v =
     in-body v (c .before .before .before .if1 .left)
     (omega (arith, c .if2 .taken, c .before .before .wrapping-add-u64 .ensures))
-
-wrapping-add-u64-requires-2 : tie.Need-wrapping-add-u64-requires-2
-wrapping-add-u64-requires-2 c κs = search needs
-
-carries-of-requires : tie.Need-carries-of-requires
-carries-of-requires c κs = search needs
 
 returns-3 : tie.Need-returns-3
 returns-3 c joined chunk v =
@@ -31,9 +22,6 @@ returns-3 c joined chunk v =
       c .before .before .before .before .before .before .wrapping-add-u64 .ensures,
     )) _ (c .before .carries-of .ensures) (c .if3 .taken) refl refl refl
     (c .before .before .before .wrapping-add-u642 .ensures) refl
-
-wrapping-add-u64-requires-3 : tie.Need-wrapping-add-u64-requires-3
-wrapping-add-u64-requires-3 c κs = search needs
 
 returns-4 : tie.Need-returns-4
 returns-4 c joined chunk v =
@@ -47,13 +35,5 @@ returns-4 c joined chunk v =
 
 pub settle-spec : {M : Type 1} → statement M
 settle-spec =
-    tie.close
-    (tie.spec
-    returns
-    wrapping-add-u64-requires
-    returns-2
-    wrapping-add-u64-requires-2
-    carries-of-requires
-    returns-3
-    wrapping-add-u64-requires-3
-    returns-4)
+    tie.close (tie.spec returns (λ c κs. search needs) returns-2 (λ c κs. search needs) (λ c κs. search needs)
+    returns-3 (λ c κs. search needs) returns-4)

@@ -10,15 +10,6 @@ use borrow.Author.Needs.{needs}
 use Rattle.capture_headers.proofs.on_file.Statement.{statement}
 use Rattle.capture_headers.proofs.on_file.Tie as tie
 
-carry-requires : tie.Need-carry-requires
-carry-requires c κs = search needs
-
-add-end : tie.Need-add-end
-add-end c = search needs
-
-is-magic-requires : tie.Need-is-magic-requires
-is-magic-requires c κs = search needs
-
 returns : tie.Need-returns
 returns c =
     record {
@@ -35,9 +26,6 @@ returns c =
           (λ h. rw e (k .2 h)) (rw e (k .3)) refl (rw e refl) refl refl refl
           (rw e (c .before .before .before .before .if1 .taken)) (c .before .is-magic .ensures) (c .if2 .taken);
     }
-
-refused-requires : tie.Need-refused-requires
-refused-requires c κs = search needs
 
 returns-2 : tie.Need-returns-2
 returns-2 c =
@@ -57,9 +45,6 @@ returns-2 c =
           (ap (λ (x : Walk). x .status) (c .refused .ensures)) (ap (λ (x : Walk). x .place) (c .refused .ensures));
     }
 
-link-of-requires : tie.Need-link-of-requires
-link-of-requires c κs = search needs
-
 returns-3 : tie.Need-returns-3
 returns-3 c =
     record {
@@ -77,9 +62,6 @@ returns-3 c =
           (rw e (c .before .before .before .before .if3 .taken)) (sym (c .before .link-of .ensures)
           ∙ c .if4 .taken);
     }
-
-refused-requires-2 : tie.Need-refused-requires-2
-refused-requires-2 c κs = search needs
 
 returns-4 : tie.Need-returns-4
 returns-4 c =
@@ -118,16 +100,5 @@ returns-5 c =
 
 pub on-file-spec : {M : Type 1} → statement M
 on-file-spec =
-    tie.close
-    (tie.spec
-    carry-requires
-    add-end
-    is-magic-requires
-    returns
-    refused-requires
-    returns-2
-    link-of-requires
-    returns-3
-    refused-requires-2
-    returns-4
-    returns-5)
+    tie.close (tie.spec (λ c κs. search needs) (λ c. search needs) (λ c κs. search needs) returns
+    (λ c κs. search needs) returns-2 (λ c κs. search needs) returns-3 (λ c κs. search needs) returns-4 returns-5)

@@ -7,21 +7,6 @@ use borrow.Author.Needs.{needs}
 use Rattle.capture_headers.proofs.on_front.Statement.{statement}
 use Rattle.capture_headers.proofs.on_front.Tie as tie
 
-carry-requires : tie.Need-carry-requires
-carry-requires c κs = search needs
-
-add-end : tie.Need-add-end
-add-end c = search needs
-
-add-r : tie.Need-add-r
-add-r c = search needs
-
-count-of-requires : tie.Need-count-of-requires
-count-of-requires c κs = search needs
-
-settle-requires : tie.Need-settle-requires
-settle-requires c κs = search needs
-
 returns : tie.Need-returns
 returns c =
     record {
@@ -39,9 +24,6 @@ returns c =
           .before .before .before .if1 .taken))
           (c .before .before .count-of .ensures .0) refl;
     }
-
-settle-requires-2 : tie.Need-settle-requires-2
-settle-requires-2 c κs = search needs
 
 returns-2 : tie.Need-returns-2
 returns-2 c =
@@ -62,13 +44,5 @@ returns-2 c =
 
 pub on-front-spec : {M : Type 1} → statement M
 on-front-spec =
-    tie.close
-    (tie.spec
-    carry-requires
-    add-end
-    add-r
-    count-of-requires
-    settle-requires
-    returns
-    settle-requires-2
-    returns-2)
+    tie.close (tie.spec (λ c κs. search needs) (λ c. search needs) (λ c. search needs) (λ c κs. search needs)
+    (λ c κs. search needs) returns (λ c κs. search needs) returns-2)

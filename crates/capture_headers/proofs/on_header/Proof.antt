@@ -11,18 +11,6 @@ use borrow.Author.Needs.{needs}
 use Rattle.capture_headers.proofs.on_header.Statement.{statement}
 use Rattle.capture_headers.proofs.on_header.Tie as tie
 
-carry-requires : tie.Need-carry-requires
-carry-requires c κs = search needs
-
-add-end : tie.Need-add-end
-add-end c = search needs
-
-add-r : tie.Need-add-r
-add-r c = search needs
-
-step-requires : tie.Need-step-requires
-step-requires c κs = search needs
-
 returns : tie.Need-returns
 returns c =
     rw (c .step .ensures)
@@ -48,21 +36,6 @@ returns c =
           )));
     })
 
-micro-of-requires : tie.Need-micro-of-requires
-micro-of-requires c κs = search needs
-
-add-refused : tie.Need-add-refused
-add-refused c = search needs
-
-sub-refused : tie.Need-sub-refused
-sub-refused c = search needs
-
-refused-requires : tie.Need-refused-requires
-refused-requires c κs = search needs
-
-step-requires-2 : tie.Need-step-requires-2
-step-requires-2 c κs = search needs
-
 returns-2 : tie.Need-returns-2
 returns-2 c =
     rw (c .step2 .ensures)
@@ -86,9 +59,6 @@ returns-2 c =
           (ap (λ (x : Walk). x .place) (c .before .refused .ensures));
     })
 
-step-requires-3 : tie.Need-step-requires-3
-step-requires-3 c κs = search needs
-
 returns-3 : tie.Need-returns-3
 returns-3 c =
     rw (c .step3 .ensures)
@@ -109,21 +79,6 @@ returns-3 c =
           (λ h. le-of 999999 (c .before .before .before .micro-of .ensures .0) (c .before .before .if2 .left))
           (λ h. absurd (omega (arith, e, c .before .if3 .taken)));
     })
-
-stored-of-requires : tie.Need-stored-of-requires
-stored-of-requires c κs = search needs
-
-add-refused-2 : tie.Need-add-refused-2
-add-refused-2 c = search needs
-
-sub-refused-2 : tie.Need-sub-refused-2
-sub-refused-2 c = search needs
-
-refused-requires-2 : tie.Need-refused-requires-2
-refused-requires-2 c κs = search needs
-
-step-requires-4 : tie.Need-step-requires-4
-step-requires-4 c κs = search needs
 
 returns-4 : tie.Need-returns-4
 returns-4 c =
@@ -151,12 +106,6 @@ returns-4 c =
           (ap (λ (x : Walk). x .status) (c .before .refused2 .ensures))
           (ap (λ (x : Walk). x .place) (c .before .refused2 .ensures));
     })
-
-settle-requires : tie.Need-settle-requires
-settle-requires c κs = search needs
-
-step-requires-5 : tie.Need-step-requires-5
-step-requires-5 c κs = search needs
 
 returns-5 : tie.Need-returns-5
 returns-5 c =
@@ -188,27 +137,7 @@ returns-5 c =
 
 pub on-header-spec : {M : Type 1} → statement M
 on-header-spec =
-    tie.close
-    (tie.spec
-    carry-requires
-    add-end
-    add-r
-    step-requires
-    returns
-    micro-of-requires
-    add-refused
-    sub-refused
-    refused-requires
-    step-requires-2
-    returns-2
-    step-requires-3
-    returns-3
-    stored-of-requires
-    add-refused-2
-    sub-refused-2
-    refused-requires-2
-    step-requires-4
-    returns-4
-    settle-requires
-    step-requires-5
-    returns-5)
+    tie.close (tie.spec (λ c κs. search needs) (λ c. search needs) (λ c. search needs) (λ c κs. search needs) returns
+    (λ c κs. search needs) (λ c. search needs) (λ c. search needs) (λ c κs. search needs) (λ c κs. search needs)
+    returns-2 (λ c κs. search needs) returns-3 (λ c κs. search needs) (λ c. search needs) (λ c. search needs)
+    (λ c κs. search needs) (λ c κs. search needs) returns-4 (λ c κs. search needs) (λ c κs. search needs) returns-5)

@@ -9,30 +9,6 @@ use borrow.Author.Needs.{needs}
 use Rattle.capture_payload.proofs.on_first.Statement.{statement}
 use Rattle.capture_payload.proofs.on_first.Tie as tie
 
-collect-requires : tie.Need-collect-requires
-collect-requires c κs = search needs
-
-add-r : tie.Need-add-r
-add-r c = search needs
-
-wrapping-add-u64-requires : tie.Need-wrapping-add-u64-requires
-wrapping-add-u64-requires c κs = search needs
-
-add-r-2 : tie.Need-add-r-2
-add-r-2 c = search needs
-
-add-if1 : tie.Need-add-if1
-add-if1 c = search needs
-
-time-of-requires : tie.Need-time-of-requires
-time-of-requires c κs = search needs
-
-sub-head-at : tie.Need-sub-head-at
-sub-head-at c = search needs
-
-head-at-requires : tie.Need-head-at-requires
-head-at-requires c κs = search needs
-
 returns : tie.Need-returns
 returns c =
     record {
@@ -83,15 +59,5 @@ returns-2 c =
 
 pub on-first-spec : {M : Type 1} → statement M
 on-first-spec =
-    tie.close
-    (tie.spec
-    collect-requires
-    add-r
-    wrapping-add-u64-requires
-    add-r-2
-    add-if1
-    time-of-requires
-    sub-head-at
-    head-at-requires
-    returns
-    returns-2)
+    tie.close (tie.spec (λ c κs. search needs) (λ c. search needs) (λ c κs. search needs) (λ c. search needs)
+    (λ c. search needs) (λ c κs. search needs) (λ c. search needs) (λ c κs. search needs) returns returns-2)

@@ -8,18 +8,6 @@ use borrow.Author.Needs.{needs}
 use Rattle.capture_payload.proofs.on_rest.Statement.{statement}
 use Rattle.capture_payload.proofs.on_rest.Tie as tie
 
-collect-requires : tie.Need-collect-requires
-collect-requires c κs = search needs
-
-add-r : tie.Need-add-r
-add-r c = search needs
-
-wrapping-add-u64-requires : tie.Need-wrapping-add-u64-requires
-wrapping-add-u64-requires c κs = search needs
-
-wrapping-add-u64-requires-2 : tie.Need-wrapping-add-u64-requires-2
-wrapping-add-u64-requires-2 c κs = search needs
-
 returns : tie.Need-returns
 returns c =
     record {
@@ -43,21 +31,6 @@ returns c =
           (at-is (kn .1) (kn .2) (omega (arith, e, bo)) e (c .before .before .before .wrapping-add-u64 .ensures))
           refl (omega (arith, e, bo, c .before .before .wrapping-add-u642 .ensures)) refl refl refl;
     }
-
-sub-r : tie.Need-sub-r
-sub-r c = search needs
-
-time-of-requires : tie.Need-time-of-requires
-time-of-requires c κs = search needs
-
-wrapping-sub-u64-requires : tie.Need-wrapping-sub-u64-requires
-wrapping-sub-u64-requires c κs = search needs
-
-cell-at-requires : tie.Need-cell-at-requires
-cell-at-requires c κs = search needs
-
-settle-requires : tie.Need-settle-requires
-settle-requires c κs = search needs
 
 returns-2 : tie.Need-returns-2
 returns-2 c =
@@ -105,16 +78,6 @@ returns-2 c =
 
 pub on-rest-spec : {M : Type 1} → statement M
 on-rest-spec =
-    tie.close
-    (tie.spec
-    collect-requires
-    add-r
-    wrapping-add-u64-requires
-    wrapping-add-u64-requires-2
-    returns
-    sub-r
-    time-of-requires
-    wrapping-sub-u64-requires
-    cell-at-requires
-    settle-requires
-    returns-2)
+    tie.close (tie.spec (λ c κs. search needs) (λ c. search needs) (λ c κs. search needs) (λ c κs. search needs)
+    returns (λ c. search needs) (λ c κs. search needs) (λ c κs. search needs) (λ c κs. search needs)
+    (λ c κs. search needs) returns-2)

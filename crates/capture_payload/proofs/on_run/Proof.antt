@@ -8,24 +8,6 @@ use borrow.Author.Needs.{needs}
 use Rattle.capture_payload.proofs.on_run.Statement.{statement}
 use Rattle.capture_payload.proofs.on_run.Tie as tie
 
-mul-n : tie.Need-mul-n
-mul-n c = search needs
-
-add-r : tie.Need-add-r
-add-r c = search needs
-
-wrapping-add-u64-requires : tie.Need-wrapping-add-u64-requires
-wrapping-add-u64-requires c κs = search needs
-
-sub-r : tie.Need-sub-r
-sub-r c = search needs
-
-time-of-requires : tie.Need-time-of-requires
-time-of-requires c κs = search needs
-
-settle-requires : tie.Need-settle-requires
-settle-requires c κs = search needs
-
 returns : tie.Need-returns
 returns c =
     record {
@@ -51,12 +33,5 @@ returns c =
 
 pub on-run-spec : {M : Type 1} → statement M
 on-run-spec =
-    tie.close
-    (tie.spec
-    mul-n
-    add-r
-    wrapping-add-u64-requires
-    sub-r
-    time-of-requires
-    settle-requires
-    returns)
+    tie.close (tie.spec (λ c. search needs) (λ c. search needs) (λ c κs. search needs) (λ c. search needs)
+    (λ c κs. search needs) (λ c κs. search needs) returns)

@@ -10,15 +10,6 @@ use borrow.Author.Needs.{needs}
 use Rattle.capture_payload.proofs.on_tail.Statement.{statement}
 use Rattle.capture_payload.proofs.on_tail.Tie as tie
 
-add-r : tie.Need-add-r
-add-r c = search needs
-
-wrapping-add-u64-requires : tie.Need-wrapping-add-u64-requires
-wrapping-add-u64-requires c κs = search needs
-
-settle-requires : tie.Need-settle-requires
-settle-requires c κs = search needs
-
 returns : tie.Need-returns
 returns c =
     record {
@@ -41,10 +32,4 @@ returns c =
     }
 
 pub on-tail-spec : {M : Type 1} → statement M
-on-tail-spec =
-    tie.close
-    (tie.spec
-    add-r
-    wrapping-add-u64-requires
-    settle-requires
-    returns)
+on-tail-spec = tie.close (tie.spec (λ c. search needs) (λ c κs. search needs) (λ c κs. search needs) returns)

@@ -11,15 +11,6 @@ returns c q cs n h st few = absurd (n (omega arith))
 returns-2 : tie.Need-returns-2
 returns-2 c q cs n h st few = absurd (omega (arith, st .count, st .few))
 
-unit-at-requires : tie.Need-unit-at-requires
-unit-at-requires c κs = search needs
-
-marked-requires : tie.Need-marked-requires
-marked-requires c κs = search needs
-
-put-unit-requires : tie.Need-put-unit-requires
-put-unit-requires c κs = search needs
-
 returns-3 : tie.Need-returns-3
 returns-3 c =
     hurts-by _ _ (omega arith)
@@ -29,5 +20,5 @@ returns-3 c =
 
 pub mark-spec : {M : Type 1} → statement M
 mark-spec =
-    tie.close
-    (tie.spec returns returns-2 unit-at-requires marked-requires put-unit-requires returns-3)
+    tie.close (tie.spec returns returns-2 (λ c κs. search needs) (λ c κs. search needs) (λ c κs. search needs)
+    returns-3)

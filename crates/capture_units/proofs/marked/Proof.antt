@@ -3,11 +3,8 @@ use borrow.Author.Needs.{needs}
 use Rattle.capture_units.proofs.marked.Statement.{statement}
 use Rattle.capture_units.proofs.marked.Tie as tie
 
-wrapping-add-u64-requires : tie.Need-wrapping-add-u64-requires
-wrapping-add-u64-requires c κs = search needs
-
 returns : tie.Need-returns
 returns c = rw (c .wrapping-add-u64 .ensures)
 
 pub marked-spec : {M : Type 1} → statement M
-marked-spec = tie.close (tie.spec wrapping-add-u64-requires returns)
+marked-spec = tie.close (tie.spec (λ c κs. search needs) returns)

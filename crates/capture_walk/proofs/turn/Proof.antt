@@ -7,18 +7,6 @@ use borrow.Author.Needs.{needs}
 use Rattle.capture_walk.proofs.turn.Statement.{statement}
 use Rattle.capture_walk.proofs.turn.Tie as tie
 
-sub-whole-size : tie.Need-sub-whole-size
-sub-whole-size c = search needs
-
-part-whole-size-start : tie.Need-part-whole-size-start
-part-whole-size-start c = search needs
-
-part-whole-size-end : tie.Need-part-whole-size-end
-part-whole-size-end c = search needs
-
-whole-size-requires : tie.Need-whole-size-requires
-whole-size-requires c κs = search needs
-
 on-frame-requires : tie.Need-on-frame-requires
 on-frame-requires c κs =
     let a = c .before .before .before .before .args in (
@@ -35,12 +23,6 @@ returns c =
     .before .whole-size .ensures (c .before .if1 .taken)) in
     let l = length-drop (a .i) (a .piece .now) in
     turned (c .before .if1 .taken) (omega (arith, h .there)) (c .on-frame .ensures _)
-
-sub-span : tie.Need-sub-span
-sub-span c = search needs
-
-span-requires : tie.Need-span-requires
-span-requires c κs = search needs
 
 on-file-requires : tie.Need-on-file-requires
 on-file-requires c κs =
@@ -108,15 +90,6 @@ returns-5 : tie.Need-returns-5
 returns-5 c =
     let p = c .before .before .before .before .before .before .before .before .before .before .span .ensures in
     turned (p .some) (omega (arith, p .fits)) (c .on-tail .ensures)
-
-sub-run-size : tie.Need-sub-run-size
-sub-run-size c = search needs
-
-part-run-size-start : tie.Need-part-run-size-start
-part-run-size-start c = search needs
-
-part-run-size-end : tie.Need-part-run-size-end
-part-run-size-end c = search needs
 
 run-size-requires : tie.Need-run-size-requires
 run-size-requires c κs = (
@@ -197,31 +170,8 @@ returns-8 c =
 
 pub turn-spec : {M : Type 1} → statement M
 turn-spec =
-    tie.close
-    (tie.spec
-    sub-whole-size
-    part-whole-size-start
-    part-whole-size-end
-    whole-size-requires
-    on-frame-requires
-    returns
-    sub-span
-    span-requires
-    on-file-requires
-    returns-2
-    on-header-requires
-    returns-3
-    on-front-requires
-    returns-4
-    on-tail-requires
-    returns-5
-    sub-run-size
-    part-run-size-start
-    part-run-size-end
-    run-size-requires
-    on-run-requires
-    returns-6
-    on-first-requires
-    returns-7
-    on-rest-requires
+    tie.close (tie.spec (λ c. search needs) (λ c. search needs) (λ c. search needs) (λ c κs. search needs)
+    on-frame-requires returns (λ c. search needs) (λ c κs. search needs) on-file-requires returns-2 on-header-requires
+    returns-3 on-front-requires returns-4 on-tail-requires returns-5 (λ c. search needs) (λ c. search needs)
+    (λ c. search needs) run-size-requires on-run-requires returns-6 on-first-requires returns-7 on-rest-requires
     returns-8)

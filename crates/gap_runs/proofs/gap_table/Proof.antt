@@ -22,12 +22,6 @@ returns : tie.Need-returns Inv-loop μ-loop
 unfolding gapAnswer gapFault tableAfter
 returns c = let many = lt-leb _ 15 (c .if1 .taken) in record { answer = simp many; entries = simp many }
 
-mul-size : tie.Need-mul-size Inv-loop μ-loop
-mul-size c = search needs
-
-add-size : tie.Need-add-size Inv-loop μ-loop
-add-size c = search needs
-
 returns-2 : tie.Need-returns-2 Inv-loop μ-loop
 unfolding gapAnswer gapFault tableAfter noRoom
 returns-2 c =
@@ -55,12 +49,6 @@ grow-requires c κs =
     rw (at .inv .2) (holds-small (at .m) (14 * from .n + 1) (first .last .0) (omega arith)
     (omega (arith, first .kept .0)))
 
-add-m : tie.Need-add-m Inv-loop μ-loop
-add-m c = search needs
-
-loop-less : tie.Need-loop-less Inv-loop μ-loop
-loop-less c = search needs
-
 loop-again : tie.Need-loop-again Inv-loop μ-loop
 loop-again c =
     let at = c .before .before .before .before .before .loop in
@@ -72,9 +60,6 @@ loop-again c =
       c .before .before .grow .ensures
           ∙ rw (at .inv .2) (holds-more (at .m) (14 * from .n + 1) (first .last .0)),
     )
-
-same-length : tie.Need-same-length Inv-loop μ-loop
-same-length c = search needs
 
 returns-3 : tie.Need-returns-3 Inv-loop μ-loop
 returns-3 c =
@@ -90,19 +75,5 @@ returns-3 c =
 
 pub gap-table-spec : {M : Type 1} → statement M
 gap-table-spec =
-    tie.close
-    (tie.spec
-    Inv-loop
-    μ-loop
-    returns
-    mul-size
-    add-size
-    returns-2
-    start-requires
-    loop-holds
-    grow-requires
-    add-m
-    loop-less
-    loop-again
-    same-length
-    returns-3)
+    tie.close (tie.spec Inv-loop μ-loop returns (λ c. search needs) (λ c. search needs) returns-2 start-requires
+    loop-holds grow-requires (λ c. search needs) (λ c. search needs) loop-again (λ c. search needs) returns-3)

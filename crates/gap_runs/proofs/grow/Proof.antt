@@ -22,9 +22,6 @@ held size l ys zs h e = let more : l ≡ l - 1 + 1 = omega arith in e ∙ ap (λ
 loop-holds : tie.Need-loop-holds Inv-loop μ-loop
 loop-holds c = (search needs, refl, sym (none-new (c .before .args .size) (c .before .args .table .now)))
 
-sub-l : tie.Need-sub-l Inv-loop μ-loop
-sub-l c = search needs
-
 one-more-requires : tie.Need-one-more-requires Inv-loop μ-loop
 one-more-requires c κs =
     let at = c .before .before .loop in
@@ -33,15 +30,6 @@ one-more-requires c κs =
     let size = start .args .size in
     rw (held size (at .l) ys (at .table) (omega arith) (at .inv .2))
     (partly-small size (at .l - 1) ys (omega arith) (start .pre .long) (start .pre))
-
-mul-table : tie.Need-mul-table Inv-loop μ-loop
-mul-table c = search needs
-
-slice-write-table : tie.Need-slice-write-table Inv-loop μ-loop
-slice-write-table c = search needs
-
-loop-less : tie.Need-loop-less Inv-loop μ-loop
-loop-less c = search needs
 
 loop-again : tie.Need-loop-again Inv-loop μ-loop
 loop-again c =
@@ -56,9 +44,6 @@ loop-again c =
           ∙ rw here (newer size (at .l - 1) ys (omega arith) (start .pre .long)),
     )
 
-same-length : tie.Need-same-length Inv-loop μ-loop
-same-length c = search needs
-
 returns : tie.Need-returns Inv-loop μ-loop
 returns c =
     let at = c .before .loop in
@@ -68,16 +53,5 @@ returns c =
 
 pub grow-spec : {M : Type 1} → statement M
 grow-spec =
-    tie.close
-    (tie.spec
-    Inv-loop
-    μ-loop
-    loop-holds
-    sub-l
-    one-more-requires
-    mul-table
-    slice-write-table
-    loop-less
-    loop-again
-    same-length
-    returns)
+    tie.close (tie.spec Inv-loop μ-loop loop-holds (λ c. search needs) one-more-requires (λ c. search needs)
+    (λ c. search needs) (λ c. search needs) loop-again (λ c. search needs) returns)

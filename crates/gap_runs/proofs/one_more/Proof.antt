@@ -23,12 +23,6 @@ abbrev μ-loop : tie.MeasureT-loop
 loop-holds : tie.Need-loop-holds Inv-loop μ-loop
 loop-holds c = (omega arith, omega arith, omega arith)
 
-gap-lost-requires : tie.Need-gap-lost-requires Inv-loop μ-loop
-gap-lost-requires c κs = omega arith
-
-entry-at-requires : tie.Need-entry-at-requires Inv-loop μ-loop
-entry-at-requires c κs = omega arith
-
 add-sum : tie.Need-add-sum Inv-loop μ-loop
 add-sum c =
     let from = c .before .before .before .before .before .args in
@@ -38,12 +32,6 @@ add-sum c =
       entry-few (from .table .now) (from .l) (c .before .gap-lost .result)
           (c .before .before .before .before .before .pre),
     )
-
-add-g : tie.Need-add-g Inv-loop μ-loop
-add-g c = search needs
-
-loop-less : tie.Need-loop-less Inv-loop μ-loop
-loop-less c = search needs
 
 loop-again : tie.Need-loop-again Inv-loop μ-loop
 loop-again c =
@@ -65,5 +53,5 @@ returns c =
 
 pub one-more-spec : {M : Type 1} → statement M
 one-more-spec =
-    tie.close (tie.spec Inv-loop μ-loop loop-holds gap-lost-requires entry-at-requires add-sum add-g loop-less
-    loop-again returns)
+    tie.close (tie.spec Inv-loop μ-loop loop-holds (λ c κs. omega arith) (λ c κs. omega arith) add-sum
+    (λ c. search needs) (λ c. search needs) loop-again returns)

@@ -5,12 +5,9 @@ use Rattle.rules.specs.Index.{indexBits}
 use Rattle.index.proofs.index_bits.Statement.{statement}
 use Rattle.index.proofs.index_bits.Tie as tie
 
-float-to-bits-result : tie.Need-float-to-bits-result
-float-to-bits-result c = search needs
-
 returns : tie.Need-returns
 unfolding indexBits
 returns c = refl
 
 pub index-bits-spec : {M : Type 1} → statement M
-index-bits-spec = tie.close (tie.spec float-to-bits-result returns)
+index-bits-spec = tie.close (tie.spec (λ c. search needs) returns)

@@ -5,28 +5,16 @@ use borrow.Author.Needs.{needs}
 use Rattle.index.proofs.index_from.Statement.{statement}
 use Rattle.index.proofs.index_from.Tie as tie
 
-no-index-requires : tie.Need-no-index-requires
-no-index-requires c κs = search needs
-
 returns : tie.Need-returns
 returns c = no-picture _ _ _ _ _ (c .before .if1 .taken) (c .no-index .ensures)
 
-no-index-requires-2 : tie.Need-no-index-requires-2
-no-index-requires-2 c κs = search needs
-
 returns-2 : tie.Need-returns-2
 returns-2 c = too-many _ _ _ _ _ (c .before .before .if1 .left) (c .before .if2 .taken) (c .no-index2 .ensures)
-
-no-index-requires-3 : tie.Need-no-index-requires-3
-no-index-requires-3 c κs = search needs
 
 returns-3 : tie.Need-returns-3
 returns-3 c =
     no-packet _ _ _ _ _ (c .before .before .before .if1 .left) (c .before .before .if2 .left) (c .before .if3 .taken)
     (c .no-index3 .ensures)
-
-index-of-requires : tie.Need-index-of-requires
-index-of-requires c κs = search needs
 
 returns-4 : tie.Need-returns-4
 returns-4 c =
@@ -43,13 +31,5 @@ returns-4 c =
 
 pub index-from-spec : {M : Type 1} → statement M
 index-from-spec =
-    tie.close
-    (tie.spec
-    no-index-requires
-    returns
-    no-index-requires-2
-    returns-2
-    no-index-requires-3
-    returns-3
-    index-of-requires
-    returns-4)
+    tie.close (tie.spec (λ c κs. search needs) returns (λ c κs. search needs) returns-2 (λ c κs. search needs)
+    returns-3 (λ c κs. search needs) returns-4)

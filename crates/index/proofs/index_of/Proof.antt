@@ -18,18 +18,6 @@ one : ofBits binary64 0x3FF0000000000000 ≡ float 1
 unfolding ofBits ofInt
 one = refl
 
-int-to-float-ic : tie.Need-int-to-float-ic
-int-to-float-ic c = search needs
-
-int-to-float-ic-2 : tie.Need-int-to-float-ic-2
-int-to-float-ic-2 c = search needs
-
-int-to-float-ip : tie.Need-int-to-float-ip
-int-to-float-ip c = search needs
-
-add-ip : tie.Need-add-ip
-add-ip c = search needs
-
 int-to-float-ip-2 : tie.Need-int-to-float-ip-2
 int-to-float-ip-2 c = exact (omega arith)
 
@@ -38,4 +26,6 @@ unfolding indexOf icOf ipOf valueOf
 returns c = simp (four, one)
 
 pub index-of-spec : {M : Type 1} → statement M
-index-of-spec = tie.close (tie.spec int-to-float-ic int-to-float-ic-2 int-to-float-ip add-ip int-to-float-ip-2 returns)
+index-of-spec =
+    tie.close (tie.spec (λ c. search needs) (λ c. search needs) (λ c. search needs) (λ c. search needs)
+    int-to-float-ip-2 returns)

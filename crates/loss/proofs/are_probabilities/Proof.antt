@@ -18,21 +18,6 @@ abbrev μ-loop : tie.MeasureT-loop
 loop-holds : tie.Need-loop-holds Inv-loop μ-loop
 loop-holds c = (search needs, refl)
 
-mul-is-probability : tie.Need-mul-is-probability Inv-loop μ-loop
-mul-is-probability c = search needs
-
-shared-slice-read-is-probability : tie.Need-shared-slice-read-is-probability Inv-loop μ-loop
-shared-slice-read-is-probability c = search needs
-
-is-probability-requires : tie.Need-is-probability-requires Inv-loop μ-loop
-is-probability-requires c κs = search needs
-
-add-j : tie.Need-add-j Inv-loop μ-loop
-add-j c = search needs
-
-loop-less : tie.Need-loop-less Inv-loop μ-loop
-loop-less c = search needs
-
 loop-again : tie.Need-loop-again Inv-loop μ-loop
 loop-again c =
     let at = c .before .before .before .before .loop in
@@ -54,16 +39,5 @@ returns-2 c =
 
 pub are-probabilities-spec : {M : Type 1} → statement M
 are-probabilities-spec =
-    tie.close
-    (tie.spec
-    Inv-loop
-    μ-loop
-    loop-holds
-    mul-is-probability
-    shared-slice-read-is-probability
-    is-probability-requires
-    add-j
-    loop-less
-    loop-again
-    returns
-    returns-2)
+    tie.close (tie.spec Inv-loop μ-loop loop-holds (λ c. search needs) (λ c. search needs) (λ c κs. search needs)
+    (λ c. search needs) (λ c. search needs) loop-again returns returns-2)

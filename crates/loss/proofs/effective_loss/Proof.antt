@@ -9,17 +9,11 @@ use Rattle.loss.proofs.Steps.{lengths-are, done-answer, done-lists}
 use Rattle.loss.proofs.effective_loss.Statement.{statement}
 use Rattle.loss.proofs.effective_loss.Tie as tie
 
-good-lengths-requires : tie.Need-good-lengths-requires
-good-lengths-requires c κs = search needs
-
 returns : tie.Need-returns
 unfolding lossAnswer lossFault filled
 returns c =
     let bad = sym (c .before .good-lengths .ensures) ∙ not-true _ (c .if1 .taken) in
     record { answer = simp bad; lists = simp bad }
-
-are-probabilities-requires : tie.Need-are-probabilities-requires
-are-probabilities-requires c κs = search needs
 
 returns-2 : tie.Need-returns-2
 unfolding lossAnswer lossFault filled
@@ -27,12 +21,6 @@ returns-2 c =
     let good = sym (c .before .before .before .good-lengths .ensures) ∙ not-false _ (c .before .before .if1 .left) in
     let bad = sym (c .before .are-probabilities .ensures) ∙ not-true _ (c .if2 .taken) in
     record { answer = simp (good, bad); lists = simp (good, bad) }
-
-clear-requires : tie.Need-clear-requires
-clear-requires c κs = search needs
-
-clear-requires-2 : tie.Need-clear-requires-2
-clear-requires-2 c κs = search needs
 
 spread-requires : tie.Need-spread-requires
 spread-requires c κs =
@@ -46,12 +34,6 @@ spread-requires c κs =
       key-frames = omega (arith, c .before .before .before .before .before .before .before .before .clear .kept .0);
       plains = omega (arith, c .before .before .before .before .clear2 .kept .0);
     }
-
-same-length : tie.Need-same-length
-same-length c = search needs
-
-same-length-2 : tie.Need-same-length-2
-same-length-2 c = search needs
 
 returns-3 : tie.Need-returns-3
 returns-3 c =
@@ -72,15 +54,5 @@ returns-3 c =
 
 pub effective-loss-spec : {M : Type 1} → statement M
 effective-loss-spec =
-    tie.close
-    (tie.spec
-    good-lengths-requires
-    returns
-    are-probabilities-requires
-    returns-2
-    clear-requires
-    clear-requires-2
-    spread-requires
-    same-length
-    same-length-2
-    returns-3)
+    tie.close (tie.spec (λ c κs. search needs) returns (λ c κs. search needs) returns-2 (λ c κs. search needs)
+    (λ c κs. search needs) spread-requires (λ c. search needs) (λ c. search needs) returns-3)

@@ -34,41 +34,11 @@ abbrev μ-loop : tie.MeasureT-loop
 loop-holds : tie.Need-loop-holds Inv-loop2 μ-loop2 Inv-loop μ-loop
 loop-holds c = (search needs, search needs, search needs, refl)
 
-mul-loss : tie.Need-mul-loss Inv-loop2 μ-loop2 Inv-loop μ-loop
-mul-loss c = search needs
-
-shared-slice-read-loss : tie.Need-shared-slice-read-loss Inv-loop2 μ-loop2 Inv-loop μ-loop
-shared-slice-read-loss c = search needs
-
-mul-own : tie.Need-mul-own Inv-loop2 μ-loop2 Inv-loop μ-loop
-mul-own c = search needs
-
-shared-slice-read-own : tie.Need-shared-slice-read-own Inv-loop2 μ-loop2 Inv-loop μ-loop
-shared-slice-read-own c = search needs
-
-add-k : tie.Need-add-k Inv-loop2 μ-loop2 Inv-loop μ-loop
-add-k c = search needs
-
 loop2-holds : tie.Need-loop2-holds Inv-loop2 μ-loop2 Inv-loop μ-loop
 loop2-holds c = (omega arith, omega arith, search needs, search needs, refl)
 
-probability-at-requires : tie.Need-probability-at-requires Inv-loop2 μ-loop2 Inv-loop μ-loop
-probability-at-requires c κs = search needs
-
-int-to-float-loss-of : tie.Need-int-to-float-loss-of Inv-loop2 μ-loop2 Inv-loop μ-loop
-int-to-float-loss-of c = search needs
-
-loss-of-requires : tie.Need-loss-of-requires Inv-loop2 μ-loop2 Inv-loop μ-loop
-loss-of-requires c κs = search needs
-
 put-requires : tie.Need-put-requires Inv-loop2 μ-loop2 Inv-loop μ-loop
 put-requires c κs = (omega arith, omega arith, omega arith)
-
-add-k-2 : tie.Need-add-k-2 Inv-loop2 μ-loop2 Inv-loop μ-loop
-add-k-2 c = search needs
-
-loop2-less : tie.Need-loop2-less Inv-loop2 μ-loop2 Inv-loop μ-loop
-loop2-less c = search needs
 
 loop2-again : tie.Need-loop2-again Inv-loop2 μ-loop2 Inv-loop μ-loop
 loop2-again c =
@@ -99,12 +69,6 @@ loop2-again c =
           (both (at .keys) (at .plain)) (w .0 .left)) ∙ at .inv .4),
     ))
     (c .if2 .came)
-
-add-i : tie.Need-add-i Inv-loop2 μ-loop2 Inv-loop μ-loop
-add-i c = search needs
-
-loop-less : tie.Need-loop-less Inv-loop2 μ-loop2 Inv-loop μ-loop
-loop-less c = search needs
 
 loop-again : tie.Need-loop-again Inv-loop2 μ-loop2 Inv-loop μ-loop
 loop-again c =
@@ -145,12 +109,6 @@ loop-again c =
     v)
     (c .if1 .came)
 
-same-length : tie.Need-same-length Inv-loop2 μ-loop2 Inv-loop μ-loop
-same-length c = search needs
-
-same-length-2 : tie.Need-same-length-2 Inv-loop2 μ-loop2 Inv-loop μ-loop
-same-length-2 c = search needs
-
 returns : tie.Need-returns Inv-loop2 μ-loop2 Inv-loop μ-loop
 returns c =
     let at = c .before .loop in
@@ -159,29 +117,7 @@ returns c =
 
 pub spread-spec : {M : Type 1} → statement M
 spread-spec =
-    tie.close
-    (tie.spec
-    Inv-loop2
-    μ-loop2
-    Inv-loop
-    μ-loop
-    loop-holds
-    mul-loss
-    shared-slice-read-loss
-    mul-own
-    shared-slice-read-own
-    add-k
-    loop2-holds
-    probability-at-requires
-    int-to-float-loss-of
-    loss-of-requires
-    put-requires
-    add-k-2
-    loop2-less
-    loop2-again
-    add-i
-    loop-less
-    loop-again
-    same-length
-    same-length-2
-    returns)
+    tie.close (tie.spec Inv-loop2 μ-loop2 Inv-loop μ-loop loop-holds (λ c. search needs) (λ c. search needs)
+    (λ c. search needs) (λ c. search needs) (λ c. search needs) loop2-holds (λ c κs. search needs) (λ c. search needs)
+    (λ c κs. search needs) put-requires (λ c. search needs) (λ c. search needs) loop2-again (λ c. search needs)
+    (λ c. search needs) loop-again (λ c. search needs) (λ c. search needs) returns)

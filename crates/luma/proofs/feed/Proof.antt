@@ -7,17 +7,8 @@ use borrow.Author.Needs.{needs}
 use Rattle.luma.proofs.feed.Statement.{statement}
 use Rattle.luma.proofs.feed.Tie as tie
 
-load-requires : tie.Need-load-requires
-load-requires c κs = search needs
-
 returns : tie.Need-returns
 returns c = feed-stopped _ (c .before .before .load .ensures) (c .if1 .taken)
-
-opening-in-requires : tie.Need-opening-in-requires
-opening-in-requires c κs = search needs
-
-opening-fault-requires : tie.Need-opening-fault-requires
-opening-fault-requires c κs = search needs
 
 returns-2 : tie.Need-returns-2
 returns-2 c =
@@ -25,12 +16,6 @@ returns-2 c =
     (wrong-opening _ (c .before .before .before .before .before .before .load .ensures) _
     (c .before .before .before .before .if1 .left)
     (rw (c .before .before .opening-in .ensures) at (c .before .opening-fault .ensures)) (c .if2 .taken))
-
-grid-of-requires : tie.Need-grid-of-requires
-grid-of-requires c κs = search needs
-
-placed-requires : tie.Need-placed-requires
-placed-requires c κs = search needs
 
 returns-3 : tie.Need-returns-3
 returns-3 c =
@@ -51,12 +36,6 @@ run-requires c κs = (
       (not-false _ (c .before .before .before .before .if3 .left)),
 )
 
-store-requires : tie.Need-store-requires
-store-requires c κs = search needs
-
-reply-requires : tie.Need-reply-requires
-reply-requires c κs = search needs
-
 returns-4 : tie.Need-returns-4
 returns-4 c =
     let g = rw (c .before .before .before .before .before .before .before
@@ -72,17 +51,6 @@ returns-4 c =
 
 pub feed-spec : {M : Type 1} → statement M
 feed-spec =
-    tie.close
-    (tie.spec
-    load-requires
-    returns
-    opening-in-requires
-    opening-fault-requires
-    returns-2
-    grid-of-requires
-    placed-requires
-    returns-3
-    run-requires
-    store-requires
-    reply-requires
+    tie.close (tie.spec (λ c κs. search needs) returns (λ c κs. search needs) (λ c κs. search needs) returns-2
+    (λ c κs. search needs) (λ c κs. search needs) returns-3 run-requires (λ c κs. search needs) (λ c κs. search needs)
     returns-4)

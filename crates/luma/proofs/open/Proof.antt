@@ -3,12 +3,6 @@ use Rattle.luma.proofs.Posts.{open-refused, open-done}
 use Rattle.luma.proofs.open.Statement.{statement}
 use Rattle.luma.proofs.open.Tie as tie
 
-opening-fault-requires : tie.Need-opening-fault-requires
-opening-fault-requires c κs = search needs
-
-begin-requires : tie.Need-begin-requires
-begin-requires c κs = search needs
-
 returns : tie.Need-returns
 returns c =
     let f = c .before .before .before .before .before .before .opening-fault in
@@ -20,4 +14,4 @@ returns-2 c =
     record { answer = open-done _ (f .result) (f .ensures) (c .if1 .left); means = c .before .begin .ensures }
 
 pub open-spec : {M : Type 1} → statement M
-open-spec = tie.close (tie.spec opening-fault-requires begin-requires returns returns-2)
+open-spec = tie.close (tie.spec (λ c κs. search needs) (λ c κs. search needs) returns returns-2)

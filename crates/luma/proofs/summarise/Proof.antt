@@ -4,12 +4,6 @@ use borrow.Author.Needs.{needs}
 use Rattle.luma.proofs.summarise.Statement.{statement}
 use Rattle.luma.proofs.summarise.Tie as tie
 
-load-requires : tie.Need-load-requires
-load-requires c κs = search needs
-
-inside-of-requires : tie.Need-inside-of-requires
-inside-of-requires c κs = search needs
-
 returns : tie.Need-returns
 returns c =
     summarised (c .before .before .args .luma .now) (c .before .load .result) _
@@ -17,4 +11,4 @@ returns c =
     (c .inside-of .ensures) refl refl
 
 pub summarise-spec : {M : Type 1} → statement M
-summarise-spec = tie.close (tie.spec load-requires inside-of-requires returns)
+summarise-spec = tie.close (tie.spec (λ c κs. search needs) (λ c κs. search needs) returns)

@@ -44,13 +44,4 @@ returns-2 c = record { going = c .before .before .loop .inv; all = λ h. omega a
 
 pub feed-rows-spec : {M : Type 1} → statement M
 feed-rows-spec =
-    tie.close
-    (tie.spec
-    Inv-loop
-    μ-loop
-    loop-holds
-    returns
-    take-some-requires
-    loop-less
-    loop-again
-    returns-2)
+    tie.close (tie.spec Inv-loop μ-loop loop-holds returns take-some-requires loop-less loop-again returns-2)

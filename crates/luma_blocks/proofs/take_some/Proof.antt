@@ -7,12 +7,6 @@ use Rattle.luma_blocks.proofs.Rows.{going-more, going-two}
 use Rattle.luma_blocks.proofs.take_some.Statement.{statement}
 use Rattle.luma_blocks.proofs.take_some.Tie as tie
 
-two-next-requires : tie.Need-two-next-requires
-two-next-requires c κs = search needs
-
-add-below : tie.Need-add-below
-add-below c = search needs
-
 blocks-two-requires : tie.Need-blocks-two-requires
 blocks-two-requires c κs =
     let p = c .before .before .before .before .before .pre .0 in
@@ -25,12 +19,6 @@ blocks-two-requires c κs =
       inside-2 = omega (arith, next .there, next .wide);
     }
 
-add-t12 : tie.Need-add-t12
-add-t12 c = search needs
-
-add-t13 : tie.Need-add-t13
-add-t13 c = search needs
-
 returns : tie.Need-returns
 returns c =
     let p = c .before .before .before .before .before .before .before .pre .0 in
@@ -42,21 +30,6 @@ returns c =
       some = omega arith;
       goes = λ row col first g. going-two g next wide (p .some) (c .before .blocks-two .ensures);
     }
-
-sub-least : tie.Need-sub-least
-sub-least c = search needs
-
-sub-least-2 : tie.Need-sub-least-2
-sub-least-2 c = search needs
-
-least-requires : tie.Need-least-requires
-least-requires c κs = search needs
-
-add-run-requires : tie.Need-add-run-requires
-add-run-requires c κs = search needs
-
-advance-requires : tie.Need-advance-requires
-advance-requires c κs = search needs
 
 returns-2 : tie.Need-returns-2
 returns-2 c =
@@ -76,17 +49,6 @@ returns-2 c =
 
 pub take-some-spec : {M : Type 1} → statement M
 take-some-spec =
-    tie.close
-    (tie.spec
-    two-next-requires
-    add-below
-    blocks-two-requires
-    add-t12
-    add-t13
-    returns
-    sub-least
-    sub-least-2
-    least-requires
-    add-run-requires
-    advance-requires
-    returns-2)
+    tie.close (tie.spec (λ c κs. search needs) (λ c. search needs) blocks-two-requires (λ c. search needs)
+    (λ c. search needs) returns (λ c. search needs) (λ c. search needs) (λ c κs. search needs) (λ c κs. search needs)
+    (λ c κs. search needs) returns-2)

@@ -71,12 +71,6 @@ module _ {ℓ} {A : Type ℓ} where
   flat-map f zero a = refl
   flat-map {B = B} f (suc n) a = ap (λ (r : List B). f a ∷ r) (flat-map f n a)
 
-  -- one byte more is filled
-  pub fill-more : (s : List A) (i : ℕ) (a : A) → i < length s → take i s ≡ replicate i a →
-      take (i + 1) (set s i a) ≡ replicate (i + 1) a
-  fill-more s i a h e =
-      ap (λ (n : ℕ). take n (set s i a)) (add-one i) ∙ take-suc-set s i a h ∙ rw e (replicate-append-replicate i 1 a)
-
 pub flat-total : (n v : ℕ) → total (replicate n v) ≡ n * v
 unfolding total
 flat-total zero v = rw (zero-mul v)

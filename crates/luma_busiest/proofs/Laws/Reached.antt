@@ -126,20 +126,19 @@ module _ (o : Opening) (n : ℕ) (opened : openingFault o ≡ none) (few : n ≤
 
   starts-are : 1 ≤ n → starts (o .time) (cutScores seen) ≡ table (mostScenes (o .time) n) 0 (λ t. t * m)
   unfolding mostScenes m
-  starts-are some = go (decLt n 3)
-    where
-      go : Dec (n < 3) → starts (o .time) (cutScores seen) ≡ table (mostScenes (o .time) n) 0 (λ t. t * m)
-      go (yes h) =
-          rw (lt-ltb n 3 h) (starts-named 0 some (λ t l. absurd (omega arith)) (omega (arith, three, one-mul m)))
-      go (no h) =
-          let q = (n - 3) / m in
-          let positive : 0 < m = omega (arith, three) in
-          let under : q * m ≤ n - 3 = le-div-iff-mul-le positive .0 (le-refl q) in
-          let over : n - 3 < q * m + m = lt-div-mul-add {a = n - 3} {b = m} positive in
-          let next : 1 + q ≡ suc q = omega arith in
-          rw (le-ltb n 3 (omega arith), next)
-          (starts-named q some (λ t l. let up : suc t ≤ q = omega arith in omega (arith, mul-le-mul-right m up))
-          (omega (arith, suc-mul q m)))
+  starts-are some = elim (decLt n 3) [
+    | yes h ↦
+        rw (lt-ltb n 3 h) (starts-named 0 some (λ t l. absurd (omega arith)) (omega (arith, three, one-mul m)))
+    | no h ↦
+        let q = (n - 3) / m in
+        let positive : 0 < m = omega (arith, three) in
+        let under : q * m ≤ n - 3 = le-div-iff-mul-le positive .0 (le-refl q) in
+        let over : n - 3 < q * m + m = lt-div-mul-add {a = n - 3} {b = m} positive in
+        let next : 1 + q ≡ suc q = omega arith in
+        rw (le-ltb n 3 (omega arith), next)
+        (starts-named q some (λ t l. let up : suc t ≤ q = omega arith in omega (arith, mul-le-mul-right m up))
+        (omega (arith, suc-mul q m)))
+  ]
 
 -- ---- its scenes
 

@@ -73,11 +73,10 @@ module _ (d m : ℕ) (ss : List ℕ) (m-least : LeastReaching d m) (three : 3 �
     pub named-starts : (n t i : ℕ) → t ≤ q → t * m < i → i ≤ suc t * m → i + n ≡ length ss →
         startsFrom d ss n (t * m) i ≡ table (q - t) (suc t) (λ s. s * m)
     unfolding startsFrom table
-    named-starts zero t i most low high e = go (decLt t q)
-      where
-        go : Dec (t < q) → [] ≡ table (q - t) (suc t) (λ s. s * m)
-        go (yes l) = absurd (omega (arith, inside t l))
-        go (no l) = let none : q - t ≡ 0 = omega arith in rw none
+    named-starts zero t i most low high e = elim (decLt t q) [
+      | yes l ↦ absurd (omega (arith, inside t l))
+      | no l ↦ let none : q - t ≡ 0 = omega arith in rw none
+    ]
     named-starts (suc n) t i most low high e =
         go (isStart d ss (t * m) i) refl (decLt t q)
         (λ l here. rw (sym here) at

@@ -19,9 +19,6 @@ returns c = too-long _ (omega arith)
 loop-holds : tie.Need-loop-holds Inv-loop μ-loop
 loop-holds c = read-none _ (omega arith)
 
-shared-slice-read-digit : tie.Need-shared-slice-read-digit Inv-loop μ-loop
-shared-slice-read-digit c = omega arith
-
 returns-2 : tie.Need-returns-2 Inv-loop μ-loop
 returns-2 c =
     let l = c .before .before .before .loop in
@@ -37,19 +34,10 @@ mul-n c =
     let l = c .before .before .before .before .loop in
     omega (arith, read-room _ (l .n) (l .i) (l .inv) (c .before .before .before .loop-test .taken))
 
-cast-n : tie.Need-cast-n Inv-loop μ-loop
-cast-n c = omega arith
-
 add-n : tie.Need-add-n Inv-loop μ-loop
 add-n c =
     let l = c .before .before .before .before .loop in
     omega (arith, read-room _ (l .n) (l .i) (l .inv) (c .before .before .before .loop-test .taken))
-
-add-i : tie.Need-add-i Inv-loop μ-loop
-add-i c = omega arith
-
-loop-less : tie.Need-loop-less Inv-loop μ-loop
-loop-less c = omega arith
 
 loop-again : tie.Need-loop-again Inv-loop μ-loop
 loop-again c =
@@ -61,19 +49,5 @@ returns-4 c = let l = c .before .loop in read-all _ (l .n) (l .i) (l .inv) (omeg
 
 pub argument-spec : {M : Type 1} → statement M
 argument-spec =
-    tie.close
-    (tie.spec
-    Inv-loop
-    μ-loop
-    returns
-    loop-holds
-    shared-slice-read-digit
-    returns-2
-    returns-3
-    mul-n
-    cast-n
-    add-n
-    add-i
-    loop-less
-    loop-again
-    returns-4)
+    tie.close (tie.spec Inv-loop μ-loop returns loop-holds (λ c. omega arith) returns-2 returns-3 mul-n
+    (λ c. omega arith) add-n (λ c. omega arith) (λ c. omega arith) loop-again returns-4)

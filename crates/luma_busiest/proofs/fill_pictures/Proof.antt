@@ -35,12 +35,6 @@ returns c =
     let none = none-left (a .width) (a .height) (a .time) (a .pictures) (a .at) (a .piece .now) (c .if1 .taken) in
     (rw none, rw none)
 
-sub-smaller : tie.Need-sub-smaller Inv-loop μ-loop
-sub-smaller c = omega arith
-
-smaller-requires : tie.Need-smaller-requires Inv-loop μ-loop
-smaller-requires c κs = search needs
-
 loop-holds : tie.Need-loop-holds Inv-loop μ-loop
 loop-holds c = (omega arith, refl, filled-none _ _ _ _ _ _)
 
@@ -93,9 +87,6 @@ sub-next c =
     let a = s .args in
     let size = picture-bytes (a .width) (a .height) (s .pre .0) in
     omega (arith, picture-end (a .width * a .height) (a .at + c .before .loop .done) (size .0) .0)
-
-smaller-requires-2 : tie.Need-smaller-requires-2 Inv-loop μ-loop
-smaller-requires-2 c κs = search needs
 
 shade-of-requires : tie.Need-shade-of-requires Inv-loop μ-loop
 shade-of-requires c κs = c .before .before .before .before .before .before .before .pre .1 .0
@@ -167,25 +158,6 @@ returns-2 c =
 
 pub fill-pictures-spec : {M : Type 1} → statement M
 fill-pictures-spec =
-    tie.close
-    (tie.spec
-    Inv-loop
-    μ-loop
-    mul-size
-    mul-all
-    returns
-    sub-smaller
-    smaller-requires
-    loop-holds
-    add-i
-    div-i
-    add-next
-    mul-next
-    sub-next
-    smaller-requires-2
-    shade-of-requires
-    fill-requires
-    loop-less
-    loop-again
-    same-length
-    returns-2)
+    tie.close (tie.spec Inv-loop μ-loop mul-size mul-all returns (λ c. omega arith) (λ c κs. search needs) loop-holds
+    add-i div-i add-next mul-next sub-next (λ c κs. search needs) shade-of-requires fill-requires loop-less loop-again
+    same-length returns-2)

@@ -6,20 +6,8 @@ use Rattle.luma_busiest.proofs.Laws.Answers.{answered, wrong-size, refu
 use Rattle.luma_busiest.proofs.luma_piece.Statement.{statement}
 use Rattle.luma_busiest.proofs.luma_piece.Tie as tie
 
-good-size-requires : tie.Need-good-size-requires
-good-size-requires c κs = search needs
-
 returns : tie.Need-returns
 returns c = wrong-size _ _ _ _ _ _ (sym (c .before .good-size .ensures) ∙ not-true _ (c .if1 .taken))
-
-most-scenes-requires : tie.Need-most-scenes-requires
-most-scenes-requires c κs = search needs
-
-enum-known-number : tie.Need-enum-known-number
-enum-known-number c = search needs
-
-enum-told : tie.Need-enum-told
-enum-told c = search needs
 
 fill-pictures-requires : tie.Need-fill-pictures-requires
 fill-pictures-requires c κs =
@@ -36,9 +24,6 @@ returns-2 c =
     let most = sym (c .before .before .before .most-scenes .ensures) ∙ c .before .number .given .1 in
     refused _ _ _ _ _ _ size _ _ most
 
-same-length : tie.Need-same-length
-same-length c = search needs
-
 returns-3 : tie.Need-returns-3
 returns-3 c =
     let p = c .before .before .before .before .before .before .before in
@@ -50,14 +35,5 @@ returns-3 c =
 
 pub luma-piece-spec : {M : Type 1} → statement M
 luma-piece-spec =
-    tie.close
-    (tie.spec
-    good-size-requires
-    returns
-    most-scenes-requires
-    enum-known-number
-    enum-told
-    fill-pictures-requires
-    returns-2
-    same-length
-    returns-3)
+    tie.close (tie.spec (λ c κs. search needs) returns (λ c κs. search needs) (λ c. search needs) (λ c. search needs)
+    fill-pictures-requires returns-2 (λ c. search needs) returns-3)

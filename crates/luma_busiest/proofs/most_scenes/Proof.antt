@@ -11,9 +11,6 @@ use Rattle.luma_busiest.proofs.Laws.Answers.{wrong-time, no-picture, ma
 use Rattle.luma_busiest.proofs.most_scenes.Statement.{statement}
 use Rattle.luma_busiest.proofs.most_scenes.Tie as tie
 
-good-time-requires : tie.Need-good-time-requires
-good-time-requires c κs = search needs
-
 returns : tie.Need-returns
 returns c = wrong-time _ _ (sym (c .before .good-time .ensures) ∙ not-true _ (c .if1 .taken))
 
@@ -39,9 +36,6 @@ least-between-requires c κs =
     let p = c .before .before .before in
     sym (p .before .good-time .ensures) ∙ not-false _ (p .if1 .left)
 
-sub-t7 : tie.Need-sub-t7
-sub-t7 c = search needs
-
 div-t8 : tie.Need-div-t8
 div-t8 c =
     let p = c .before .before .before .before in
@@ -63,15 +57,5 @@ returns-5 c =
 
 pub most-scenes-spec : {M : Type 1} → statement M
 most-scenes-spec =
-    tie.close
-    (tie.spec
-    good-time-requires
-    returns
-    returns-2
-    returns-3
-    returns-4
-    least-between-requires
-    sub-t7
-    div-t8
-    add-t9
-    returns-5)
+    tie.close (tie.spec (λ c κs. search needs) returns returns-2 returns-3 returns-4 least-between-requires
+    (λ c. search needs) div-t8 add-t9 returns-5)

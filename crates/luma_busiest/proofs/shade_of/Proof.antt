@@ -9,9 +9,6 @@ use Rattle.luma_busiest.proofs.Laws.Tones.{tone-even, tone-odd}
 use Rattle.luma_busiest.proofs.shade_of.Statement.{statement}
 use Rattle.luma_busiest.proofs.shade_of.Tie as tie
 
-least-between-requires : tie.Need-least-between-requires
-least-between-requires c κs = search needs
-
 div-run : tie.Need-div-run
 div-run c =
     let p = c .before in
@@ -32,4 +29,4 @@ returns-2 c =
     sym (tone-odd _ (rw e (c .if1 .left)))
 
 pub shade-of-spec : {M : Type 1} → statement M
-shade-of-spec = tie.close (tie.spec least-between-requires div-run returns returns-2)
+shade-of-spec = tie.close (tie.spec (λ c κs. search needs) div-run returns returns-2)

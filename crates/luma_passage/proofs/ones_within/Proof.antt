@@ -7,18 +7,6 @@ use Rattle.luma_passage.proofs.Laws.{masked, part-few}
 use Rattle.luma_passage.proofs.ones_within.Statement.{statement}
 use Rattle.luma_passage.proofs.ones_within.Tie as tie
 
-sub-mask : tie.Need-sub-mask
-sub-mask c = search needs
-
-shr-mask : tie.Need-shr-mask
-shr-mask c = search needs
-
-shl-mask : tie.Need-shl-mask
-shl-mask c = search needs
-
-wide-requires : tie.Need-wide-requires
-wide-requires c κs = search needs
-
 returns : tie.Need-returns
 returns c =
     let a = c .before .args in
@@ -27,4 +15,5 @@ returns c =
     (omega arith, c .wide .ensures .0 ∙ ones)
 
 pub ones-within-spec : {M : Type 1} → statement M
-ones-within-spec = tie.close (tie.spec sub-mask shr-mask shl-mask wide-requires returns)
+ones-within-spec =
+    tie.close (tie.spec (λ c. search needs) (λ c. search needs) (λ c. search needs) (λ c κs. search needs) returns)

@@ -21,9 +21,6 @@ returns-2 c =
     refused-post _ _ _ _ _ refl
     (rw (le-leb (a .a) (a .b) (omega arith), lt-leb (a .b) (a .n) (omega arith)))
 
-repeated-between-requires : tie.Need-repeated-between-requires
-repeated-between-requires c κs = search needs
-
 returns-3 : tie.Need-returns-3
 unfolding passageFault
 returns-3 c =
@@ -34,4 +31,4 @@ returns-3 c =
     (λ rs m e. counted .repeated rs m (omega arith) (omega arith))
 
 pub passage-spec : {M : Type 1} → statement M
-passage-spec = tie.close (tie.spec returns returns-2 repeated-between-requires returns-3)
+passage-spec = tie.close (tie.spec returns returns-2 (λ c κs. search needs) returns-3)

@@ -18,29 +18,8 @@ returns c = record { most = omega arith; repeated = λ rs m k l. let few = m .fe
 loop-holds : tie.Need-loop-holds Inv-loop μ-loop
 loop-holds c = (omega arith, λ rs m k l. omega arith)
 
-reach-requires : tie.Need-reach-requires Inv-loop μ-loop
-reach-requires c κs = omega arith
-
-add-word : tie.Need-add-word Inv-loop μ-loop
-add-word c = omega arith
-
-mul-word : tie.Need-mul-word Inv-loop μ-loop
-mul-word c = omega arith
-
-element-copy-out-word : tie.Need-element-copy-out-word Inv-loop μ-loop
-element-copy-out-word c = omega arith
-
 ones-within-requires : tie.Need-ones-within-requires Inv-loop μ-loop
 ones-within-requires c κs = (omega arith, omega arith)
-
-add-found : tie.Need-add-found Inv-loop μ-loop
-add-found c = omega arith
-
-add-at : tie.Need-add-at Inv-loop μ-loop
-add-at c = omega arith
-
-loop-less : tie.Need-loop-less Inv-loop μ-loop
-loop-less c = omega arith
 
 loop-again : tie.Need-loop-again Inv-loop μ-loop
 loop-again c =
@@ -64,19 +43,6 @@ returns-2 c =
 
 pub repeated-between-spec : {M : Type 1} → statement M
 repeated-between-spec =
-    tie.close
-    (tie.spec
-    Inv-loop
-    μ-loop
-    returns
-    loop-holds
-    reach-requires
-    add-word
-    mul-word
-    element-copy-out-word
-    ones-within-requires
-    add-found
-    add-at
-    loop-less
-    loop-again
+    tie.close (tie.spec Inv-loop μ-loop returns loop-holds (λ c κs. omega arith) (λ c. omega arith) (λ c. omega arith)
+    (λ c. omega arith) ones-within-requires (λ c. omega arith) (λ c. omega arith) (λ c. omega arith) loop-again
     returns-2)

@@ -3,36 +3,6 @@ use borrow.Author.Needs.{needs}
 use Rattle.luma_picture.proofs.end_picture.Statement.{statement}
 use Rattle.luma_picture.proofs.end_picture.Tie as tie
 
-again-of-requires : tie.Need-again-of-requires
-again-of-requires c κs = search needs
-
-element-copy-out-score-of : tie.Need-element-copy-out-score-of
-element-copy-out-score-of c = search needs
-
-score-of-requires : tie.Need-score-of-requires
-score-of-requires c κs = search needs
-
-opening-in-requires : tie.Need-opening-in-requires
-opening-in-requires c κs = search needs
-
-rounds-to-nearest-requires : tie.Need-rounds-to-nearest-requires
-rounds-to-nearest-requires c κs = search needs
-
-change-of-requires : tie.Need-change-of-requires
-change-of-requires c κs = search needs
-
-note-requires : tie.Need-note-requires
-note-requires c κs = search needs
-
-add-slot-of : tie.Need-add-slot-of
-add-slot-of c = search needs
-
-slot-of-requires : tie.Need-slot-of-requires
-slot-of-requires c κs = search needs
-
-clear-requires : tie.Need-clear-requires
-clear-requires c κs = search needs
-
 next-picture-requires : tie.Need-next-picture-requires
 next-picture-requires c κs =
     let from = c .before .before .before .before .before .before .before .before .before .before .before .before in
@@ -55,17 +25,6 @@ returns c =
 
 pub end-picture-spec : {M : Type 1} → statement M
 end-picture-spec =
-    tie.close
-    (tie.spec
-    again-of-requires
-    element-copy-out-score-of
-    score-of-requires
-    opening-in-requires
-    rounds-to-nearest-requires
-    change-of-requires
-    note-requires
-    add-slot-of
-    slot-of-requires
-    clear-requires
-    next-picture-requires
-    returns)
+    tie.close (tie.spec (λ c κs. search needs) (λ c. search needs) (λ c κs. search needs) (λ c κs. search needs)
+    (λ c κs. search needs) (λ c κs. search needs) (λ c κs. search needs) (λ c. search needs) (λ c κs. search needs)
+    (λ c κs. search needs) next-picture-requires returns)

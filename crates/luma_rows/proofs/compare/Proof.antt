@@ -18,21 +18,9 @@ abbrev μ-loop : tie.MeasureT-loop
 loop-holds : tie.Need-loop-holds Inv-loop μ-loop
 loop-holds c = (omega arith, compared-none _ _ _ _ _)
 
-sub-fewer : tie.Need-sub-fewer Inv-loop μ-loop
-sub-fewer c = omega arith
-
-fewer-requires : tie.Need-fewer-requires Inv-loop μ-loop
-fewer-requires c κs = search needs
-
-add-compare-run : tie.Need-add-compare-run Inv-loop μ-loop
-add-compare-run c = omega arith
-
 compare-run-requires : tie.Need-compare-run-requires Inv-loop μ-loop
 compare-run-requires c κs =
     record { kept-there = omega arith; made-there = omega arith; few = omega arith }
-
-add-c : tie.Need-add-c Inv-loop μ-loop
-add-c c = omega arith
 
 loop-less : tie.Need-loop-less Inv-loop μ-loop
 loop-less c =
@@ -51,16 +39,5 @@ returns c = let e : c .before .loop .c ≡ c .before .before .before .args .k = 
 
 pub compare-spec : {M : Type 1} → statement M
 compare-spec =
-    tie.close
-    (tie.spec
-    Inv-loop
-    μ-loop
-    loop-holds
-    sub-fewer
-    fewer-requires
-    add-compare-run
-    compare-run-requires
-    add-c
-    loop-less
-    loop-again
-    returns)
+    tie.close (tie.spec Inv-loop μ-loop loop-holds (λ c. omega arith) (λ c κs. search needs) (λ c. omega arith)
+    compare-run-requires (λ c. omega arith) loop-less loop-again returns)

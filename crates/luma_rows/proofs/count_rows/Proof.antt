@@ -16,9 +16,6 @@ Inv-loop bins₀ picture g s j own i₀ bins i =
 abbrev μ-loop : tie.MeasureT-loop
 μ-loop bins₀ picture g s j own i₀ bins i = j - i
 
-slot-of-requires : tie.Need-slot-of-requires Inv-loop μ-loop
-slot-of-requires c κs = search needs
-
 loop-holds : tie.Need-loop-holds Inv-loop μ-loop
 loop-holds c = (omega arith, counted-none _ _ _ _ _ _)
 
@@ -42,12 +39,6 @@ count-row-requires c κs =
       there = omega (arith, line-room (a .g) (a .s .line + i) (omega arith), p .0 .room);
     }
 
-add-i : tie.Need-add-i Inv-loop μ-loop
-add-i c = omega arith
-
-loop-less : tie.Need-loop-less Inv-loop μ-loop
-loop-less c = omega arith
-
 loop-again : tie.Need-loop-again Inv-loop μ-loop
 loop-again c =
     let p = c .before .before .before .before .before .before .before .pre in
@@ -65,15 +56,5 @@ returns c =
 
 pub count-rows-spec : {M : Type 1} → statement M
 count-rows-spec =
-    tie.close
-    (tie.spec
-    Inv-loop
-    μ-loop
-    slot-of-requires
-    loop-holds
-    add-count-row
-    count-row-requires
-    add-i
-    loop-less
-    loop-again
-    returns)
+    tie.close (tie.spec Inv-loop μ-loop (λ c κs. search needs) loop-holds add-count-row count-row-requires
+    (λ c. omega arith) (λ c. omega arith) loop-again returns)

@@ -36,9 +36,6 @@ feed-rows-requires c κs =
       left = p .0 .sane .col (p .1);
     }
 
-moved-to-requires : tie.Need-moved-to-requires
-moved-to-requires c κs = search needs
-
 end-row-requires : tie.Need-end-row-requires
 end-row-requires c κs =
     let p = c .before .before .before .before .before .before .before .before .before .before .before .before .pre in
@@ -76,14 +73,5 @@ returns-3 c =
 
 pub draw-spec : {M : Type 1} → statement M
 draw-spec =
-    tie.close
-    (tie.spec
-    plain-rows-requires
-    mul-used
-    take-plain-requires
-    returns
-    feed-rows-requires
-    moved-to-requires
-    end-row-requires
-    returns-2
-    returns-3)
+    tie.close (tie.spec plain-rows-requires mul-used take-plain-requires returns feed-rows-requires
+    (λ c κs. search needs) end-row-requires returns-2 returns-3)

@@ -32,12 +32,6 @@ count-rows-requires c κs =
     let p = c .before .before .before .before .before .before .before .before .before .pre in
     (p .fits, let l = p .line in omega arith)
 
-moves-in-requires : tie.Need-moves-in-requires
-moves-in-requires c κs = search needs
-
-slice-aggregate-compare-run : tie.Need-slice-aggregate-compare-run
-slice-aggregate-compare-run c = search needs
-
 compare-run-requires : tie.Need-compare-run-requires
 compare-run-requires c κs =
     let p = c .before .before .before .before .before .before .before .before .before .before .before .before .before
@@ -71,14 +65,5 @@ returns c =
 
 pub end-row-spec : {M : Type 1} → statement M
 end-row-spec =
-    tie.close
-    (tie.spec
-    mul-base
-    keep-requires
-    finish-row-requires
-    count-rows-requires
-    moves-in-requires
-    slice-aggregate-compare-run
-    compare-run-requires
-    next-row-requires
-    returns)
+    tie.close (tie.spec mul-base keep-requires finish-row-requires count-rows-requires (λ c κs. search needs)
+    (λ c. search needs) compare-run-requires next-row-requires returns)

@@ -16,21 +16,6 @@ abbrev μ-loop : tie.MeasureT-loop
 loop-holds : tie.Need-loop-holds Inv-loop μ-loop
 loop-holds c = (omega arith, keeps-none _ _ _)
 
-add-kept : tie.Need-add-kept Inv-loop μ-loop
-add-kept c = search needs
-
-element-copy-out-kept : tie.Need-element-copy-out-kept Inv-loop μ-loop
-element-copy-out-kept c = search needs
-
-element-write-kept : tie.Need-element-write-kept Inv-loop μ-loop
-element-write-kept c = search needs
-
-add-j : tie.Need-add-j Inv-loop μ-loop
-add-j c = search needs
-
-loop-less : tie.Need-loop-less Inv-loop μ-loop
-loop-less c = omega arith
-
 loop-again : tie.Need-loop-again Inv-loop μ-loop
 loop-again c = (omega arith, keeps-more (c .before .before .loop .inv .1) (omega arith) refl)
 
@@ -39,15 +24,5 @@ returns c = let e : c .before .loop .j ≡ c .before .before .args .w = omega ar
 
 pub keep-spec : {M : Type 1} → statement M
 keep-spec =
-    tie.close
-    (tie.spec
-    Inv-loop
-    μ-loop
-    loop-holds
-    add-kept
-    element-copy-out-kept
-    element-write-kept
-    add-j
-    loop-less
-    loop-again
-    returns)
+    tie.close (tie.spec Inv-loop μ-loop loop-holds (λ c. search needs) (λ c. search needs) (λ c. search needs)
+    (λ c. search needs) (λ c. omega arith) loop-again returns)

@@ -16,15 +16,6 @@ returns-2 c h = absurd (omega arith)
 returns-3 : tie.Need-returns-3
 returns-3 c h = absurd (omega arith)
 
-div-fewer : tie.Need-div-fewer
-div-fewer c = search needs
-
-sub-fewer : tie.Need-sub-fewer
-sub-fewer c = search needs
-
-fewer-requires : tie.Need-fewer-requires
-fewer-requires c κs = search needs
-
 returns-4 : tie.Need-returns-4
 returns-4 c h =
     let p = c .before .before .before .before .before .before .before .before .before .before .before .pre in
@@ -47,4 +38,5 @@ returns-4 c h =
 
 pub plain-rows-spec : {M : Type 1} → statement M
 plain-rows-spec =
-    tie.close (tie.spec returns returns-2 returns-3 div-fewer sub-fewer fewer-requires returns-4)
+    tie.close (tie.spec returns returns-2 returns-3 (λ c. search needs) (λ c. search needs) (λ c κs. search needs)
+    returns-4)

@@ -15,21 +15,6 @@ abbrev μ-loop : tie.MeasureT-loop
 loop-holds : tie.Need-loop-holds Inv-loop μ-loop
 loop-holds c = (omega arith, puts-none _ _ _)
 
-shared-slice-read-picture : tie.Need-shared-slice-read-picture Inv-loop μ-loop
-shared-slice-read-picture c = omega arith
-
-add-picture : tie.Need-add-picture Inv-loop μ-loop
-add-picture c = omega arith
-
-element-write-picture : tie.Need-element-write-picture Inv-loop μ-loop
-element-write-picture c = omega arith
-
-add-j : tie.Need-add-j Inv-loop μ-loop
-add-j c = omega arith
-
-loop-less : tie.Need-loop-less Inv-loop μ-loop
-loop-less c = omega arith
-
 loop-again : tie.Need-loop-again Inv-loop μ-loop
 loop-again c = (omega arith, puts-more (c .before .before .loop .inv .1) (omega arith) refl)
 
@@ -38,15 +23,5 @@ returns c = let e : c .before .loop .j ≡ c .before .before .args .w = omega ar
 
 pub put-spec : {M : Type 1} → statement M
 put-spec =
-    tie.close
-    (tie.spec
-    Inv-loop
-    μ-loop
-    loop-holds
-    shared-slice-read-picture
-    add-picture
-    element-write-picture
-    add-j
-    loop-less
-    loop-again
-    returns)
+    tie.close (tie.spec Inv-loop μ-loop loop-holds (λ c. omega arith) (λ c. omega arith) (λ c. omega arith)
+    (λ c. omega arith) (λ c. omega arith) loop-again returns)

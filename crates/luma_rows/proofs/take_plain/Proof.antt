@@ -9,12 +9,6 @@ mul-base c =
     let a = c .before .before .before .args in
     omega (arith, rows-room (a .g) (a .s) (a .rest .now) (a .j) (c .before .before .before .pre))
 
-mul-k : tie.Need-mul-k
-mul-k c = search needs
-
-moves-in-requires : tie.Need-moves-in-requires
-moves-in-requires c κs = search needs
-
 compare-requires : tie.Need-compare-requires
 compare-requires c κs =
     let p = c .before .before .before .before .before .before .pre in
@@ -26,12 +20,6 @@ put-requires c κs =
     let p = c .before .before .before .before .before .before .before .before .pre in
     let a = c .before .before .before .before .before .before .before .before .args in
     (p .there, omega (arith, rows-room (a .g) (a .s) (a .rest .now) (a .j) p))
-
-count-rows-requires : tie.Need-count-rows-requires
-count-rows-requires c κs = search needs
-
-moved-to-requires : tie.Need-moved-to-requires
-moved-to-requires c κs = search needs
 
 next-row-requires : tie.Need-next-row-requires
 next-row-requires c κs =
@@ -59,14 +47,5 @@ returns c =
 
 pub take-plain-spec : {M : Type 1} → statement M
 take-plain-spec =
-    tie.close
-    (tie.spec
-    mul-base
-    mul-k
-    moves-in-requires
-    compare-requires
-    put-requires
-    count-rows-requires
-    moved-to-requires
-    next-row-requires
-    returns)
+    tie.close (tie.spec mul-base (λ c. search needs) (λ c κs. search needs) compare-requires put-requires
+    (λ c κs. search needs) (λ c κs. search needs) next-row-requires returns)

@@ -16,9 +16,6 @@ abbrev μ-loop : tie.MeasureT-loop
 loop-holds : tie.Need-loop-holds Inv-loop μ-loop
 loop-holds c = (omega arith, omega arith, tallied-first (c .args .luma .now) (c .args .n) (c .args .d))
 
-next-start-requires : tie.Need-next-start-requires Inv-loop μ-loop
-next-start-requires c κs = search needs
-
 add-scenes : tie.Need-add-scenes Inv-loop μ-loop
 add-scenes c = omega (arith, c .next-start .ensures .more (c .before .loop-test .taken), c .next-start .ensures .most)
 
@@ -44,13 +41,4 @@ returns c =
 
 pub count-spec : {M : Type 1} → statement M
 count-spec =
-    tie.close
-    (tie.spec
-    Inv-loop
-    μ-loop
-    loop-holds
-    next-start-requires
-    add-scenes
-    loop-less
-    loop-again
-    returns)
+    tie.close (tie.spec Inv-loop μ-loop loop-holds (λ c κs. search needs) add-scenes loop-less loop-again returns)

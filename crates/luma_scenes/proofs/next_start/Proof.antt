@@ -19,28 +19,10 @@ returns c = record { most = omega arith; more = omega arith; next = λ ss rs qs 
 returns-2 : tie.Need-returns-2 Inv-loop μ-loop
 returns-2 c = record { most = omega arith; more = omega arith; next = λ ss rs qs h k g. absurd (omega arith) }
 
-add-i : tie.Need-add-i Inv-loop μ-loop
-add-i c = omega arith
-
 loop-holds : tie.Need-loop-holds Inv-loop μ-loop
 loop-holds c =
     let a = c .before .before .args in
     (omega arith, omega arith, omega arith, seeks-first (a .luma .now) (a .n) (a .d) (a .b))
-
-add-figure : tie.Need-add-figure Inv-loop μ-loop
-add-figure c = omega arith
-
-figure-requires : tie.Need-figure-requires Inv-loop μ-loop
-figure-requires c κs = omega arith
-
-add-sum : tie.Need-add-sum Inv-loop μ-loop
-add-sum c = omega arith
-
-sub-starts-scene : tie.Need-sub-starts-scene Inv-loop μ-loop
-sub-starts-scene c = omega arith
-
-starts-scene-requires : tie.Need-starts-scene-requires Inv-loop μ-loop
-starts-scene-requires c κs = omega arith
 
 returns-3 : tie.Need-returns-3 Inv-loop μ-loop
 returns-3 c =
@@ -49,12 +31,6 @@ returns-3 c =
     seeks-found (a .luma .now) (a .n) (a .d) (a .b) (l .sum) (l .i) (l .inv .3) (l .inv .0)
     (c .before .before .figure .result) _ (c .before .before .figure .ensures) refl
     (c .before .before .before .loop-test .taken) (sym (c .if3 .taken) ∙ c .before .starts-scene .ensures)
-
-add-i-2 : tie.Need-add-i-2 Inv-loop μ-loop
-add-i-2 c = omega arith
-
-loop-less : tie.Need-loop-less Inv-loop μ-loop
-loop-less c = omega arith
 
 loop-again : tie.Need-loop-again Inv-loop μ-loop
 loop-again c =
@@ -76,21 +52,6 @@ returns-4 c =
 
 pub next-start-spec : {M : Type 1} → statement M
 next-start-spec =
-    tie.close
-    (tie.spec
-    Inv-loop
-    μ-loop
-    returns
-    returns-2
-    add-i
-    loop-holds
-    add-figure
-    figure-requires
-    add-sum
-    sub-starts-scene
-    starts-scene-requires
-    returns-3
-    add-i-2
-    loop-less
-    loop-again
-    returns-4)
+    tie.close (tie.spec Inv-loop μ-loop returns returns-2 (λ c. omega arith) loop-holds (λ c. omega arith)
+    (λ c κs. omega arith) (λ c. omega arith) (λ c. omega arith) (λ c κs. omega arith) returns-3 (λ c. omega arith)
+    (λ c. omega arith) loop-again returns-4)

@@ -15,17 +15,8 @@ abbrev μ-loop : tie.MeasureT-loop
 loop-holds : tie.Need-loop-holds Inv-loop μ-loop
 loop-holds c = (omega arith, omega arith, omega arith, λ n rs h g e. (g, omega arith))
 
-repeat-bit-requires : tie.Need-repeat-bit-requires Inv-loop μ-loop
-repeat-bit-requires c κs = omega arith
-
 add-found : tie.Need-add-found Inv-loop μ-loop
 add-found c = omega (arith, bit-small (c .before .before .before .args .luma .now) (c .before .before .loop .k))
-
-add-k : tie.Need-add-k Inv-loop μ-loop
-add-k c = omega arith
-
-loop-less : tie.Need-loop-less Inv-loop μ-loop
-loop-less c = omega arith
 
 loop-again : tie.Need-loop-again Inv-loop μ-loop
 loop-again c =
@@ -51,14 +42,5 @@ returns c =
 
 pub repeated-spec : {M : Type 1} → statement M
 repeated-spec =
-    tie.close
-    (tie.spec
-    Inv-loop
-    μ-loop
-    loop-holds
-    repeat-bit-requires
-    add-found
-    add-k
-    loop-less
-    loop-again
-    returns)
+    tie.close (tie.spec Inv-loop μ-loop loop-holds (λ c κs. omega arith) add-found (λ c. omega arith)
+    (λ c. omega arith) loop-again returns)

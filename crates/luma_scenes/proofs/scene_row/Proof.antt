@@ -5,53 +5,11 @@ use borrow.Author.Needs.{needs}
 use Rattle.luma_scenes.proofs.scene_row.Statement.{statement}
 use Rattle.luma_scenes.proofs.scene_row.Tie as tie
 
-no-scene-requires : tie.Need-no-scene-requires
-no-scene-requires c κs = search needs
-
 returns : tie.Need-returns
 returns c = λ n ss rs qs h g f. absurd (omega (arith, h .few))
 
-no-scene-requires-2 : tie.Need-no-scene-requires-2
-no-scene-requires-2 c κs = search needs
-
 returns-2 : tie.Need-returns-2
 returns-2 c = λ n ss rs qs h g f. absurd (omega arith)
-
-cast-t5 : tie.Need-cast-t5
-cast-t5 c = search needs
-
-cast-t7 : tie.Need-cast-t7
-cast-t7 c = search needs
-
-repeated-requires : tie.Need-repeated-requires
-repeated-requires c κs = search needs
-
-low-requires : tie.Need-low-requires
-low-requires c κs = search needs
-
-longest-requires : tie.Need-longest-requires
-longest-requires c κs = search needs
-
-low-requires-2 : tie.Need-low-requires-2
-low-requires-2 c κs = search needs
-
-total-requires : tie.Need-total-requires
-total-requires c κs = search needs
-
-low-requires-3 : tie.Need-low-requires-3
-low-requires-3 c κs = search needs
-
-peak-requires : tie.Need-peak-requires
-peak-requires c κs = search needs
-
-low-requires-4 : tie.Need-low-requires-4
-low-requires-4 c κs = search needs
-
-total-requires-2 : tie.Need-total-requires-2
-total-requires-2 c κs = search needs
-
-low-requires-5 : tie.Need-low-requires-5
-low-requires-5 c κs = search needs
 
 returns-3 : tie.Need-returns-3
 returns-3 c =
@@ -75,22 +33,7 @@ returns-3 c =
 
 pub scene-row-spec : {M : Type 1} → statement M
 scene-row-spec =
-    tie.close
-    (tie.spec
-    no-scene-requires
-    returns
-    no-scene-requires-2
-    returns-2
-    cast-t5
-    cast-t7
-    repeated-requires
-    low-requires
-    longest-requires
-    low-requires-2
-    total-requires
-    low-requires-3
-    peak-requires
-    low-requires-4
-    total-requires-2
-    low-requires-5
-    returns-3)
+    tie.close (tie.spec (λ c κs. search needs) returns (λ c κs. search needs) returns-2 (λ c. search needs)
+    (λ c. search needs) (λ c κs. search needs) (λ c κs. search needs) (λ c κs. search needs) (λ c κs. search needs)
+    (λ c κs. search needs) (λ c κs. search needs) (λ c κs. search needs) (λ c κs. search needs) (λ c κs. search needs)
+    (λ c κs. search needs) returns-3)

@@ -37,12 +37,6 @@ returns c =
 returns-2 : tie.Need-returns-2
 returns-2 c = let a = c .before .before .args in no-cut (a .d) (a .n) (a .s) (a .sum) (c .if2 .taken)
 
-mul-result : tie.Need-mul-result
-mul-result c = search needs
-
-sub-result : tie.Need-sub-result
-sub-result c = search needs
-
 mul-result-2 : tie.Need-mul-result-2
 mul-result-2 c =
     let a = c .before .before .args in
@@ -53,4 +47,5 @@ returns-3 c =
     let a = c .before .before .args in by-mean (a .d) (a .n) (a .s) (a .sum) (c .before .if1 .left) (c .if2 .left)
 
 pub starts-scene-spec : {M : Type 1} → statement M
-starts-scene-spec = tie.close (tie.spec mul-if1 returns returns-2 mul-result sub-result mul-result-2 returns-3)
+starts-scene-spec =
+    tie.close (tie.spec mul-if1 returns returns-2 (λ c. search needs) (λ c. search needs) mul-result-2 returns-3)

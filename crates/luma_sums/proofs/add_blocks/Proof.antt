@@ -8,9 +8,6 @@ returns c =
     let a = c .before .before .args in
     added-past (a .n) (a .w) _ (a .c) _ _ (c .before .before .pre .some) (omega arith) (c .if1 .taken)
 
-sub-fitting : tie.Need-sub-fitting
-sub-fitting c = omega arith
-
 fitting-requires : tie.Need-fitting-requires
 fitting-requires c κs = let p = c .before .before .pre in (p .some, p .few, omega (arith, p .room))
 
@@ -63,15 +60,5 @@ returns-2 c =
 
 pub add-blocks-spec : {M : Type 1} → statement M
 add-blocks-spec =
-    tie.close
-    (tie.spec
-    returns
-    sub-fitting
-    fitting-requires
-    blocks-requires
-    mul-done
-    add-part
-    add-part-2
-    sub-part
-    part-requires
-    returns-2)
+    tie.close (tie.spec returns (λ c. omega arith) fitting-requires blocks-requires mul-done add-part add-part-2
+    sub-part part-requires returns-2)

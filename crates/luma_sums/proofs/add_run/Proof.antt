@@ -16,9 +16,6 @@ returns : tie.Need-returns
 returns c = rw (c .before .before .if1 .taken, ← zero-mul (c .before .before .before .before .args .n))
     (c .add-blocks .ensures)
 
-div-c : tie.Need-div-c
-div-c c = search needs
-
 mul-least : tie.Need-mul-least
 mul-least c = omega (arith, div-mul-le-self (c .before .before .args .x) (c .before .before .args .n))
 
@@ -27,12 +24,6 @@ add-least c = omega (arith, div-mul-le-self (c .before .before .args .x) (c .bef
 
 sub-least : tie.Need-sub-least
 sub-least c = omega (arith, lt-div-mul-add {a = c .before .before .args .x} (c .before .before .pre .some))
-
-least-requires : tie.Need-least-requires
-least-requires c κs = search needs
-
-part-requires : tie.Need-part-requires
-part-requires c κs = search needs
 
 returns-2 : tie.Need-returns-2
 returns-2 c =
@@ -88,19 +79,6 @@ returns-3 c =
 
 pub add-run-spec : {M : Type 1} → statement M
 add-run-spec =
-    tie.close
-    (tie.spec
-    add-blocks-requires
-    returns
-    div-c
-    mul-least
-    add-least
-    sub-least
-    least-requires
-    part-requires
-    returns-2
-    add-add-blocks
-    add-add-blocks-2
-    sub-add-blocks
-    add-blocks-requires-2
-    returns-3)
+    tie.close (tie.spec add-blocks-requires returns (λ c. search needs) mul-least add-least sub-least
+    (λ c κs. search needs) (λ c κs. search needs) returns-2 add-add-blocks add-add-blocks-2 sub-add-blocks
+    add-blocks-requires-2 returns-3)

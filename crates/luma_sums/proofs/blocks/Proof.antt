@@ -46,19 +46,5 @@ returns-7 c = c .whole7 .ensures
 
 pub blocks-spec : {M : Type 1} → statement M
 blocks-spec =
-    tie.close
-    (tie.spec
-    whole-requires
-    whole-requires-2
-    whole-requires-3
-    whole-requires-4
-    whole-requires-5
-    whole-requires-6
-    whole-requires-7
-    returns
-    returns-2
-    returns-3
-    returns-4
-    returns-5
-    returns-6
-    returns-7)
+    tie.close (tie.spec whole-requires whole-requires-2 whole-requires-3 whole-requires-4 whole-requires-5
+    whole-requires-6 whole-requires-7 returns returns-2 returns-3 returns-4 returns-5 returns-6 returns-7)

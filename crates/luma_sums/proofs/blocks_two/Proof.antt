@@ -27,13 +27,5 @@ returns-4 c = c .whole-two4 .ensures
 
 pub blocks-two-spec : {M : Type 1} → statement M
 blocks-two-spec =
-    tie.close
-    (tie.spec
-    whole-two-requires
-    whole-two-requires-2
-    whole-two-requires-3
-    whole-two-requires-4
-    returns
-    returns-2
-    returns-3
-    returns-4)
+    tie.close (tie.spec whole-two-requires whole-two-requires-2 whole-two-requires-3 whole-two-requires-4 returns
+    returns-2 returns-3 returns-4)

@@ -6,9 +6,6 @@ use Rattle.luma_sums.proofs.fitting.Tie as tie
 mul-if1 : tie.Need-mul-if1
 mul-if1 c = omega (arith, mul-le-mul (c .pre .2) (c .pre .1))
 
-div-result : tie.Need-div-result
-div-result c = omega arith
-
 returns : tie.Need-returns
 returns c = (omega arith, c .if1 .taken, λ h. absurd (omega arith))
 
@@ -19,4 +16,4 @@ returns-2 c =
     (omega (arith, less), div-mul-le-self (a .m) (a .n), λ h. lt-div-mul-add {a = a .m} (c .before .pre .0))
 
 pub fitting-spec : {M : Type 1} → statement M
-fitting-spec = tie.close (tie.spec mul-if1 div-result returns returns-2)
+fitting-spec = tie.close (tie.spec mul-if1 (λ c. omega arith) returns returns-2)

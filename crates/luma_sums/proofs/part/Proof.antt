@@ -7,21 +7,6 @@ use Rattle.luma_sums.proofs.part.Tie as tie
 run-sum-requires : tie.Need-run-sum-requires
 run-sum-requires c κs = (omega arith, c .before .before .pre .2 (c .if1 .taken))
 
-mul-wrapping-add-u32 : tie.Need-mul-wrapping-add-u32
-mul-wrapping-add-u32 c = search needs
-
-element-copy-out-wrapping-add-u32 : tie.Need-element-copy-out-wrapping-add-u32
-element-copy-out-wrapping-add-u32 c = search needs
-
-wrapping-add-u32-requires : tie.Need-wrapping-add-u32-requires
-wrapping-add-u32-requires c κs = search needs
-
-mul-sums : tie.Need-mul-sums
-mul-sums c = search needs
-
-element-write-sums : tie.Need-element-write-sums
-element-write-sums c = search needs
-
 returns : tie.Need-returns
 returns c =
     let a = c .before .before .before .before .before .args in
@@ -34,13 +19,5 @@ returns-2 c n q p lo hi = added-past n _ q (c .before .before .args .c) _ _ p lo
 
 pub part-spec : {M : Type 1} → statement M
 part-spec =
-    tie.close
-    (tie.spec
-    run-sum-requires
-    mul-wrapping-add-u32
-    element-copy-out-wrapping-add-u32
-    wrapping-add-u32-requires
-    mul-sums
-    element-write-sums
-    returns
-    returns-2)
+    tie.close (tie.spec run-sum-requires (λ c. search needs) (λ c. search needs) (λ c κs. search needs)
+    (λ c. search needs) (λ c. search needs) returns returns-2)

@@ -24,38 +24,11 @@ run-sum-requires c κs =
     let h = inside (c .before .before .before .args .n) (c .loop-test .taken) in
     (omega (arith, h), omega arith)
 
-add-wrapping-add-u32 : tie.Need-add-wrapping-add-u32 Inv-loop μ-loop
-add-wrapping-add-u32 c = search needs
-
-mul-wrapping-add-u32 : tie.Need-mul-wrapping-add-u32 Inv-loop μ-loop
-mul-wrapping-add-u32 c = search needs
-
-element-copy-out-wrapping-add-u32 : tie.Need-element-copy-out-wrapping-add-u32 Inv-loop μ-loop
-element-copy-out-wrapping-add-u32 c = search needs
-
-wrapping-add-u32-requires : tie.Need-wrapping-add-u32-requires Inv-loop μ-loop
-wrapping-add-u32-requires c κs = search needs
-
-add-sums : tie.Need-add-sums Inv-loop μ-loop
-add-sums c = search needs
-
-mul-sums : tie.Need-mul-sums Inv-loop μ-loop
-mul-sums c = search needs
-
-element-write-sums : tie.Need-element-write-sums Inv-loop μ-loop
-element-write-sums c = search needs
-
 add-from : tie.Need-add-from Inv-loop μ-loop
 add-from c = omega (
   arith,
   inside (c .before .before .before .before .before .before .args .n) (c .before .before .before .loop-test .taken),
 )
-
-add-j : tie.Need-add-j Inv-loop μ-loop
-add-j c = search needs
-
-loop-less : tie.Need-loop-less Inv-loop μ-loop
-loop-less c = omega arith
 
 loop-again : tie.Need-loop-again Inv-loop μ-loop
 loop-again c =
@@ -77,21 +50,6 @@ returns c =
 
 pub whole-spec : {M : Type 1} → statement M
 whole-spec =
-    tie.close
-    (tie.spec
-    Inv-loop
-    μ-loop
-    loop-holds
-    run-sum-requires
-    add-wrapping-add-u32
-    mul-wrapping-add-u32
-    element-copy-out-wrapping-add-u32
-    wrapping-add-u32-requires
-    add-sums
-    mul-sums
-    element-write-sums
-    add-from
-    add-j
-    loop-less
-    loop-again
-    returns)
+    tie.close (tie.spec Inv-loop μ-loop loop-holds run-sum-requires (λ c. search needs) (λ c. search needs)
+    (λ c. search needs) (λ c κs. search needs) (λ c. search needs) (λ c. search needs) (λ c. search needs) add-from
+    (λ c. search needs) (λ c. omega arith) loop-again returns)

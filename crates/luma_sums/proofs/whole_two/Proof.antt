@@ -36,24 +36,6 @@ run-sum-requires-2 c κs =
     let h = inside (c .before .before .before .before .args .n) (c .before .loop-test .taken) in
     (omega (arith, h), omega arith)
 
-mul-wrapping-add-u32 : tie.Need-mul-wrapping-add-u32 Inv-loop μ-loop
-mul-wrapping-add-u32 c = search needs
-
-element-copy-out-wrapping-add-u32 : tie.Need-element-copy-out-wrapping-add-u32 Inv-loop μ-loop
-element-copy-out-wrapping-add-u32 c = search needs
-
-wrapping-add-u32-requires : tie.Need-wrapping-add-u32-requires Inv-loop μ-loop
-wrapping-add-u32-requires c κs = search needs
-
-wrapping-add-u32-requires-2 : tie.Need-wrapping-add-u32-requires-2 Inv-loop μ-loop
-wrapping-add-u32-requires-2 c κs = search needs
-
-mul-sums : tie.Need-mul-sums Inv-loop μ-loop
-mul-sums c = search needs
-
-element-write-sums : tie.Need-element-write-sums Inv-loop μ-loop
-element-write-sums c = search needs
-
 add-from : tie.Need-add-from Inv-loop μ-loop
 add-from c = omega (
   arith,
@@ -67,12 +49,6 @@ add-under c = omega (
   inside (c .before .before .before .before .before .before .before .before .args .n)
       (c .before .before .before .before .before .loop-test .taken),
 )
-
-add-j : tie.Need-add-j Inv-loop μ-loop
-add-j c = search needs
-
-loop-less : tie.Need-loop-less Inv-loop μ-loop
-loop-less c = omega arith
 
 loop-again : tie.Need-loop-again Inv-loop μ-loop
 loop-again c =
@@ -103,22 +79,6 @@ returns c =
 
 pub whole-two-spec : {M : Type 1} → statement M
 whole-two-spec =
-    tie.close
-    (tie.spec
-    Inv-loop
-    μ-loop
-    loop-holds
-    run-sum-requires
-    run-sum-requires-2
-    mul-wrapping-add-u32
-    element-copy-out-wrapping-add-u32
-    wrapping-add-u32-requires
-    wrapping-add-u32-requires-2
-    mul-sums
-    element-write-sums
-    add-from
-    add-under
-    add-j
-    loop-less
-    loop-again
-    returns)
+    tie.close (tie.spec Inv-loop μ-loop loop-holds run-sum-requires run-sum-requires-2 (λ c. search needs)
+    (λ c. search needs) (λ c κs. search needs) (λ c κs. search needs) (λ c. search needs) (λ c. search needs) add-from
+    add-under (λ c. search needs) (λ c. omega arith) loop-again returns)

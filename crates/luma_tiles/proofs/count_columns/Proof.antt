@@ -18,44 +18,14 @@ loop-holds c =
     let a = c .before .args in
     (omega arith, three-none (a .base) (a .t) (a .x) (a .y) (a .z) (a .pixels .now) _)
 
-add-count : tie.Need-add-count Inv-loop μ-loop
-add-count c = omega arith
-
-shared-slice-read-count : tie.Need-shared-slice-read-count Inv-loop μ-loop
-shared-slice-read-count c = omega arith
-
 count-requires : tie.Need-count-requires Inv-loop μ-loop
 count-requires c κs = (omega arith, omega arith)
-
-add-count-2 : tie.Need-add-count-2 Inv-loop μ-loop
-add-count-2 c = omega arith
-
-add-count-3 : tie.Need-add-count-3 Inv-loop μ-loop
-add-count-3 c = omega arith
-
-shared-slice-read-count-2 : tie.Need-shared-slice-read-count-2 Inv-loop μ-loop
-shared-slice-read-count-2 c = omega arith
 
 count-requires-2 : tie.Need-count-requires-2 Inv-loop μ-loop
 count-requires-2 c κs = (omega arith, omega arith)
 
-add-count-4 : tie.Need-add-count-4 Inv-loop μ-loop
-add-count-4 c = omega arith
-
-add-count-5 : tie.Need-add-count-5 Inv-loop μ-loop
-add-count-5 c = omega arith
-
-shared-slice-read-count-3 : tie.Need-shared-slice-read-count-3 Inv-loop μ-loop
-shared-slice-read-count-3 c = omega arith
-
 count-requires-3 : tie.Need-count-requires-3 Inv-loop μ-loop
 count-requires-3 c κs = (omega arith, omega arith)
-
-add-i : tie.Need-add-i Inv-loop μ-loop
-add-i c = omega arith
-
-loop-less : tie.Need-loop-less Inv-loop μ-loop
-loop-less c = omega arith
 
 loop-again : tie.Need-loop-again Inv-loop μ-loop
 loop-again c =
@@ -76,23 +46,6 @@ returns c =
 
 pub count-columns-spec : {M : Type 1} → statement M
 count-columns-spec =
-    tie.close
-    (tie.spec
-    Inv-loop
-    μ-loop
-    loop-holds
-    add-count
-    shared-slice-read-count
-    count-requires
-    add-count-2
-    add-count-3
-    shared-slice-read-count-2
-    count-requires-2
-    add-count-4
-    add-count-5
-    shared-slice-read-count-3
-    count-requires-3
-    add-i
-    loop-less
-    loop-again
-    returns)
+    tie.close (tie.spec Inv-loop μ-loop loop-holds (λ c. omega arith) (λ c. omega arith) count-requires
+    (λ c. omega arith) (λ c. omega arith) (λ c. omega arith) count-requires-2 (λ c. omega arith) (λ c. omega arith)
+    (λ c. omega arith) count-requires-3 (λ c. omega arith) (λ c. omega arith) loop-again returns)

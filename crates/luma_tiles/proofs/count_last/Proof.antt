@@ -4,12 +4,6 @@ use Rattle.luma_tiles.proofs.Laws.{run-one, last-none}
 use Rattle.luma_tiles.proofs.count_last.Statement.{statement}
 use Rattle.luma_tiles.proofs.count_last.Tie as tie
 
-shared-slice-read-count : tie.Need-shared-slice-read-count
-shared-slice-read-count c = omega arith
-
-count-requires : tie.Need-count-requires
-count-requires c κs = search needs
-
 returns : tie.Need-returns
 returns c =
     let a = c .before .before .before .before .before .args in
@@ -21,4 +15,4 @@ returns-2 c =
     last-none (a .base) (a .t) (a .from) (a .m) (a .pixels .now) _ (omega arith)
 
 pub count-last-spec : {M : Type 1} → statement M
-count-last-spec = tie.close (tie.spec shared-slice-read-count count-requires returns returns-2)
+count-last-spec = tie.close (tie.spec (λ c. omega arith) (λ c κs. search needs) returns returns-2)

@@ -8,15 +8,6 @@ use borrow.Author.Needs.{needs}
 use Rattle.luma_tiles.proofs.count_row.Statement.{statement}
 use Rattle.luma_tiles.proofs.count_row.Tie as tie
 
-mul-from : tie.Need-mul-from
-mul-from c = search needs
-
-mul-t : tie.Need-mul-t
-mul-t c = search needs
-
-div-t : tie.Need-div-t
-div-t c = search needs
-
 mul-t-2 : tie.Need-mul-t-2
 unfolding third
 mul-t-2 c =
@@ -116,23 +107,6 @@ returns c =
 
 pub count-row-spec : {M : Type 1} → statement M
 count-row-spec =
-    tie.close
-    (tie.spec
-    mul-from
-    mul-t
-    div-t
-    mul-t-2
-    sub-m
-    add-count-columns
-    add-count-columns-2
-    count-columns-requires
-    add-count-last
-    sub-count-last
-    count-last-requires
-    add-count-last-2
-    add-count-last-3
-    add-count-last-4
-    sub-count-last-2
-    sub-count-last-3
-    count-last-requires-2
-    returns)
+    tie.close (tie.spec (λ c. search needs) (λ c. search needs) (λ c. search needs) mul-t-2 sub-m add-count-columns
+    add-count-columns-2 count-columns-requires add-count-last sub-count-last count-last-requires add-count-last-2
+    add-count-last-3 add-count-last-4 sub-count-last-2 sub-count-last-3 count-last-requires-2 returns)

@@ -10,18 +10,6 @@ use Rattle.program_text.proofs.Counted.{counted}
 use Rattle.program_text.proofs.put_bits.Statement.{statement}
 use Rattle.program_text.proofs.put_bits.Tie as tie
 
-put-text-requires : tie.Need-put-text-requires
-put-text-requires c κs = search needs
-
-put-hex-requires : tie.Need-put-hex-requires
-put-hex-requires c κs = search needs
-
-put-text-requires-2 : tie.Need-put-text-requires-2
-put-text-requires-2 c κs = search needs
-
-same-length : tie.Need-same-length
-same-length c = search needs
-
 returns : tie.Need-returns
 unfolding bitsText
 returns c =
@@ -57,5 +45,5 @@ returns c =
 
 pub put-bits-spec : {M : Type 1} → statement M
 put-bits-spec =
-    tie.close
-    (tie.spec put-text-requires put-hex-requires put-text-requires-2 same-length returns)
+    tie.close (tie.spec (λ c κs. search needs) (λ c κs. search needs) (λ c κs. search needs) (λ c. search needs)
+    returns)

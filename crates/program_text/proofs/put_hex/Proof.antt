@@ -21,38 +21,11 @@ abbrev μ-loop : tie.MeasureT-loop
 loop-holds : tie.Need-loop-holds Inv-loop μ-loop
 loop-holds c = (omega arith, refl, none-yet (c .before .before .args .bytes .now) (c .before .before .args .text .now))
 
-shared-slice-read-digit : tie.Need-shared-slice-read-digit Inv-loop μ-loop
-shared-slice-read-digit c = omega arith
-
 digit-requires : tie.Need-digit-requires Inv-loop μ-loop
 digit-requires c κs = omega (arith, c .shared-slice-known2 .given (c .before .before .loop .i))
 
-mul-text : tie.Need-mul-text Inv-loop μ-loop
-mul-text c = omega arith
-
-slice-write-text : tie.Need-slice-write-text Inv-loop μ-loop
-slice-write-text c = omega arith
-
-shared-slice-read-digit-2 : tie.Need-shared-slice-read-digit-2 Inv-loop μ-loop
-shared-slice-read-digit-2 c = omega arith
-
-digit-requires-2 : tie.Need-digit-requires-2 Inv-loop μ-loop
-digit-requires-2 c κs = omega arith
-
-mul-text-2 : tie.Need-mul-text-2 Inv-loop μ-loop
-mul-text-2 c = omega arith
-
-add-text : tie.Need-add-text Inv-loop μ-loop
-add-text c = omega arith
-
 slice-write-text-2 : tie.Need-slice-write-text-2 Inv-loop μ-loop
 slice-write-text-2 c = simp length-set (omega arith)
-
-add-i : tie.Need-add-i Inv-loop μ-loop
-add-i c = omega arith
-
-loop-less : tie.Need-loop-less Inv-loop μ-loop
-loop-less c = omega arith
 
 loop-again : tie.Need-loop-again Inv-loop μ-loop
 loop-again c =
@@ -63,9 +36,6 @@ loop-again c =
     let more = byte-more (start .args .bytes .now) (start .args .text .now) (turn .text) (turn .i) (omega arith)
     (start .pre) (turn .inv .2) (high .result) (low .result) (high .ensures) (low .ensures) in
     (omega arith, simp length-set (turn .inv .1), more)
-
-mul-result : tie.Need-mul-result Inv-loop μ-loop
-mul-result c = omega arith
 
 same-length : tie.Need-same-length Inv-loop μ-loop
 same-length c = c .before .loop .inv .1
@@ -80,23 +50,6 @@ returns c =
 
 pub put-hex-spec : {M : Type 1} → statement M
 put-hex-spec =
-    tie.close
-    (tie.spec
-    Inv-loop
-    μ-loop
-    loop-holds
-    shared-slice-read-digit
-    digit-requires
-    mul-text
-    slice-write-text
-    shared-slice-read-digit-2
-    digit-requires-2
-    mul-text-2
-    add-text
-    slice-write-text-2
-    add-i
-    loop-less
-    loop-again
-    mul-result
-    same-length
-    returns)
+    tie.close (tie.spec Inv-loop μ-loop loop-holds (λ c. omega arith) digit-requires (λ c. omega arith)
+    (λ c. omega arith) (λ c. omega arith) (λ c κs. omega arith) (λ c. omega arith) (λ c. omega arith)
+    slice-write-text-2 (λ c. omega arith) (λ c. omega arith) loop-again (λ c. omega arith) same-length returns)

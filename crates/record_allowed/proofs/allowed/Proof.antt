@@ -7,30 +7,9 @@ use borrow.Author.Needs.{needs}
 use Rattle.record_allowed.proofs.allowed.Statement.{statement}
 use Rattle.record_allowed.proofs.allowed.Tie as tie
 
-allowed-header-requires : tie.Need-allowed-header-requires
-allowed-header-requires c κs = search needs
-
 returns : tie.Need-returns
 returns c = no-header (c .before .before .before .args .bytes .now) _ (c .before .allowed-header .ensures)
     (not-true _ (c .if1 .taken))
-
-word32-requires : tie.Need-word32-requires
-word32-requires c κs = search needs
-
-cast-units : tie.Need-cast-units
-cast-units c = search needs
-
-word32-requires-2 : tie.Need-word32-requires-2
-word32-requires-2 c κs = search needs
-
-cast-scenes : tie.Need-cast-scenes
-cast-scenes c = search needs
-
-word-requires : tie.Need-word-requires
-word-requires c κs = search needs
-
-knows-damage-requires : tie.Need-knows-damage-requires
-knows-damage-requires c κs = search needs
 
 allowed-units-requires : tie.Need-allowed-units-requires
 allowed-units-requires c κs =
@@ -51,15 +30,6 @@ returns-2 c =
     (c .before .before .before .before .word322 .ensures) refl (c .before .before .before .word .ensures .0)
     (c .before .before .knows-damage .ensures)
     _ (c .before .allowed-units .ensures) (not-true _ (c .if2 .taken))
-
-mul-allowed-scenes : tie.Need-mul-allowed-scenes
-mul-allowed-scenes c = search needs
-
-add-allowed-scenes : tie.Need-add-allowed-scenes
-add-allowed-scenes c = search needs
-
-word-requires-2 : tie.Need-word-requires-2
-word-requires-2 c κs = search needs
 
 allowed-scenes-requires : tie.Need-allowed-scenes-requires
 allowed-scenes-requires c κs =
@@ -86,20 +56,6 @@ returns-3 c =
 
 pub allowed-spec : {M : Type 1} → statement M
 allowed-spec =
-    tie.close
-    (tie.spec
-    allowed-header-requires
-    returns
-    word32-requires
-    cast-units
-    word32-requires-2
-    cast-scenes
-    word-requires
-    knows-damage-requires
-    allowed-units-requires
-    returns-2
-    mul-allowed-scenes
-    add-allowed-scenes
-    word-requires-2
-    allowed-scenes-requires
-    returns-3)
+    tie.close (tie.spec (λ c κs. search needs) returns (λ c κs. search needs) (λ c. search needs)
+    (λ c κs. search needs) (λ c. search needs) (λ c κs. search needs) (λ c κs. search needs) allowed-units-requires
+    returns-2 (λ c. search needs) (λ c. search needs) (λ c κs. search needs) allowed-scenes-requires returns-3)

@@ -4,72 +4,6 @@ use Rattle.rules.specs.Reading.{allowedHeader}
 use Rattle.record_allowed.proofs.allowed_header.Statement.{statement}
 use Rattle.record_allowed.proofs.allowed_header.Tie as tie
 
-word-requires : tie.Need-word-requires
-word-requires c κs = search needs
-
-word-requires-2 : tie.Need-word-requires-2
-word-requires-2 c κs = search needs
-
-word-requires-3 : tie.Need-word-requires-3
-word-requires-3 c κs = search needs
-
-word-requires-4 : tie.Need-word-requires-4
-word-requires-4 c κs = search needs
-
-word32-requires : tie.Need-word32-requires
-word32-requires c κs = search needs
-
-is-edition-requires : tie.Need-is-edition-requires
-is-edition-requires c κs = search needs
-
-add-whole : tie.Need-add-whole
-add-whole c = search needs
-
-mul-whole : tie.Need-mul-whole
-mul-whole c = search needs
-
-add-whole-2 : tie.Need-add-whole-2
-add-whole-2 c = search needs
-
-word-requires-5 : tie.Need-word-requires-5
-word-requires-5 c κs = search needs
-
-word-requires-6 : tie.Need-word-requires-6
-word-requires-6 c κs = search needs
-
-mul-whole-2 : tie.Need-mul-whole-2
-mul-whole-2 c = search needs
-
-add-whole-3 : tie.Need-add-whole-3
-add-whole-3 c = search needs
-
-word32-requires-2 : tie.Need-word32-requires-2
-word32-requires-2 c κs = search needs
-
-word32-requires-3 : tie.Need-word32-requires-3
-word32-requires-3 c κs = search needs
-
-good-size-requires : tie.Need-good-size-requires
-good-size-requires c κs = search needs
-
-word32-requires-4 : tie.Need-word32-requires-4
-word32-requires-4 c κs = search needs
-
-good-time-requires : tie.Need-good-time-requires
-good-time-requires c κs = search needs
-
-word32-requires-5 : tie.Need-word32-requires-5
-word32-requires-5 c κs = search needs
-
-good-pid-requires : tie.Need-good-pid-requires
-good-pid-requires c κs = search needs
-
-word-requires-7 : tie.Need-word-requires-7
-word-requires-7 c κs = search needs
-
-word-requires-8 : tie.Need-word-requires-8
-word-requires-8 c κs = search needs
-
 returns : tie.Need-returns
 unfolding allowedHeader recordLength sceneOffset
 returns c =
@@ -110,28 +44,8 @@ returns c =
 
 pub allowed-header-spec : {M : Type 1} → statement M
 allowed-header-spec =
-    tie.close
-    (tie.spec
-    word-requires
-    word-requires-2
-    word-requires-3
-    word-requires-4
-    word32-requires
-    is-edition-requires
-    add-whole
-    mul-whole
-    add-whole-2
-    word-requires-5
-    word-requires-6
-    mul-whole-2
-    add-whole-3
-    word32-requires-2
-    word32-requires-3
-    good-size-requires
-    word32-requires-4
-    good-time-requires
-    word32-requires-5
-    good-pid-requires
-    word-requires-7
-    word-requires-8
-    returns)
+    tie.close (tie.spec (λ c κs. search needs) (λ c κs. search needs) (λ c κs. search needs) (λ c κs. search needs)
+    (λ c κs. search needs) (λ c κs. search needs) (λ c. search needs) (λ c. search needs) (λ c. search needs)
+    (λ c κs. search needs) (λ c κs. search needs) (λ c. search needs) (λ c. search needs) (λ c κs. search needs)
+    (λ c κs. search needs) (λ c κs. search needs) (λ c κs. search needs) (λ c κs. search needs) (λ c κs. search needs)
+    (λ c κs. search needs) (λ c κs. search needs) (λ c κs. search needs) returns)

@@ -19,21 +19,6 @@ abbrev μ-loop : tie.MeasureT-loop
 loop-holds : tie.Need-loop-holds Inv-loop μ-loop
 loop-holds c = (omega arith, omega arith, rw (sub-zero, add-zero))
 
-mul-at : tie.Need-mul-at Inv-loop μ-loop
-mul-at c = omega arith
-
-add-at : tie.Need-add-at Inv-loop μ-loop
-add-at c = omega arith
-
-sub-row : tie.Need-sub-row Inv-loop μ-loop
-sub-row c = omega arith
-
-part-row-start : tie.Need-part-row-start Inv-loop μ-loop
-part-row-start c = omega arith
-
-part-row-end : tie.Need-part-row-end Inv-loop μ-loop
-part-row-end c = omega arith
-
 allowed-scene-requires : tie.Need-allowed-scene-requires Inv-loop μ-loop
 allowed-scene-requires c κs = simp (length-take, length-drop) (omega arith)
 
@@ -49,15 +34,6 @@ returns c =
 
 word-requires : tie.Need-word-requires Inv-loop μ-loop
 word-requires c κs = simp (length-take, length-drop) (omega arith)
-
-add-from : tie.Need-add-from Inv-loop μ-loop
-add-from c = omega arith
-
-add-j : tie.Need-add-j Inv-loop μ-loop
-add-j c = omega arith
-
-loop-less : tie.Need-loop-less Inv-loop μ-loop
-loop-less c = omega arith
 
 loop-again : tie.Need-loop-again Inv-loop μ-loop
 loop-again c =
@@ -81,21 +57,6 @@ returns-2 c =
 
 pub allowed-scenes-spec : {M : Type 1} → statement M
 allowed-scenes-spec =
-    tie.close
-    (tie.spec
-    Inv-loop
-    μ-loop
-    loop-holds
-    mul-at
-    add-at
-    sub-row
-    part-row-start
-    part-row-end
-    allowed-scene-requires
-    returns
-    word-requires
-    add-from
-    add-j
-    loop-less
-    loop-again
-    returns-2)
+    tie.close (tie.spec Inv-loop μ-loop loop-holds (λ c. omega arith) (λ c. omega arith) (λ c. omega arith)
+    (λ c. omega arith) (λ c. omega arith) allowed-scene-requires returns word-requires (λ c. omega arith)
+    (λ c. omega arith) (λ c. omega arith) loop-again returns-2)

@@ -3,24 +3,6 @@ use Rattle.rules.specs.Reading.{allowedUnit}
 use Rattle.record_allowed.proofs.allowed_unit.Statement.{statement}
 use Rattle.record_allowed.proofs.allowed_unit.Tie as tie
 
-word-requires : tie.Need-word-requires
-word-requires c κs = search needs
-
-word64-requires : tie.Need-word64-requires
-word64-requires c κs = search needs
-
-word64-requires-2 : tie.Need-word64-requires-2
-word64-requires-2 c κs = search needs
-
-word-requires-2 : tie.Need-word-requires-2
-word-requires-2 c κs = search needs
-
-mul-result : tie.Need-mul-result
-mul-result c = search needs
-
-word-requires-3 : tie.Need-word-requires-3
-word-requires-3 c κs = search needs
-
 returns : tie.Need-returns
 unfolding allowedUnit
 returns c =
@@ -37,12 +19,5 @@ returns c =
 
 pub allowed-unit-spec : {M : Type 1} → statement M
 allowed-unit-spec =
-    tie.close
-    (tie.spec
-    word-requires
-    word64-requires
-    word64-requires-2
-    word-requires-2
-    mul-result
-    word-requires-3
-    returns)
+    tie.close (tie.spec (λ c κs. search needs) (λ c κs. search needs) (λ c κs. search needs) (λ c κs. search needs)
+    (λ c. search needs) (λ c κs. search needs) returns)

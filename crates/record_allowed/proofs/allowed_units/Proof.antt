@@ -19,21 +19,6 @@ abbrev μ-loop : tie.MeasureT-loop
 loop-holds : tie.Need-loop-holds Inv-loop μ-loop
 loop-holds c = (omega arith, rw sub-zero)
 
-mul-at : tie.Need-mul-at Inv-loop μ-loop
-mul-at c = omega arith
-
-add-at : tie.Need-add-at Inv-loop μ-loop
-add-at c = omega arith
-
-sub-allowed-unit : tie.Need-sub-allowed-unit Inv-loop μ-loop
-sub-allowed-unit c = omega arith
-
-part-allowed-unit-start : tie.Need-part-allowed-unit-start Inv-loop μ-loop
-part-allowed-unit-start c = omega arith
-
-part-allowed-unit-end : tie.Need-part-allowed-unit-end Inv-loop μ-loop
-part-allowed-unit-end c = omega arith
-
 allowed-unit-requires : tie.Need-allowed-unit-requires Inv-loop μ-loop
 allowed-unit-requires c κs = simp (length-take, length-drop) (omega arith)
 
@@ -45,12 +30,6 @@ returns c =
     units-stop (c₆ .args .known) (c₆ .args .bytes .now) (c₆ .args .n) (c₄ .loop .j) (c₃ .loop-test .taken)
     (c .before .allowed-unit .result) _ (c₄ .loop .inv .1)
     (c .before .allowed-unit .ensures) (not-true _ (c .if1 .taken))
-
-add-j : tie.Need-add-j Inv-loop μ-loop
-add-j c = omega arith
-
-loop-less : tie.Need-loop-less Inv-loop μ-loop
-loop-less c = omega arith
 
 loop-again : tie.Need-loop-again Inv-loop μ-loop
 loop-again c =
@@ -70,19 +49,6 @@ returns-2 c =
 
 pub allowed-units-spec : {M : Type 1} → statement M
 allowed-units-spec =
-    tie.close
-    (tie.spec
-    Inv-loop
-    μ-loop
-    loop-holds
-    mul-at
-    add-at
-    sub-allowed-unit
-    part-allowed-unit-start
-    part-allowed-unit-end
-    allowed-unit-requires
-    returns
-    add-j
-    loop-less
-    loop-again
-    returns-2)
+    tie.close (tie.spec Inv-loop μ-loop loop-holds (λ c. omega arith) (λ c. omega arith) (λ c. omega arith)
+    (λ c. omega arith) (λ c. omega arith) allowed-unit-requires returns (λ c. omega arith) (λ c. omega arith)
+    loop-again returns-2)

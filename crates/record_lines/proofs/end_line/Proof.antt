@@ -4,18 +4,6 @@ use Rattle.record_lines.proofs.Puts.{end-put}
 use Rattle.record_lines.proofs.end_line.Statement.{statement}
 use Rattle.record_lines.proofs.end_line.Tie as tie
 
-sub-put-spaces : tie.Need-sub-put-spaces
-sub-put-spaces c = search needs
-
-put-spaces-requires : tie.Need-put-spaces-requires
-put-spaces-requires c κs = search needs
-
-put-byte-requires : tie.Need-put-byte-requires
-put-byte-requires c κs = search needs
-
-same-length : tie.Need-same-length
-same-length c = search needs
-
 returns : tie.Need-returns
 returns c =
     let c₂ = c .before .before in
@@ -25,4 +13,4 @@ returns c =
 
 pub end-line-spec : {M : Type 1} → statement M
 end-line-spec =
-    tie.close (tie.spec sub-put-spaces put-spaces-requires put-byte-requires same-length returns)
+    tie.close (tie.spec (λ c. search needs) (λ c κs. search needs) (λ c κs. search needs) (λ c. search needs) returns)

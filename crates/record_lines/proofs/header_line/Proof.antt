@@ -8,36 +8,12 @@ use Rattle.record_lines.proofs.Puts.{figure, join, line-put}
 use Rattle.record_lines.proofs.header_line.Statement.{statement}
 use Rattle.record_lines.proofs.header_line.Tie as tie
 
-cast-t8 : tie.Need-cast-t8
-cast-t8 c = search needs
-
-cast-t9 : tie.Need-cast-t9
-cast-t9 c = search needs
-
-cast-t10 : tie.Need-cast-t10
-cast-t10 c = search needs
-
-put-byte-requires : tie.Need-put-byte-requires
-put-byte-requires c κs = search needs
-
-slice-aggregate-put-numbers : tie.Need-slice-aggregate-put-numbers
-slice-aggregate-put-numbers c = search needs
-
 put-numbers-requires : tie.Need-put-numbers-requires
 put-numbers-requires c κs =
     let c₁₀ = c .before .before .before .before .before .before .before .before .before .before in
     let a = c₁₀ .args in
     let last = figure (a .h .height) (search needs) (figure (a .h .pictures) (search needs) empty) in
     ((search needs, figure (a .h .width) (search needs) last), search needs)
-
-put-bits-requires : tie.Need-put-bits-requires
-put-bits-requires c κs = search needs
-
-end-line-requires : tie.Need-end-line-requires
-end-line-requires c κs = search needs
-
-same-length : tie.Need-same-length
-same-length c = search needs
 
 returns : tie.Need-returns
 unfolding headerLine headerFields
@@ -57,15 +33,5 @@ returns c =
 
 pub header-line-spec : {M : Type 1} → statement M
 header-line-spec =
-    tie.close
-    (tie.spec
-    cast-t8
-    cast-t9
-    cast-t10
-    put-byte-requires
-    slice-aggregate-put-numbers
-    put-numbers-requires
-    put-bits-requires
-    end-line-requires
-    same-length
-    returns)
+    tie.close (tie.spec (λ c. search needs) (λ c. search needs) (λ c. search needs) (λ c κs. search needs)
+    (λ c. search needs) put-numbers-requires (λ c κs. search needs) (λ c κs. search needs) (λ c. search needs) returns)

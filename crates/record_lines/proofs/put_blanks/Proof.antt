@@ -22,15 +22,6 @@ loop-holds c =
     let a = c .before .args in
     (omega arith, refl, no-lines (λ (i : ℕ). blankLine) (a .at) (a .buffer .now))
 
-end-line-requires : tie.Need-end-line-requires Inv-loop μ-loop
-end-line-requires c κs = omega arith
-
-add-j : tie.Need-add-j Inv-loop μ-loop
-add-j c = omega arith
-
-loop-less : tie.Need-loop-less Inv-loop μ-loop
-loop-less c = omega arith
-
 loop-again : tie.Need-loop-again Inv-loop μ-loop
 unfolding blankLine
 loop-again c =
@@ -44,9 +35,6 @@ loop-again c =
       line-more (λ (i : ℕ). blankLine) (l .j) (omega arith) (l .inv .2) (c₂ .end-line .ensures),
     )
 
-same-length : tie.Need-same-length Inv-loop μ-loop
-same-length c = omega arith
-
 returns : tie.Need-returns Inv-loop μ-loop
 returns c =
     let c₃ = c .before .before .before in
@@ -56,14 +44,5 @@ returns c =
 
 pub put-blanks-spec : {M : Type 1} → statement M
 put-blanks-spec =
-    tie.close
-    (tie.spec
-    Inv-loop
-    μ-loop
-    loop-holds
-    end-line-requires
-    add-j
-    loop-less
-    loop-again
-    same-length
-    returns)
+    tie.close (tie.spec Inv-loop μ-loop loop-holds (λ c κs. omega arith) (λ c. omega arith) (λ c. omega arith)
+    loop-again (λ c. omega arith) returns)

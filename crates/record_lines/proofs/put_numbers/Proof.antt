@@ -23,12 +23,6 @@ loop-holds c =
     let a = c₂ .args in
     (omega arith, refl, no-columns (a .at) (a .width) (a .numbers .now) (a .buffer .now))
 
-mul-put-number : tie.Need-mul-put-number Inv-loop μ-loop
-mul-put-number c = omega arith
-
-shared-slice-read-put-number : tie.Need-shared-slice-read-put-number Inv-loop μ-loop
-shared-slice-read-put-number c = omega arith
-
 put-number-requires : tie.Need-put-number-requires Inv-loop μ-loop
 put-number-requires c κs =
     let c₂ = c .before .before in
@@ -40,12 +34,6 @@ put-number-requires c κs =
       all-at (s .pre .0 .1) (l .i) (c₂ .loop-test .taken) .0,
       omega (arith, h, l .inv .1, l .inv .2 .ends, s .pre .1),
     )
-
-add-i : tie.Need-add-i Inv-loop μ-loop
-add-i c = omega arith
-
-loop-less : tie.Need-loop-less Inv-loop μ-loop
-loop-less c = omega arith
 
 loop-again : tie.Need-loop-again Inv-loop μ-loop
 loop-again c =
@@ -62,9 +50,6 @@ loop-again c =
           (omega (arith, h, s .pre .1)) (l .inv .2) (p .ensures),
     )
 
-same-length : tie.Need-same-length Inv-loop μ-loop
-same-length c = omega arith
-
 returns : tie.Need-returns Inv-loop μ-loop
 returns c =
     let c₄ = c .before .before .before .before in
@@ -74,16 +59,5 @@ returns c =
 
 pub put-numbers-spec : {M : Type 1} → statement M
 put-numbers-spec =
-    tie.close
-    (tie.spec
-    Inv-loop
-    μ-loop
-    loop-holds
-    mul-put-number
-    shared-slice-read-put-number
-    put-number-requires
-    add-i
-    loop-less
-    loop-again
-    same-length
-    returns)
+    tie.close (tie.spec Inv-loop μ-loop loop-holds (λ c. omega arith) (λ c. omega arith) put-number-requires
+    (λ c. omega arith) (λ c. omega arith) loop-again (λ c. omega arith) returns)

@@ -32,18 +32,6 @@ scene-row-requires c κs =
     let c₄ = c .before .before .before .before in
     (c₄ .pre .0 .0, omega arith)
 
-cast-scene-line : tie.Need-cast-scene-line Inv-loop μ-loop
-cast-scene-line c = search needs
-
-scene-line-requires : tie.Need-scene-line-requires Inv-loop μ-loop
-scene-line-requires c κs = omega arith
-
-add-j : tie.Need-add-j Inv-loop μ-loop
-add-j c = omega arith
-
-loop-less : tie.Need-loop-less Inv-loop μ-loop
-loop-less c = omega arith
-
 loop-again : tie.Need-loop-again Inv-loop μ-loop
 loop-again c =
     let c₂ = c .before .before in
@@ -58,9 +46,6 @@ loop-again c =
           (rw (c₄ .scene-row .ensures) at (c₂ .scene-line .ensures)),
     )
 
-same-length : tie.Need-same-length Inv-loop μ-loop
-same-length c = omega arith
-
 returns : tie.Need-returns Inv-loop μ-loop
 returns c =
     let c₄ = c .before .before .before .before in
@@ -70,16 +55,5 @@ returns c =
 
 pub put-scenes-spec : {M : Type 1} → statement M
 put-scenes-spec =
-    tie.close
-    (tie.spec
-    Inv-loop
-    μ-loop
-    loop-holds
-    scene-row-requires
-    cast-scene-line
-    scene-line-requires
-    add-j
-    loop-less
-    loop-again
-    same-length
-    returns)
+    tie.close (tie.spec Inv-loop μ-loop loop-holds scene-row-requires (λ c. search needs) (λ c κs. omega arith)
+    (λ c. omega arith) (λ c. omega arith) loop-again (λ c. omega arith) returns)

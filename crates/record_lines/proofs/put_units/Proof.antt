@@ -33,18 +33,6 @@ unit-row-requires : tie.Need-unit-row-requires Inv-loop μ-loop
 unfolding unitPlace
 unit-row-requires c κs = omega arith
 
-cast-unit-line : tie.Need-cast-unit-line Inv-loop μ-loop
-cast-unit-line c = search needs
-
-unit-line-requires : tie.Need-unit-line-requires Inv-loop μ-loop
-unit-line-requires c κs = omega arith
-
-add-j : tie.Need-add-j Inv-loop μ-loop
-add-j c = omega arith
-
-loop-less : tie.Need-loop-less Inv-loop μ-loop
-loop-less c = omega arith
-
 loop-again : tie.Need-loop-again Inv-loop μ-loop
 loop-again c =
     let c₂ = c .before .before in
@@ -59,9 +47,6 @@ loop-again c =
           (rw (c₄ .unit-row .ensures) at (c₂ .unit-line .ensures)),
     )
 
-same-length : tie.Need-same-length Inv-loop μ-loop
-same-length c = omega arith
-
 returns : tie.Need-returns Inv-loop μ-loop
 returns c =
     let c₄ = c .before .before .before .before in
@@ -71,16 +56,5 @@ returns c =
 
 pub put-units-spec : {M : Type 1} → statement M
 put-units-spec =
-    tie.close
-    (tie.spec
-    Inv-loop
-    μ-loop
-    loop-holds
-    unit-row-requires
-    cast-unit-line
-    unit-line-requires
-    add-j
-    loop-less
-    loop-again
-    same-length
-    returns)
+    tie.close (tie.spec Inv-loop μ-loop loop-holds unit-row-requires (λ c. search needs) (λ c κs. omega arith)
+    (λ c. omega arith) (λ c. omega arith) loop-again (λ c. omega arith) returns)

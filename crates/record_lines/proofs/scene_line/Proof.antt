@@ -8,33 +8,6 @@ use Rattle.record_lines.proofs.Puts.{figure, line-put}
 use Rattle.record_lines.proofs.scene_line.Statement.{statement}
 use Rattle.record_lines.proofs.scene_line.Tie as tie
 
-cast-t9 : tie.Need-cast-t9
-cast-t9 c = search needs
-
-cast-t10 : tie.Need-cast-t10
-cast-t10 c = search needs
-
-cast-t11 : tie.Need-cast-t11
-cast-t11 c = search needs
-
-cast-t12 : tie.Need-cast-t12
-cast-t12 c = search needs
-
-cast-t13 : tie.Need-cast-t13
-cast-t13 c = search needs
-
-cast-t14 : tie.Need-cast-t14
-cast-t14 c = search needs
-
-cast-t15 : tie.Need-cast-t15
-cast-t15 c = search needs
-
-put-byte-requires : tie.Need-put-byte-requires
-put-byte-requires c κs = search needs
-
-slice-aggregate-put-numbers : tie.Need-slice-aggregate-put-numbers
-slice-aggregate-put-numbers c = search needs
-
 put-numbers-requires : tie.Need-put-numbers-requires
 put-numbers-requires c κs =
     let c₇ = c .before .before .before .before .before .before .before in
@@ -43,12 +16,6 @@ put-numbers-requires c κs =
     let later = figure (a .s .longest) (search needs) (figure (a .s .score) (search needs) last) in
     let rest = figure (a .s .pictures) (search needs) (figure (a .s .repeated) (search needs) later) in
     ((search needs, figure (a .j) (search needs) (figure (a .s .first) (search needs) rest)), search needs)
-
-end-line-requires : tie.Need-end-line-requires
-end-line-requires c κs = search needs
-
-same-length : tie.Need-same-length
-same-length c = search needs
 
 returns : tie.Need-returns
 unfolding sceneLine sceneFields
@@ -62,18 +29,6 @@ returns c =
 
 pub scene-line-spec : {M : Type 1} → statement M
 scene-line-spec =
-    tie.close
-    (tie.spec
-    cast-t9
-    cast-t10
-    cast-t11
-    cast-t12
-    cast-t13
-    cast-t14
-    cast-t15
-    put-byte-requires
-    slice-aggregate-put-numbers
-    put-numbers-requires
-    end-line-requires
-    same-length
-    returns)
+    tie.close (tie.spec (λ c. search needs) (λ c. search needs) (λ c. search needs) (λ c. search needs)
+    (λ c. search needs) (λ c. search needs) (λ c. search needs) (λ c κs. search needs) (λ c. search needs)
+    put-numbers-requires (λ c κs. search needs) (λ c. search needs) returns)

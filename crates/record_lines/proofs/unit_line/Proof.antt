@@ -10,28 +10,10 @@ use borrow.Author.Needs.{needs}
 use Rattle.record_lines.proofs.unit_line.Statement.{statement}
 use Rattle.record_lines.proofs.unit_line.Tie as tie
 
-cast-t15 : tie.Need-cast-t15
-cast-t15 c = search needs
-
-cast-t16 : tie.Need-cast-t16
-cast-t16 c = search needs
-
-cast-t17 : tie.Need-cast-t17
-cast-t17 c = search needs
-
-put-byte-requires : tie.Need-put-byte-requires
-put-byte-requires c κs = search needs
-
-slice-aggregate-put-numbers : tie.Need-slice-aggregate-put-numbers
-slice-aggregate-put-numbers c = search needs
-
 put-numbers-requires : tie.Need-put-numbers-requires
 put-numbers-requires c κs =
     let a = c .before .before .before .before .before .before .before .before .before .before .args in
     ((search needs, figure (a .j) (search needs) empty), search needs)
-
-slice-aggregate-put-numbers-2 : tie.Need-slice-aggregate-put-numbers-2
-slice-aggregate-put-numbers-2 c = search needs
 
 put-numbers-requires-2 : tie.Need-put-numbers-requires-2
 put-numbers-requires-2 c κs =
@@ -45,21 +27,12 @@ put-numbers-requires-2 c κs =
       omega (arith, s .pre, mark .ensures .ends, mark .kept .0, one .ensures .ends, one .kept .0),
     )
 
-slice-aggregate-put-numbers-3 : tie.Need-slice-aggregate-put-numbers-3
-slice-aggregate-put-numbers-3 c = search needs
-
 put-numbers-requires-3 : tie.Need-put-numbers-requires-3
 put-numbers-requires-3 c κs =
     let a = c .before .before .before .before .before .before .before .before .before .before .before .before .before
     .before .before .before .before .before .before .before .args in
     let last = figure (a .u .packets) (search needs) (figure (a .u .lost) (search needs) empty) in
     ((search needs, figure (a .u .size) (search needs) last), search needs)
-
-cast-t33 : tie.Need-cast-t33
-cast-t33 c = search needs
-
-slice-aggregate-put-numbers-4 : tie.Need-slice-aggregate-put-numbers-4
-slice-aggregate-put-numbers-4 c = search needs
 
 put-numbers-requires-4 : tie.Need-put-numbers-requires-4
 put-numbers-requires-4 c κs =
@@ -119,9 +92,6 @@ end-line-requires c κs =
       ),
     )
 
-same-length : tie.Need-same-length
-same-length c = search needs
-
 returns : tie.Need-returns
 unfolding unitLine unitFields
 returns c =
@@ -146,12 +116,6 @@ returns c =
     (line-put 85 (unitFields true (s .args .j) (s .args .u)) 98 refl (omega arith) (s .pre) (mark .ensures) fields
     (c .before .before .end-line .ensures))
 
-end-line-requires-2 : tie.Need-end-line-requires-2
-end-line-requires-2 c κs = search needs
-
-same-length-2 : tie.Need-same-length-2
-same-length-2 c = search needs
-
 returns-2 : tie.Need-returns-2
 unfolding unitLine unitFields
 returns-2 c =
@@ -174,24 +138,7 @@ returns-2 c =
 
 pub unit-line-spec : {M : Type 1} → statement M
 unit-line-spec =
-    tie.close
-    (tie.spec
-    cast-t15
-    cast-t16
-    cast-t17
-    put-byte-requires
-    slice-aggregate-put-numbers
-    put-numbers-requires
-    slice-aggregate-put-numbers-2
-    put-numbers-requires-2
-    slice-aggregate-put-numbers-3
-    put-numbers-requires-3
-    cast-t33
-    slice-aggregate-put-numbers-4
-    put-numbers-requires-4
-    end-line-requires
-    same-length
-    returns
-    end-line-requires-2
-    same-length-2
-    returns-2)
+    tie.close (tie.spec (λ c. search needs) (λ c. search needs) (λ c. search needs) (λ c κs. search needs)
+    (λ c. search needs) put-numbers-requires (λ c. search needs) put-numbers-requires-2 (λ c. search needs)
+    put-numbers-requires-3 (λ c. search needs) (λ c. search needs) put-numbers-requires-4 end-line-requires
+    (λ c. search needs) returns (λ c κs. search needs) (λ c. search needs) returns-2)

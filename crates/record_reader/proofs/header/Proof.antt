@@ -4,20 +4,11 @@ use Rattle.record_reader.proofs.Answers.{accepted, refused, header-give
 use Rattle.record_reader.proofs.header.Statement.{statement}
 use Rattle.record_reader.proofs.header.Tie as tie
 
-open-requires : tie.Need-open-requires
-open-requires c κs = search needs
-
-enum-told : tie.Need-enum-told
-enum-told c = search needs
-
 header-figures-requires : tie.Need-header-figures-requires
 header-figures-requires c κs =
     let c₂ = c .before .before in
     let c₄ = c₂ .before .before in
     omega (arith, accepted (c₄ .args .bytes .now) _ (c₂ .«open» .ensures) _ _ (c .enum-told .given .1) .size)
-
-enum-known-number : tie.Need-enum-known-number
-enum-known-number c = search needs
 
 returns : tie.Need-returns
 returns c =
@@ -36,5 +27,5 @@ returns-2 c =
 
 pub header-spec : {M : Type 1} → statement M
 header-spec =
-    tie.close
-    (tie.spec open-requires enum-told header-figures-requires enum-known-number returns returns-2)
+    tie.close (tie.spec (λ c κs. search needs) (λ c. search needs) header-figures-requires (λ c. search needs) returns
+    returns-2)

@@ -3,42 +3,6 @@ use Rattle.rules.specs.Reading.{headerOf}
 use Rattle.record_reader.proofs.header_figures.Statement.{statement}
 use Rattle.record_reader.proofs.header_figures.Tie as tie
 
-word32-requires : tie.Need-word32-requires
-word32-requires c κs = search needs
-
-word32-requires-2 : tie.Need-word32-requires-2
-word32-requires-2 c κs = search needs
-
-word32-requires-3 : tie.Need-word32-requires-3
-word32-requires-3 c κs = search needs
-
-word32-requires-4 : tie.Need-word32-requires-4
-word32-requires-4 c κs = search needs
-
-word32-requires-5 : tie.Need-word32-requires-5
-word32-requires-5 c κs = search needs
-
-word32-requires-6 : tie.Need-word32-requires-6
-word32-requires-6 c κs = search needs
-
-word32-requires-7 : tie.Need-word32-requires-7
-word32-requires-7 c κs = search needs
-
-word32-requires-8 : tie.Need-word32-requires-8
-word32-requires-8 c κs = search needs
-
-word32-requires-9 : tie.Need-word32-requires-9
-word32-requires-9 c κs = search needs
-
-word32-requires-10 : tie.Need-word32-requires-10
-word32-requires-10 c κs = search needs
-
-word32-requires-11 : tie.Need-word32-requires-11
-word32-requires-11 c κs = search needs
-
-word64-requires : tie.Need-word64-requires
-word64-requires c κs = search needs
-
 returns : tie.Need-returns
 unfolding headerOf
 returns c =
@@ -69,18 +33,6 @@ returns c =
 
 pub header-figures-spec : {M : Type 1} → statement M
 header-figures-spec =
-    tie.close
-    (tie.spec
-    word32-requires
-    word32-requires-2
-    word32-requires-3
-    word32-requires-4
-    word32-requires-5
-    word32-requires-6
-    word32-requires-7
-    word32-requires-8
-    word32-requires-9
-    word32-requires-10
-    word32-requires-11
-    word64-requires
-    returns)
+    tie.close (tie.spec (λ c κs. search needs) (λ c κs. search needs) (λ c κs. search needs) (λ c κs. search needs)
+    (λ c κs. search needs) (λ c κs. search needs) (λ c κs. search needs) (λ c κs. search needs) (λ c κs. search needs)
+    (λ c κs. search needs) (λ c κs. search needs) (λ c κs. search needs) returns)

@@ -5,12 +5,6 @@ use Rattle.rules.specs.Record.{sceneOffset}
 use Rattle.record_reader.proofs.scene.Statement.{statement}
 use Rattle.record_reader.proofs.scene.Tie as tie
 
-open-requires : tie.Need-open-requires
-open-requires c κs = search needs
-
-enum-known-units : tie.Need-enum-known-units
-enum-known-units c = search needs
-
 scene-row-requires : tie.Need-scene-row-requires
 unfolding sceneOffset
 scene-row-requires c κs =
@@ -24,9 +18,6 @@ scene-row-requires c κs =
         c .if1 .taken,
       ),
     )
-
-enum-known-number : tie.Need-enum-known-number
-enum-known-number c = search needs
 
 returns : tie.Need-returns
 returns c =
@@ -55,12 +46,5 @@ returns-3 c =
 
 pub scene-spec : {M : Type 1} → statement M
 scene-spec =
-    tie.close
-    (tie.spec
-    open-requires
-    enum-known-units
-    scene-row-requires
-    enum-known-number
-    returns
-    returns-2
-    returns-3)
+    tie.close (tie.spec (λ c κs. search needs) (λ c. search needs) scene-row-requires (λ c. search needs) returns
+    returns-2 returns-3)

@@ -3,27 +3,6 @@ use Rattle.rules.specs.Reading.{sceneIn}
 use Rattle.record_reader.proofs.scene_in.Statement.{statement}
 use Rattle.record_reader.proofs.scene_in.Tie as tie
 
-word32-requires : tie.Need-word32-requires
-word32-requires c κs = search needs
-
-word32-requires-2 : tie.Need-word32-requires-2
-word32-requires-2 c κs = search needs
-
-word32-requires-3 : tie.Need-word32-requires-3
-word32-requires-3 c κs = search needs
-
-word32-requires-4 : tie.Need-word32-requires-4
-word32-requires-4 c κs = search needs
-
-word32-requires-5 : tie.Need-word32-requires-5
-word32-requires-5 c κs = search needs
-
-word32-requires-6 : tie.Need-word32-requires-6
-word32-requires-6 c κs = search needs
-
-word32-requires-7 : tie.Need-word32-requires-7
-word32-requires-7 c κs = search needs
-
 returns : tie.Need-returns
 unfolding sceneIn
 returns c =
@@ -44,13 +23,5 @@ returns c =
 
 pub scene-in-spec : {M : Type 1} → statement M
 scene-in-spec =
-    tie.close
-    (tie.spec
-    word32-requires
-    word32-requires-2
-    word32-requires-3
-    word32-requires-4
-    word32-requires-5
-    word32-requires-6
-    word32-requires-7
-    returns)
+    tie.close (tie.spec (λ c κs. search needs) (λ c κs. search needs) (λ c κs. search needs) (λ c κs. search needs)
+    (λ c κs. search needs) (λ c κs. search needs) (λ c κs. search needs) returns)

@@ -19,9 +19,6 @@ add-at : tie.Need-add-at
 unfolding sceneOffset
 add-at c = omega arith
 
-mul-at-2 : tie.Need-mul-at-2
-mul-at-2 c = search needs
-
 add-at-2 : tie.Need-add-at-2
 unfolding sceneOffset
 add-at-2 c = omega arith
@@ -33,9 +30,6 @@ sub-scene-in c = omega arith
 part-scene-in-start : tie.Need-part-scene-in-start
 unfolding sceneOffset
 part-scene-in-start c = omega arith
-
-part-scene-in-end : tie.Need-part-scene-in-end
-part-scene-in-end c = search needs
 
 scene-in-requires : tie.Need-scene-in-requires
 unfolding sceneOffset
@@ -51,14 +45,5 @@ returns c =
 
 pub scene-row-spec : {M : Type 1} → statement M
 scene-row-spec =
-    tie.close
-    (tie.spec
-    mul-at
-    add-at
-    mul-at-2
-    add-at-2
-    sub-scene-in
-    part-scene-in-start
-    part-scene-in-end
-    scene-in-requires
-    returns)
+    tie.close (tie.spec mul-at add-at (λ c. search needs) add-at-2 sub-scene-in part-scene-in-start
+    (λ c. search needs) scene-in-requires returns)

@@ -5,12 +5,6 @@ use Rattle.rules.specs.Reading.{unitPlace}
 use Rattle.record_reader.proofs.unit.Statement.{statement}
 use Rattle.record_reader.proofs.unit.Tie as tie
 
-open-requires : tie.Need-open-requires
-open-requires c κs = search needs
-
-enum-known-units : tie.Need-enum-known-units
-enum-known-units c = search needs
-
 unit-row-requires : tie.Need-unit-row-requires
 unfolding unitPlace
 unit-row-requires c κs =
@@ -22,9 +16,6 @@ unit-row-requires c κs =
       (accepted (c₆ .args .bytes .now) _ (c₄ .«open» .ensures) _ _ (c₂ .units .given .1)) .size,
       c .if1 .taken,
     )
-
-enum-known-number : tie.Need-enum-known-number
-enum-known-number c = search needs
 
 returns : tie.Need-returns
 returns c =
@@ -53,12 +44,5 @@ returns-3 c =
 
 pub unit-spec : {M : Type 1} → statement M
 unit-spec =
-    tie.close
-    (tie.spec
-    open-requires
-    enum-known-units
-    unit-row-requires
-    enum-known-number
-    returns
-    returns-2
-    returns-3)
+    tie.close (tie.spec (λ c κs. search needs) (λ c. search needs) unit-row-requires (λ c. search needs) returns
+    returns-2 returns-3)

@@ -3,24 +3,6 @@ use Rattle.rules.specs.Reading.{unitIn}
 use Rattle.record_reader.proofs.unit_in.Statement.{statement}
 use Rattle.record_reader.proofs.unit_in.Tie as tie
 
-word64-requires : tie.Need-word64-requires
-word64-requires c κs = search needs
-
-word64-requires-2 : tie.Need-word64-requires-2
-word64-requires-2 c κs = search needs
-
-word32-requires : tie.Need-word32-requires
-word32-requires c κs = search needs
-
-word32-requires-2 : tie.Need-word32-requires-2
-word32-requires-2 c κs = search needs
-
-word32-requires-3 : tie.Need-word32-requires-3
-word32-requires-3 c κs = search needs
-
-word32-requires-4 : tie.Need-word32-requires-4
-word32-requires-4 c κs = search needs
-
 returns : tie.Need-returns
 unfolding unitIn
 returns c =
@@ -39,12 +21,5 @@ returns c =
 
 pub unit-in-spec : {M : Type 1} → statement M
 unit-in-spec =
-    tie.close
-    (tie.spec
-    word64-requires
-    word64-requires-2
-    word32-requires
-    word32-requires-2
-    word32-requires-3
-    word32-requires-4
-    returns)
+    tie.close (tie.spec (λ c κs. search needs) (λ c κs. search needs) (λ c κs. search needs) (λ c κs. search needs)
+    (λ c κs. search needs) (λ c κs. search needs) returns)

@@ -25,9 +25,6 @@ part-unit-in-start : tie.Need-part-unit-in-start
 unfolding unitPlace
 part-unit-in-start c = omega arith
 
-part-unit-in-end : tie.Need-part-unit-in-end
-part-unit-in-end c = search needs
-
 unit-in-requires : tie.Need-unit-in-requires
 unfolding unitPlace
 unit-in-requires c κs = simp (length-take, length-drop) (omega arith)
@@ -40,12 +37,4 @@ returns c =
 
 pub unit-row-spec : {M : Type 1} → statement M
 unit-row-spec =
-    tie.close
-    (tie.spec
-    mul-at
-    add-at
-    sub-unit-in
-    part-unit-in-start
-    part-unit-in-end
-    unit-in-requires
-    returns)
+    tie.close (tie.spec mul-at add-at sub-unit-in part-unit-in-start (λ c. search needs) unit-in-requires returns)

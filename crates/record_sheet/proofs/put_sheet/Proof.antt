@@ -10,30 +10,6 @@ use borrow.Author.Needs.{needs}
 use Rattle.record_sheet.proofs.put_sheet.Statement.{statement}
 use Rattle.record_sheet.proofs.put_sheet.Tie as tie
 
-add-lines : tie.Need-add-lines
-add-lines c = search needs
-
-add-lines-2 : tie.Need-add-lines-2
-add-lines-2 c = search needs
-
-add-blanks : tie.Need-add-blanks
-add-blanks c = search needs
-
-mul-blanks : tie.Need-mul-blanks
-mul-blanks c = search needs
-
-sub-blanks : tie.Need-sub-blanks
-sub-blanks c = search needs
-
-header-figures-requires : tie.Need-header-figures-requires
-header-figures-requires c κs = search needs
-
-cast-knows-damage : tie.Need-cast-knows-damage
-cast-knows-damage c = search needs
-
-knows-damage-requires : tie.Need-knows-damage-requires
-knows-damage-requires c κs = search needs
-
 header-line-requires : tie.Need-header-line-requires
 header-line-requires c κs =
     let s = c .before .before .before .before .before .before in
@@ -72,9 +48,6 @@ put-blanks-requires c κs =
     omega
     (arith, z, s .pre .1 .1, k .ensures .ends, k .kept .0, u .ensures .ends, u .kept .0, v .ensures .ends, v .kept .0)
 
-same-length : tie.Need-same-length
-same-length c = search needs
-
 returns : tie.Need-returns
 unfolding blanksFor pagesFor headerOf
 returns c =
@@ -96,19 +69,6 @@ returns c =
 
 pub put-sheet-spec : {M : Type 1} → statement M
 put-sheet-spec =
-    tie.close
-    (tie.spec
-    add-lines
-    add-lines-2
-    add-blanks
-    mul-blanks
-    sub-blanks
-    header-figures-requires
-    cast-knows-damage
-    knows-damage-requires
-    header-line-requires
-    put-units-requires
-    put-scenes-requires
-    put-blanks-requires
-    same-length
-    returns)
+    tie.close (tie.spec (λ c. search needs) (λ c. search needs) (λ c. search needs) (λ c. search needs)
+    (λ c. search needs) (λ c κs. search needs) (λ c. search needs) (λ c κs. search needs) header-line-requires
+    put-units-requires put-scenes-requires put-blanks-requires (λ c. search needs) returns)

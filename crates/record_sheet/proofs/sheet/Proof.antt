@@ -8,12 +8,6 @@ use Rattle.record_sheet.proofs.Answers.{refused-buffer, done-buffer}
 use Rattle.record_sheet.proofs.sheet.Statement.{statement}
 use Rattle.record_sheet.proofs.sheet.Tie as tie
 
-open-requires : tie.Need-open-requires
-open-requires c κs = search needs
-
-enum-known-units : tie.Need-enum-known-units
-enum-known-units c = search needs
-
 add-needed : tie.Need-add-needed
 add-needed c =
     let c₃ = c .before .before .before in
@@ -69,12 +63,6 @@ put-sheet-requires c κs =
     let left = c .before .if1 .left in
     ((a .units, a .scenes), ((a .unitsLess, a .scenesLess, omega (arith, a .size)), omega (arith, n, left)))
 
-enum-known-number : tie.Need-enum-known-number
-enum-known-number c = search needs
-
-same-length : tie.Need-same-length
-same-length c = search needs
-
 returns-2 : tie.Need-returns-2
 returns-2 c =
     let c₂ = c .before .before in
@@ -99,17 +87,5 @@ returns-3 c =
 
 pub sheet-spec : {M : Type 1} → statement M
 sheet-spec =
-    tie.close
-    (tie.spec
-    open-requires
-    enum-known-units
-    add-needed
-    add-needed-2
-    add-needed-3
-    mul-needed
-    returns
-    put-sheet-requires
-    enum-known-number
-    same-length
-    returns-2
-    returns-3)
+    tie.close (tie.spec (λ c κs. search needs) (λ c. search needs) add-needed add-needed-2 add-needed-3 mul-needed
+    returns put-sheet-requires (λ c. search needs) (λ c. search needs) returns-2 returns-3)

@@ -5,21 +5,6 @@ use Rattle.record_text.proofs.Texts.{field-room, field-written}
 use Rattle.record_text.proofs.put_field.Statement.{statement}
 use Rattle.record_text.proofs.put_field.Tie as tie
 
-slice-write-buffer : tie.Need-slice-write-buffer
-slice-write-buffer c = search needs
-
-decimal-requires : tie.Need-decimal-requires
-decimal-requires c κs = search needs
-
-add-put-text : tie.Need-add-put-text
-add-put-text c = search needs
-
-array-share-prefix-digits : tie.Need-array-share-prefix-digits
-array-share-prefix-digits c = search needs
-
-slice-aggregate-put-text : tie.Need-slice-aggregate-put-text
-slice-aggregate-put-text c = search needs
-
 put-text-requires : tie.Need-put-text-requires
 put-text-requires c κs =
     let c₂ = c .before .before in
@@ -45,13 +30,5 @@ returns c =
 
 pub put-field-spec : {M : Type 1} → statement M
 put-field-spec =
-    tie.close
-    (tie.spec
-    slice-write-buffer
-    decimal-requires
-    add-put-text
-    array-share-prefix-digits
-    slice-aggregate-put-text
-    put-text-requires
-    same-length
-    returns)
+    tie.close (tie.spec (λ c. search needs) (λ c κs. search needs) (λ c. search needs) (λ c. search needs)
+    (λ c. search needs) put-text-requires same-length returns)

@@ -5,21 +5,6 @@ use Rattle.record_text.proofs.Texts.{hex-room, hex-written}
 use Rattle.record_text.proofs.put_hex.Statement.{statement}
 use Rattle.record_text.proofs.put_hex.Tie as tie
 
-slice-write-buffer : tie.Need-slice-write-buffer
-slice-write-buffer c = search needs
-
-hex-requires : tie.Need-hex-requires
-hex-requires c κs = search needs
-
-add-put-capitals : tie.Need-add-put-capitals
-add-put-capitals c = search needs
-
-array-share-prefix-digits : tie.Need-array-share-prefix-digits
-array-share-prefix-digits c = search needs
-
-slice-aggregate-put-capitals : tie.Need-slice-aggregate-put-capitals
-slice-aggregate-put-capitals c = search needs
-
 put-capitals-requires : tie.Need-put-capitals-requires
 put-capitals-requires c κs =
     let c₂ = c .before .before in
@@ -45,13 +30,5 @@ returns c =
 
 pub put-hex-spec : {M : Type 1} → statement M
 put-hex-spec =
-    tie.close
-    (tie.spec
-    slice-write-buffer
-    hex-requires
-    add-put-capitals
-    array-share-prefix-digits
-    slice-aggregate-put-capitals
-    put-capitals-requires
-    same-length
-    returns)
+    tie.close (tie.spec (λ c. search needs) (λ c κs. search needs) (λ c. search needs) (λ c. search needs)
+    (λ c. search needs) put-capitals-requires same-length returns)

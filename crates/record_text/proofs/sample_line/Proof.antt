@@ -7,21 +7,6 @@ use Rattle.record_text.specs.Lines.{fields, sampleLine}
 use Rattle.record_text.proofs.sample_line.Statement.{statement}
 use Rattle.record_text.proofs.sample_line.Tie as tie
 
-cast-t9 : tie.Need-cast-t9
-cast-t9 c = search needs
-
-cast-t10 : tie.Need-cast-t10
-cast-t10 c = search needs
-
-cast-t11 : tie.Need-cast-t11
-cast-t11 c = search needs
-
-cast-t12 : tie.Need-cast-t12
-cast-t12 c = search needs
-
-cast-t13 : tie.Need-cast-t13
-cast-t13 c = search needs
-
 cast-t14 : tie.Need-cast-t14
 cast-t14 c = omega (arith, c .struct-known6)
 
@@ -30,24 +15,6 @@ cast-t15 c = omega (arith, c .struct-known7)
 
 cast-t16 : tie.Need-cast-t16
 cast-t16 c = omega (arith, c .struct-known8)
-
-slice-aggregate-put-text : tie.Need-slice-aggregate-put-text
-slice-aggregate-put-text c = search needs
-
-put-text-requires : tie.Need-put-text-requires
-put-text-requires c κs = search needs
-
-slice-aggregate-put-fields : tie.Need-slice-aggregate-put-fields
-slice-aggregate-put-fields c = search needs
-
-put-fields-requires : tie.Need-put-fields-requires
-put-fields-requires c κs = search needs
-
-put-hex-requires : tie.Need-put-hex-requires
-put-hex-requires c κs = search needs
-
-slice-aggregate-put-text-2 : tie.Need-slice-aggregate-put-text-2
-slice-aggregate-put-text-2 c = search needs
 
 put-text-requires-2 : tie.Need-put-text-requires-2
 put-text-requires-2 c κs =
@@ -65,9 +32,6 @@ put-text-requires-2 c κs =
       c₁₃ .put-text .kept .0,
       c₂₅ .pre,
     )
-
-same-length : tie.Need-same-length
-same-length c = search needs
 
 returns : tie.Need-returns
 unfolding sampleLine
@@ -95,22 +59,6 @@ returns c =
 
 pub sample-line-spec : {M : Type 1} → statement M
 sample-line-spec =
-    tie.close
-    (tie.spec
-    cast-t9
-    cast-t10
-    cast-t11
-    cast-t12
-    cast-t13
-    cast-t14
-    cast-t15
-    cast-t16
-    slice-aggregate-put-text
-    put-text-requires
-    slice-aggregate-put-fields
-    put-fields-requires
-    put-hex-requires
-    slice-aggregate-put-text-2
-    put-text-requires-2
-    same-length
-    returns)
+    tie.close (tie.spec (λ c. search needs) (λ c. search needs) (λ c. search needs) (λ c. search needs)
+    (λ c. search needs) cast-t14 cast-t15 cast-t16 (λ c. search needs) (λ c κs. search needs) (λ c. search needs)
+    (λ c κs. search needs) (λ c κs. search needs) (λ c. search needs) put-text-requires-2 (λ c. search needs) returns)

@@ -5,15 +5,6 @@ use Rattle.record_view.proofs.Counted.{counts-opened, counts-refused}
 use Rattle.record_view.proofs.counts_in.Statement.{statement}
 use Rattle.record_view.proofs.counts_in.Tie as tie
 
-open-requires : tie.Need-open-requires
-open-requires c κs = search needs
-
-enum-known-units : tie.Need-enum-known-units
-enum-known-units c = search needs
-
-enum-told : tie.Need-enum-told
-enum-told c = search needs
-
 returns : tie.Need-returns
 returns c =
     let c₃ = c .before .before .before in
@@ -28,4 +19,4 @@ returns-2 c =
     (refused (c₄ .args .bytes .now) _ (c₂ .«open» .ensures) _ _ (c .enum-told .given .1))
 
 pub counts-in-spec : {M : Type 1} → statement M
-counts-in-spec = tie.close (tie.spec open-requires enum-known-units enum-told returns returns-2)
+counts-in-spec = tie.close (tie.spec (λ c κs. search needs) (λ c. search needs) (λ c. search needs) returns returns-2)

@@ -13,25 +13,10 @@ returns-2 c = many-units _ _ _ (c .before .if1 .left) (c .if2 .taken)
 returns-3 : tie.Need-returns-3
 returns-3 c = many-scenes _ _ _ (c .before .before .if1 .left) (c .before .if2 .left) (c .if3 .taken)
 
-add-if4 : tie.Need-add-if4
-add-if4 c = search needs
-
-mul-if4 : tie.Need-mul-if4
-mul-if4 c = search needs
-
-add-if4-2 : tie.Need-add-if4-2
-add-if4-2 c = search needs
-
 returns-4 : tie.Need-returns-4
 returns-4 c =
     too-short _ _ _ (c .before .before .before .if1 .left) (c .before .before .if2 .left) (c .before .if3 .left)
     (c .if4 .taken)
-
-word32-requires : tie.Need-word32-requires
-word32-requires c κs = search needs
-
-cast-result : tie.Need-cast-result
-cast-result c = search needs
 
 returns-5 : tie.Need-returns-5
 returns-5 c =
@@ -40,15 +25,5 @@ returns-5 c =
 
 pub fit-spec : {M : Type 1} → statement M
 fit-spec =
-    tie.close
-    (tie.spec
-    returns
-    returns-2
-    returns-3
-    add-if4
-    mul-if4
-    add-if4-2
-    returns-4
-    word32-requires
-    cast-result
-    returns-5)
+    tie.close (tie.spec returns returns-2 returns-3 (λ c. search needs) (λ c. search needs) (λ c. search needs)
+    returns-4 (λ c κs. search needs) (λ c. search needs) returns-5)

@@ -7,12 +7,6 @@ use Rattle.record_view.proofs.Counted.{fit-shows, header-read, header-t
 use Rattle.record_view.proofs.header_at.Statement.{statement}
 use Rattle.record_view.proofs.header_at.Tie as tie
 
-fit-requires : tie.Need-fit-requires
-fit-requires c κs = search needs
-
-header-requires : tie.Need-header-requires
-header-requires c κs = search needs
-
 returns : tie.Need-returns
 returns c =
     header-read _ _ _ _ (sym (c .before .before .fit .ensures) ∙ not-true _ (c .before .if1 .taken))
@@ -29,4 +23,4 @@ returns-2 c =
 
 pub header-at-spec : {M : Type 1} → statement M
 header-at-spec =
-    tie.close (tie.spec fit-requires header-requires returns header-figures-requires returns-2)
+    tie.close (tie.spec (λ c κs. search needs) (λ c κs. search needs) returns header-figures-requires returns-2)

@@ -8,12 +8,6 @@ use Rattle.record_view.proofs.Counted.{fit-shows, scene-read, scene-mis
 use Rattle.record_view.proofs.scene_at.Statement.{statement}
 use Rattle.record_view.proofs.scene_at.Tie as tie
 
-fit-requires : tie.Need-fit-requires
-fit-requires c κs = search needs
-
-scene-requires : tie.Need-scene-requires
-scene-requires c κs = search needs
-
 returns : tie.Need-returns
 returns c =
     scene-read _ _ _ _ _ (sym (c .before .before .fit .ensures) ∙ not-true _ (c .before .if1 .taken))
@@ -36,4 +30,4 @@ returns-3 c =
 
 pub scene-at-spec : {M : Type 1} → statement M
 scene-at-spec =
-    tie.close (tie.spec fit-requires scene-requires returns returns-2 scene-row-requires returns-3)
+    tie.close (tie.spec (λ c κs. search needs) (λ c κs. search needs) returns returns-2 scene-row-requires returns-3)

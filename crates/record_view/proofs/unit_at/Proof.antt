@@ -8,12 +8,6 @@ use Rattle.record_view.proofs.Counted.{fit-shows, unit-read, unit-missi
 use Rattle.record_view.proofs.unit_at.Statement.{statement}
 use Rattle.record_view.proofs.unit_at.Tie as tie
 
-fit-requires : tie.Need-fit-requires
-fit-requires c κs = search needs
-
-unit-requires : tie.Need-unit-requires
-unit-requires c κs = search needs
-
 returns : tie.Need-returns
 returns c =
     unit-read _ _ _ _ _ (sym (c .before .before .fit .ensures) ∙ not-true _ (c .before .if1 .taken)) (c .unit .ensures)
@@ -34,4 +28,4 @@ returns-3 c =
 
 pub unit-at-spec : {M : Type 1} → statement M
 unit-at-spec =
-    tie.close (tie.spec fit-requires unit-requires returns returns-2 unit-row-requires returns-3)
+    tie.close (tie.spec (λ c κs. search needs) (λ c κs. search needs) returns returns-2 unit-row-requires returns-3)

@@ -25,27 +25,6 @@ add-size-2 : tie.Need-add-size-2
 unfolding recordLength
 add-size-2 c = omega arith
 
-put-four-requires : tie.Need-put-four-requires
-put-four-requires c κs = search needs
-
-put-four-requires-2 : tie.Need-put-four-requires-2
-put-four-requires-2 c κs = search needs
-
-put-four-requires-3 : tie.Need-put-four-requires-3
-put-four-requires-3 c κs = search needs
-
-put32-requires : tie.Need-put32-requires
-put32-requires c κs = search needs
-
-put32-requires-2 : tie.Need-put32-requires-2
-put32-requires-2 c κs = search needs
-
-put64-requires : tie.Need-put64-requires
-put64-requires c κs = search needs
-
-same-length : tie.Need-same-length
-same-length c = search needs
-
 returns : tie.Need-returns
 unfolding recordLength sceneOffset
 returns c =
@@ -62,18 +41,6 @@ returns c =
 
 pub write-header-spec : {M : Type 1} → statement M
 write-header-spec =
-    tie.close
-    (tie.spec
-    mul-scenes
-    add-scenes
-    add-size
-    mul-size
-    add-size-2
-    put-four-requires
-    put-four-requires-2
-    put-four-requires-3
-    put32-requires
-    put32-requires-2
-    put64-requires
-    same-length
-    returns)
+    tie.close (tie.spec mul-scenes add-scenes add-size mul-size add-size-2 (λ c κs. search needs)
+    (λ c κs. search needs) (λ c κs. search needs) (λ c κs. search needs) (λ c κs. search needs) (λ c κs. search needs)
+    (λ c. search needs) returns)

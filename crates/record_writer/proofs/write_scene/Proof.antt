@@ -5,18 +5,6 @@ use Rattle.record_writer.proofs.Buffers.{scene-written}
 use Rattle.record_writer.proofs.write_scene.Statement.{statement}
 use Rattle.record_writer.proofs.write_scene.Tie as tie
 
-put-four-requires : tie.Need-put-four-requires
-put-four-requires c κs = omega arith
-
-add-put-four : tie.Need-add-put-four
-add-put-four c = omega arith
-
-put-four-requires-2 : tie.Need-put-four-requires-2
-put-four-requires-2 c κs = omega arith
-
-same-length : tie.Need-same-length
-same-length c = search needs
-
 returns : tie.Need-returns
 returns c =
     let c₂ = c .before .before in
@@ -27,5 +15,4 @@ returns c =
 
 pub write-scene-spec : {M : Type 1} → statement M
 write-scene-spec =
-    tie.close
-    (tie.spec put-four-requires add-put-four put-four-requires-2 same-length returns)
+    tie.close (tie.spec (λ c κs. omega arith) (λ c. omega arith) (λ c κs. omega arith) (λ c. search needs) returns)

@@ -5,24 +5,6 @@ use Rattle.record_writer.proofs.Buffers.{unit-written}
 use Rattle.record_writer.proofs.write_unit.Statement.{statement}
 use Rattle.record_writer.proofs.write_unit.Tie as tie
 
-put64-requires : tie.Need-put64-requires
-put64-requires c κs = omega arith
-
-add-put64 : tie.Need-add-put64
-add-put64 c = omega arith
-
-put64-requires-2 : tie.Need-put64-requires-2
-put64-requires-2 c κs = omega arith
-
-add-put-four : tie.Need-add-put-four
-add-put-four c = omega arith
-
-put-four-requires : tie.Need-put-four-requires
-put-four-requires c κs = omega arith
-
-same-length : tie.Need-same-length
-same-length c = search needs
-
 returns : tie.Need-returns
 returns c =
     let c₂ = c .before .before in
@@ -34,12 +16,5 @@ returns c =
 
 pub write-unit-spec : {M : Type 1} → statement M
 write-unit-spec =
-    tie.close
-    (tie.spec
-    put64-requires
-    add-put64
-    put64-requires-2
-    add-put-four
-    put-four-requires
-    same-length
-    returns)
+    tie.close (tie.spec (λ c κs. omega arith) (λ c. omega arith) (λ c κs. omega arith) (λ c. omega arith)
+    (λ c κs. omega arith) (λ c. search needs) returns)

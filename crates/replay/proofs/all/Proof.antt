@@ -44,12 +44,6 @@ abbrev μ-loop : tie.MeasureT-loop
 loop-holds : tie.Need-loop-holds Inv-loop μ-loop
 loop-holds c = (omega arith, refl, start _ _ _)
 
-head-at-requires : tie.Need-head-at-requires Inv-loop μ-loop
-head-at-requires c κs = omega arith
-
-size-requires : tie.Need-size-requires Inv-loop μ-loop
-size-requires c κs = search needs
-
 same-length : tie.Need-same-length Inv-loop μ-loop
 same-length c = c .before .before .before .before .loop .inv .1
 
@@ -68,9 +62,6 @@ returns c =
     (omega arith)
     (sym (c .before .size .ensures ∙ ap sizeOf (c .before .before .head-at .ensures)) ∙ c .if1 .taken)
 
-sub-if2 : tie.Need-sub-if2 Inv-loop μ-loop
-sub-if2 c = omega arith
-
 same-length-2 : tie.Need-same-length-2 Inv-loop μ-loop
 same-length-2 c = c .before .before .before .before .before .loop .inv .1
 
@@ -79,18 +70,6 @@ returns-2 c =
     let l = c .before .before .before .before .before .loop in
     let size = c .before .before .size .ensures ∙ ap sizeOf (c .before .before .before .head-at .ensures) in
     full _ _ _ (l .at) (l .to) _ _ (l .inv .2) (omega arith) _ (omega arith) (omega arith)
-
-add-end : tie.Need-add-end Inv-loop μ-loop
-add-end c = omega arith
-
-sub-call : tie.Need-sub-call Inv-loop μ-loop
-sub-call c = omega arith
-
-part-call-start : tie.Need-part-call-start Inv-loop μ-loop
-part-call-start c = omega arith
-
-part-call-end : tie.Need-part-call-end Inv-loop μ-loop
-part-call-end c = omega arith
 
 call-requires : tie.Need-call-requires Inv-loop μ-loop
 call-requires c κs =
@@ -157,24 +136,6 @@ returns-3 c = let l = c .before .loop in finish _ _ _ (l .at) (l .to) _ _ (l .in
 
 pub all-spec : {M : Type 1} → statement M
 all-spec =
-    tie.close
-    (tie.spec
-    Inv-loop
-    μ-loop
-    loop-holds
-    head-at-requires
-    size-requires
-    same-length
-    returns
-    sub-if2
-    same-length-2
-    returns-2
-    add-end
-    sub-call
-    part-call-start
-    part-call-end
-    call-requires
-    loop-less
-    loop-again
-    same-length-3
-    returns-3)
+    tie.close (tie.spec Inv-loop μ-loop loop-holds (λ c κs. omega arith) (λ c κs. search needs) same-length returns
+    (λ c. omega arith) same-length-2 returns-2 (λ c. omega arith) (λ c. omega arith) (λ c. omega arith)
+    (λ c. omega arith) call-requires loop-less loop-again same-length-3 returns-3)

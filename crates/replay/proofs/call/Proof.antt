@@ -10,56 +10,20 @@ use Rattle.replay.proofs.Outcomes.{after-repeats}
 use Rattle.replay.proofs.call.Statement.{statement}
 use Rattle.replay.proofs.call.Tie as tie
 
-add-from : tie.Need-add-from
-add-from c = search needs
-
-enum-told : tie.Need-enum-told
-enum-told c = search needs
-
-enum-told-2 : tie.Need-enum-told-2
-enum-told-2 c = search needs
-
 call-index-requires : tie.Need-call-index-requires
 call-index-requires c κs =
     let told = c .before .before .before in
     told .before .before .before .before .pre .size ∙ ap sizeOf (told .enum-told2 .given .1)
-
-add-result : tie.Need-add-result
-add-result c = search needs
-
-enum-known-h : tie.Need-enum-known-h
-enum-known-h c = search needs
 
 call-repeats-requires : tie.Need-call-repeats-requires
 call-repeats-requires c κs =
     let known = c .before .before .before in
     known .before .before .before .before .pre .size ∙ ap sizeOf (known .h .given .1)
 
-add-result-2 : tie.Need-add-result-2
-add-result-2 c = search needs
-
-enum-told-3 : tie.Need-enum-told-3
-enum-told-3 c = search needs
-
 call-seal-requires : tie.Need-call-seal-requires
 call-seal-requires c κs =
     let told = c .before .before .before .before .before .before in
     omega (arith, told .before .before .before .before .pre .size ∙ ap sizeOf (told .enum-told3 .given .1))
-
-enum-known-h-2 : tie.Need-enum-known-h-2
-enum-known-h-2 c = search needs
-
-wide-requires : tie.Need-wide-requires
-wide-requires c κs = search needs
-
-add-next : tie.Need-add-next
-add-next c = search needs
-
-sub-call-capture : tie.Need-sub-call-capture
-sub-call-capture c = search needs
-
-part-call-capture-start : tie.Need-part-call-capture-start
-part-call-capture-start c = search needs
 
 part-call-capture-end : tie.Need-part-call-capture-end
 part-call-capture-end c = omega (
@@ -74,21 +38,6 @@ call-capture-requires : tie.Need-call-capture-requires
 call-capture-requires c κs =
     c .before .before .before .before .before .before .before .before .before .before .before .before .pre .size
     ∙ ap sizeOf (c .before .before .before .before .before .before .before .before .h2 .given .1)
-
-enum-known-h-3 : tie.Need-enum-known-h-3
-enum-known-h-3 c = search needs
-
-wide-requires-2 : tie.Need-wide-requires-2
-wide-requires-2 c κs = search needs
-
-add-next-2 : tie.Need-add-next-2
-add-next-2 c = search needs
-
-sub-call-luma : tie.Need-sub-call-luma
-sub-call-luma c = search needs
-
-part-call-luma-start : tie.Need-part-call-luma-start
-part-call-luma-start c = search needs
 
 part-call-luma-end : tie.Need-part-call-luma-end
 part-call-luma-end c = omega (
@@ -111,24 +60,15 @@ returns c = absurd (omega (
   c .before .before .before .before .pre .size ∙ ap sizeOf (c .enum-told .given .1),
 ))
 
-same-length : tie.Need-same-length
-same-length c = search needs
-
 returns-2 : tie.Need-returns-2
 returns-2 c =
     let told = c .before .before .before .before .before .before in
     after-index _ _ _ _ _ _ (told .enum-told2 .given .1) refl (c .before .before .call-index .ensures _ _ _)
 
-same-length-2 : tie.Need-same-length-2
-same-length-2 c = search needs
-
 returns-3 : tie.Need-returns-3
 returns-3 c =
     let known = c .before .before .before .before .before .before in
     after-repeats _ _ _ _ _ _ _ _ (known .h .given .1) refl (c .before .before .call-repeats .ensures _)
-
-same-length-3 : tie.Need-same-length-3
-same-length-3 c = search needs
 
 returns-4 : tie.Need-returns-4
 returns-4 c =
@@ -137,17 +77,11 @@ returns-4 c =
     after-seal _ _ _ _ _ _ _ _ is refl (told .before .before .before .before .pre .size ∙ ap sizeOf is)
     (c .before .before .call-seal .ensures)
 
-same-length-4 : tie.Need-same-length-4
-same-length-4 c = search needs
-
 returns-5 : tie.Need-returns-5
 returns-5 c =
     let wide = c .before .before .before .before .before .before .before .before .before in
     after-capture _ _ _ _ _ _ _ _ _ _ _ _ _ (wide .before .before .h2 .given .1) refl (rw (wide .wide .ensures))
     (c .before .before .call-capture .ensures)
-
-same-length-5 : tie.Need-same-length-5
-same-length-5 c = search needs
 
 returns-6 : tie.Need-returns-6
 returns-6 c =
@@ -157,40 +91,10 @@ returns-6 c =
 
 pub call-spec : {M : Type 1} → statement M
 call-spec =
-    tie.close
-    (tie.spec
-    add-from
-    enum-told
-    enum-told-2
-    call-index-requires
-    add-result
-    enum-known-h
-    call-repeats-requires
-    add-result-2
-    enum-told-3
-    call-seal-requires
-    enum-known-h-2
-    wide-requires
-    add-next
-    sub-call-capture
-    part-call-capture-start
-    part-call-capture-end
-    call-capture-requires
-    enum-known-h-3
-    wide-requires-2
-    add-next-2
-    sub-call-luma
-    part-call-luma-start
-    part-call-luma-end
-    call-luma-requires
-    returns
-    same-length
-    returns-2
-    same-length-2
-    returns-3
-    same-length-3
-    returns-4
-    same-length-4
-    returns-5
-    same-length-5
-    returns-6)
+    tie.close (tie.spec (λ c. search needs) (λ c. search needs) (λ c. search needs) call-index-requires
+    (λ c. search needs) (λ c. search needs) call-repeats-requires (λ c. search needs) (λ c. search needs)
+    call-seal-requires (λ c. search needs) (λ c κs. search needs) (λ c. search needs) (λ c. search needs)
+    (λ c. search needs) part-call-capture-end call-capture-requires (λ c. search needs) (λ c κs. search needs)
+    (λ c. search needs) (λ c. search needs) (λ c. search needs) part-call-luma-end call-luma-requires returns
+    (λ c. search needs) returns-2 (λ c. search needs) returns-3 (λ c. search needs) returns-4 (λ c. search needs)
+    returns-5 (λ c. search needs) returns-6)

@@ -7,15 +7,6 @@ use native.Mathlib.Omega.{arith}
 use Rattle.replay.proofs.call_capture.Statement.{statement}
 use Rattle.replay.proofs.call_capture.Tie as tie
 
-feed-capture-requires : tie.Need-feed-capture-requires
-feed-capture-requires c κs = search needs
-
-put-requires : tie.Need-put-requires
-put-requires c κs = search needs
-
-same-length : tie.Need-same-length
-same-length c = search needs
-
 returns : tie.Need-returns
 returns c = record {
   answer = _;
@@ -29,4 +20,4 @@ returns c = record {
 }
 
 pub call-capture-spec : {M : Type 1} → statement M
-call-capture-spec = tie.close (tie.spec feed-capture-requires put-requires same-length returns)
+call-capture-spec = tie.close (tie.spec (λ c κs. search needs) (λ c κs. search needs) (λ c. search needs) returns)

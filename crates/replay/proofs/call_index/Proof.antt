@@ -4,14 +4,8 @@ use borrow.Author.Needs.{needs}
 use Rattle.replay.proofs.call_index.Statement.{statement}
 use Rattle.replay.proofs.call_index.Tie as tie
 
-index-requires : tie.Need-index-requires
-index-requires c κs = search needs
-
 put-index-requires : tie.Need-put-index-requires
 put-index-requires c κs = (c .before .before .before .pre, c .before .index .ensures .given)
-
-same-length : tie.Need-same-length
-same-length c = search needs
 
 returns : tie.Need-returns
 returns c walk kept table =
@@ -22,4 +16,4 @@ returns c walk kept table =
     }
 
 pub call-index-spec : {M : Type 1} → statement M
-call-index-spec = tie.close (tie.spec index-requires put-index-requires same-length returns)
+call-index-spec = tie.close (tie.spec (λ c κs. search needs) put-index-requires (λ c. search needs) returns)

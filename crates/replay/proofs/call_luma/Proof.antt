@@ -7,15 +7,6 @@ use native.Mathlib.Omega.{arith}
 use Rattle.replay.proofs.call_luma.Statement.{statement}
 use Rattle.replay.proofs.call_luma.Tie as tie
 
-feed-luma-requires : tie.Need-feed-luma-requires
-feed-luma-requires c κs = search needs
-
-put-requires : tie.Need-put-requires
-put-requires c κs = search needs
-
-same-length : tie.Need-same-length
-same-length c = search needs
-
 returns : tie.Need-returns
 returns c = record {
   answer = _;
@@ -29,4 +20,4 @@ returns c = record {
 }
 
 pub call-luma-spec : {M : Type 1} → statement M
-call-luma-spec = tie.close (tie.spec feed-luma-requires put-requires same-length returns)
+call-luma-spec = tie.close (tie.spec (λ c κs. search needs) (λ c κs. search needs) (λ c. search needs) returns)

@@ -8,15 +8,6 @@ use borrow.Author.Needs.{needs}
 use Rattle.replay.proofs.call_repeats.Statement.{statement}
 use Rattle.replay.proofs.call_repeats.Tie as tie
 
-repeats-requires : tie.Need-repeats-requires
-repeats-requires c κs = search needs
-
-put-requires : tie.Need-put-requires
-put-requires c κs = search needs
-
-same-length : tie.Need-same-length
-same-length c = search needs
-
 returns : tie.Need-returns
 returns c capture =
     let asked = c .before .before .before .before in
@@ -30,4 +21,4 @@ returns c capture =
     }
 
 pub call-repeats-spec : {M : Type 1} → statement M
-call-repeats-spec = tie.close (tie.spec repeats-requires put-requires same-length returns)
+call-repeats-spec = tie.close (tie.spec (λ c κs. search needs) (λ c κs. search needs) (λ c. search needs) returns)

@@ -10,36 +10,6 @@ use Rattle.replay.proofs.Outcomes.{sealed-law}
 use Rattle.replay.proofs.call_seal.Statement.{statement}
 use Rattle.replay.proofs.call_seal.Tie as tie
 
-sub-fill : tie.Need-sub-fill
-sub-fill c = search needs
-
-part-fill-start : tie.Need-part-fill-start
-part-fill-start c = search needs
-
-part-fill-end : tie.Need-part-fill-end
-part-fill-end c = search needs
-
-fill-requires : tie.Need-fill-requires
-fill-requires c κs = search needs
-
-sub-seal : tie.Need-sub-seal
-sub-seal c = search needs
-
-part-seal-start : tie.Need-part-seal-start
-part-seal-start c = search needs
-
-part-seal-end : tie.Need-part-seal-end
-part-seal-end c = search needs
-
-seal-requires : tie.Need-seal-requires
-seal-requires c κs = search needs
-
-put-requires : tie.Need-put-requires
-put-requires c κs = search needs
-
-same-length : tie.Need-same-length
-same-length c = search needs
-
 returns : tie.Need-returns
 returns c =
     let out : List ℕ = c .before .before .before .before .before .before .before .before .before .before .before
@@ -67,16 +37,6 @@ returns c =
 
 pub call-seal-spec : {M : Type 1} → statement M
 call-seal-spec =
-    tie.close
-    (tie.spec
-    sub-fill
-    part-fill-start
-    part-fill-end
-    fill-requires
-    sub-seal
-    part-seal-start
-    part-seal-end
-    seal-requires
-    put-requires
-    same-length
-    returns)
+    tie.close (tie.spec (λ c. search needs) (λ c. search needs) (λ c. search needs) (λ c κs. search needs)
+    (λ c. search needs) (λ c. search needs) (λ c. search needs) (λ c κs. search needs) (λ c κs. search needs)
+    (λ c. search needs) returns)

@@ -9,17 +9,8 @@ use Rattle.replay.proofs.Laws.{replays, no-room, kept-promise, answer-f
 use Rattle.replay.proofs.replay.Statement.{statement}
 use Rattle.replay.proofs.replay.Tie as tie
 
-has-room-requires : tie.Need-has-room-requires
-has-room-requires c κs = search needs
-
 returns : tie.Need-returns
 returns c = no-room _ _ _ (c .before .has-room .ensures) (not-true _ (c .if1 .taken))
-
-opening-requires : tie.Need-opening-requires
-opening-requires c κs = search needs
-
-open-requires : tie.Need-open-requires
-open-requires c κs = search needs
 
 put-requires : tie.Need-put-requires
 put-requires c κs = answer-fits (c .before .before .before .before .before .before .before .before .before .before
@@ -56,15 +47,6 @@ part-all-start c = omega (
       .before .before .before .before .before .before .before .before .before .before .if1 .left)),
 )
 
-part-all-end : tie.Need-part-all-end
-part-all-end c = search needs
-
-all-requires : tie.Need-all-requires
-all-requires c κs = search needs
-
-same-length : tie.Need-same-length
-same-length c = search needs
-
 returns-2 : tie.Need-returns-2
 returns-2 c =
     let script : List ℕ = c .before .before .before .before .before .before .before .before .before .before .before
@@ -94,16 +76,5 @@ returns-2 c =
 
 pub replay-spec : {M : Type 1} → statement M
 replay-spec =
-    tie.close
-    (tie.spec
-    has-room-requires
-    returns
-    opening-requires
-    open-requires
-    put-requires
-    sub-all
-    part-all-start
-    part-all-end
-    all-requires
-    same-length
-    returns-2)
+    tie.close (tie.spec (λ c κs. search needs) returns (λ c κs. search needs) (λ c κs. search needs) put-requires
+    sub-all part-all-start (λ c. search needs) (λ c κs. search needs) (λ c. search needs) returns-2)

@@ -7,20 +7,8 @@ use Rattle.replay_outcomes.proofs.Laws.{put-law}
 use Rattle.replay_outcomes.proofs.put.Statement.{statement}
 use Rattle.replay_outcomes.proofs.put.Tie as tie
 
-kind-requires : tie.Need-kind-requires
-kind-requires c κs = search needs
-
-slice-write-out : tie.Need-slice-write-out
-slice-write-out c = omega arith
-
-first-requires : tie.Need-first-requires
-first-requires c κs = search needs
-
 put64-requires : tie.Need-put64-requires
 put64-requires c κs = simp length-set (omega arith)
-
-second-requires : tie.Need-second-requires
-second-requires c κs = search needs
 
 put64-requires-2 : tie.Need-put64-requires-2
 put64-requires-2 c κs = omega (arith, simp length-set at (c .before .before .before .before .put64 .kept .0))
@@ -44,5 +32,6 @@ returns c =
     (c .before .before .before .before .before .before .before .before .before .before .before .before .pre))
 
 pub put-spec : {M : Type 1} → statement M
-put-spec = tie.close (tie.spec kind-requires slice-write-out first-requires put64-requires second-requires
-    put64-requires-2 same-length returns)
+put-spec =
+    tie.close (tie.spec (λ c κs. search needs) (λ c. omega arith) (λ c κs. search needs) put64-requires
+    (λ c κs. search needs) put64-requires-2 same-length returns)

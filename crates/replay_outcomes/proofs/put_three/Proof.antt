@@ -7,9 +7,6 @@ use Rattle.replay_outcomes.proofs.Laws.{three-law}
 use Rattle.replay_outcomes.proofs.put_three.Statement.{statement}
 use Rattle.replay_outcomes.proofs.put_three.Tie as tie
 
-slice-write-out : tie.Need-slice-write-out
-slice-write-out c = search needs
-
 put64-requires : tie.Need-put64-requires
 put64-requires c κs = simp length-set (omega arith)
 
@@ -38,4 +35,4 @@ returns c =
 
 pub put-three-spec : {M : Type 1} → statement M
 put-three-spec =
-    tie.close (tie.spec slice-write-out put64-requires put64-requires-2 put64-requires-3 same-length returns)
+    tie.close (tie.spec (λ c. search needs) put64-requires put64-requires-2 put64-requires-3 same-length returns)

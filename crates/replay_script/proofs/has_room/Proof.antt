@@ -23,32 +23,17 @@ returns c = sym (lt-leb (roomFor (c .before .before .args .script .now)) (c .bef
 loop-holds : tie.Need-loop-holds Inv-loop μ-loop
 loop-holds c = (omega arith, taken-start _)
 
-head-at-requires : tie.Need-head-at-requires Inv-loop μ-loop
-head-at-requires c κs = omega arith
-
-size-requires : tie.Need-size-requires Inv-loop μ-loop
-size-requires c κs = search needs
-
 returns-2 : tie.Need-returns-2 Inv-loop μ-loop
 returns-2 c =
     let l = c .before .before .before .before .loop in
     taken-stop _ (l .at) (l .to) _ (l .inv .1) (l .inv .0) (omega arith)
     (sym (c .before .size .ensures ∙ ap sizeOf (c .before .before .head-at .ensures)) ∙ c .if2 .taken)
 
-sub-if3 : tie.Need-sub-if3 Inv-loop μ-loop
-sub-if3 c = omega arith
-
 returns-3 : tie.Need-returns-3 Inv-loop μ-loop
 returns-3 c =
     let l = c .before .before .before .before .before .loop in
     let size = c .before .before .size .ensures ∙ ap sizeOf (c .before .before .before .head-at .ensures) in
     taken-full _ (l .at) (l .to) _ (l .inv .1) (l .inv .0) (omega arith) (omega arith)
-
-add-to : tie.Need-add-to Inv-loop μ-loop
-add-to c = omega arith
-
-next-at-requires : tie.Need-next-at-requires Inv-loop μ-loop
-next-at-requires c κs = search needs
 
 loop-less : tie.Need-loop-less Inv-loop μ-loop
 loop-less c =
@@ -69,19 +54,5 @@ returns-4 c = let l = c .before .loop in taken-end _ (l .at) (l .to) _ (l .inv .
 
 pub has-room-spec : {M : Type 1} → statement M
 has-room-spec =
-    tie.close
-    (tie.spec
-    Inv-loop
-    μ-loop
-    returns
-    loop-holds
-    head-at-requires
-    size-requires
-    returns-2
-    sub-if3
-    returns-3
-    add-to
-    next-at-requires
-    loop-less
-    loop-again
-    returns-4)
+    tie.close (tie.spec Inv-loop μ-loop returns loop-holds (λ c κs. omega arith) (λ c κs. search needs) returns-2
+    (λ c. omega arith) returns-3 (λ c. omega arith) (λ c κs. search needs) loop-less loop-again returns-4)

@@ -6,14 +6,8 @@ use Rattle.replay_script.proofs.Laws.{short, passage-head, other-head}
 use Rattle.replay_script.proofs.head_at.Statement.{statement}
 use Rattle.replay_script.proofs.head_at.Tie as tie
 
-shared-slice-read-kind : tie.Need-shared-slice-read-kind
-shared-slice-read-kind c = search needs
-
 returns : tie.Need-returns
 returns c = rw (eq-eqb _ _ (c .if1 .taken))
-
-passage-at-requires : tie.Need-passage-at-requires
-passage-at-requires c κs = search needs
 
 returns-2 : tie.Need-returns-2
 returns-2 c =
@@ -21,23 +15,11 @@ returns-2 c =
     let s = first .before .before .before .args in
     passage-head (s .script .now) (s .at) (first .if1 .left) (c .before .if2 .taken) (c .passage-at .ensures)
 
-sub-left : tie.Need-sub-left
-sub-left c = search needs
-
 returns-3 : tie.Need-returns-3
 returns-3 c =
     let first = c .before .before in
     let s = first .before .before .before .args in
     other-head (s .script .now) (s .at) (first .if1 .left) (c .before .if2 .left) (short _ _ _ (c .if3 .taken))
-
-add-word32 : tie.Need-add-word32
-add-word32 c = search needs
-
-word32-requires : tie.Need-word32-requires
-word32-requires c κs = search needs
-
-head-by-requires : tie.Need-head-by-requires
-head-by-requires c κs = search needs
 
 returns-4 : tie.Need-returns-4
 returns-4 c =
@@ -49,15 +31,5 @@ returns-4 c =
 
 pub head-at-spec : {M : Type 1} → statement M
 head-at-spec =
-    tie.close
-    (tie.spec
-    shared-slice-read-kind
-    returns
-    passage-at-requires
-    returns-2
-    sub-left
-    returns-3
-    add-word32
-    word32-requires
-    head-by-requires
-    returns-4)
+    tie.close (tie.spec (λ c. search needs) returns (λ c κs. search needs) returns-2 (λ c. search needs) returns-3
+    (λ c. search needs) (λ c κs. search needs) (λ c κs. search needs) returns-4)

@@ -15,9 +15,6 @@ returns-2 : tie.Need-returns-2
 unfolding headBy
 returns-2 c = rw (le-ltb _ _ (c .before .if1 .left), eq-eqb _ _ (c .if2 .taken))
 
-wide-requires : tie.Need-wide-requires
-wide-requires c κs = search needs
-
 returns-3 : tie.Need-returns-3
 unfolding headBy
 returns-3 c =
@@ -64,4 +61,4 @@ returns-6 c =
     )
 
 pub head-by-spec : {M : Type 1} → statement M
-head-by-spec = tie.close (tie.spec returns returns-2 wide-requires returns-3 returns-4 returns-5 returns-6)
+head-by-spec = tie.close (tie.spec returns returns-2 (λ c κs. search needs) returns-3 returns-4 returns-5 returns-6)

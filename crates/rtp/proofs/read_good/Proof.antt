@@ -105,15 +105,6 @@ put-units-requires c κs =
       ),
     )
 
-same-length : tie.Need-same-length
-same-length c = search needs
-
-same-length-2 : tie.Need-same-length-2
-same-length-2 c = search needs
-
-same-length-3 : tie.Need-same-length-3
-same-length-3 c = search needs
-
 returns : tie.Need-returns
 returns c =
     let c₂ = c .before .before .before .before .before .before .before .before .before .before in
@@ -125,17 +116,7 @@ returns c =
 
 pub read-good-spec : {M : Type 1} → statement M
 read-good-spec =
-    tie.close
-    (tie.spec
-    slice-relend-prefix-put-in-order
-    slice-aggregate-put-in-order
-    slice-relend-prefix-put-in-order-2
-    slice-aggregate-put-in-order-2
-    put-in-order-requires
-    slice-reshare-prefix-put-units
-    slice-aggregate-put-units
-    put-units-requires
-    same-length
-    same-length-2
-    same-length-3
-    returns)
+    tie.close (tie.spec slice-relend-prefix-put-in-order slice-aggregate-put-in-order
+    slice-relend-prefix-put-in-order-2 slice-aggregate-put-in-order-2 put-in-order-requires
+    slice-reshare-prefix-put-units slice-aggregate-put-units put-units-requires (λ c. search needs)
+    (λ c. search needs) (λ c. search needs) returns)

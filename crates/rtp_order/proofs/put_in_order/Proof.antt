@@ -6,21 +6,6 @@ use Rattle.rtp_order.proofs.Firsts.{new-ordered}
 use Rattle.rtp_order.proofs.put_in_order.Statement.{statement}
 use Rattle.rtp_order.proofs.put_in_order.Tie as tie
 
-put-rows-requires : tie.Need-put-rows-requires
-put-rows-requires c κs = search needs
-
-sort-requires : tie.Need-sort-requires
-sort-requires c κs = search needs
-
-keep-requires : tie.Need-keep-requires
-keep-requires c κs = search needs
-
-same-length : tie.Need-same-length
-same-length c = search needs
-
-same-length-2 : tie.Need-same-length-2
-same-length-2 c = search needs
-
 returns : tie.Need-returns
 returns c =
     let k = c .before .before .keep .ensures in
@@ -36,5 +21,5 @@ returns c =
 
 pub put-in-order-spec : {M : Type 1} → statement M
 put-in-order-spec =
-    tie.close
-    (tie.spec put-rows-requires sort-requires keep-requires same-length same-length-2 returns)
+    tie.close (tie.spec (λ c κs. search needs) (λ c κs. search needs) (λ c κs. search needs) (λ c. search needs)
+    (λ c. search needs) returns)

@@ -24,15 +24,6 @@ loop-holds c =
 ends-requires : tie.Need-ends-requires Inv-loop μ-loop
 ends-requires c κs = (c .loop-test .taken, c .before .before .before .before .pre)
 
-add-i : tie.Need-add-i Inv-loop μ-loop
-add-i c = omega arith
-
-add-units : tie.Need-add-units Inv-loop μ-loop
-add-units c = omega arith
-
-loop-less : tie.Need-loop-less Inv-loop μ-loop
-loop-less c = omega arith
-
 loop-again : tie.Need-loop-again Inv-loop μ-loop
 loop-again c =
     let l = c .before .before .before in
@@ -42,9 +33,6 @@ loop-again c =
       λ k e. counted k rows (l .loop .i) (l .loop .units) _ (l .loop .inv .2 k e) (omega arith)
           (rw e (sym (c .before .ends .ensures) ∙ c .if1 .taken)),
     )
-
-loop-less-2 : tie.Need-loop-less-2 Inv-loop μ-loop
-loop-less-2 c = omega arith
 
 loop-again-2 : tie.Need-loop-again-2 Inv-loop μ-loop
 loop-again-2 c =
@@ -65,16 +53,5 @@ returns c = (
 
 pub count-units-spec : {M : Type 1} → statement M
 count-units-spec =
-    tie.close
-    (tie.spec
-    Inv-loop
-    μ-loop
-    loop-holds
-    ends-requires
-    add-i
-    add-units
-    loop-less
-    loop-again
-    loop-less-2
-    loop-again-2
-    returns)
+    tie.close (tie.spec Inv-loop μ-loop loop-holds ends-requires (λ c. omega arith) (λ c. omega arith)
+    (λ c. omega arith) loop-again (λ c. omega arith) loop-again-2 returns)

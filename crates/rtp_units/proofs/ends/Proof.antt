@@ -4,15 +4,6 @@ use Rattle.rtp_units.proofs.Units.{all-at, ends-marked, ends-last}
 use Rattle.rtp_units.proofs.ends.Statement.{statement}
 use Rattle.rtp_units.proofs.ends.Tie as tie
 
-mul-number : tie.Need-mul-number
-mul-number c = search needs
-
-shared-slice-read-number : tie.Need-shared-slice-read-number
-shared-slice-read-number c = search needs
-
-number-requires : tie.Need-number-requires
-number-requires c κs = search needs
-
 shared-slice-read-if1 : tie.Need-shared-slice-read-if1
 shared-slice-read-if1 c =
     let st = c .before .before .before .before .before in
@@ -29,9 +20,6 @@ returns c =
     ends-marked (st .args .marker .now) (st .args .rows .now) (st .args .i) _ (c .before .before .number .ensures .0)
     (c .if1 .taken)
 
-add-result : tie.Need-add-result
-add-result c = search needs
-
 returns-2 : tie.Need-returns-2
 returns-2 c =
     let st = c .before .before .before .before .before .before in
@@ -40,12 +28,5 @@ returns-2 c =
 
 pub ends-spec : {M : Type 1} → statement M
 ends-spec =
-    tie.close
-    (tie.spec
-    mul-number
-    shared-slice-read-number
-    number-requires
-    shared-slice-read-if1
-    returns
-    add-result
-    returns-2)
+    tie.close (tie.spec (λ c. search needs) (λ c. search needs) (λ c κs. search needs) shared-slice-read-if1 returns
+    (λ c. search needs) returns-2)

@@ -6,12 +6,6 @@ use Rattle.rtp_units.proofs.Room.{too-short, long-enough}
 use Rattle.rtp_units.proofs.put_units.Statement.{statement}
 use Rattle.rtp_units.proofs.put_units.Tie as tie
 
-count-units-requires : tie.Need-count-units-requires
-count-units-requires c κs = search needs
-
-mul-needed : tie.Need-mul-needed
-mul-needed c = search needs
-
 returns : tie.Need-returns
 returns c =
     let a = c .before .before .before .before .before .before .before .args in
@@ -26,9 +20,6 @@ write-units-requires c κs =
     let st = c .before .before .before .before .before .before .before .before in
     (st .pre .0, (st .pre .1, omega (arith, c .before .before .count-units .ensures .1 l refl, c .before .if1 .left)))
 
-same-length : tie.Need-same-length
-same-length c = search needs
-
 returns-2 : tie.Need-returns-2
 returns-2 c =
     let a = c .before .before .before .before .before .before .before .before .before .before .before .args in
@@ -39,5 +30,5 @@ returns-2 c =
 
 pub put-units-spec : {M : Type 1} → statement M
 put-units-spec =
-    tie.close
-    (tie.spec count-units-requires mul-needed returns write-units-requires same-length returns-2)
+    tie.close (tie.spec (λ c κs. search needs) (λ c. search needs) returns write-units-requires (λ c. search needs)
+    returns-2)

@@ -31,9 +31,6 @@ Inv-loop marker time size rows buffer₀ unit₀ j₀ i₀ buffer unit j i =
 abbrev μ-loop : tie.MeasureT-loop
 μ-loop marker time size rows buffer₀ unit₀ j₀ i₀ buffer unit j i = length rows - i
 
-no-unit-requires : tie.Need-no-unit-requires Inv-loop μ-loop
-no-unit-requires c κs = search needs
-
 loop-holds : tie.Need-loop-holds Inv-loop μ-loop
 loop-holds c =
     let st = c .before .before .before .before .before .before in
@@ -49,15 +46,6 @@ loop-holds c =
       ap (λ (us : List UnitRow). written 0 (rowsBytes us) (st .args .buffer .now)) (onto-units k rows)
           ∙ over-written (rowsBytes (rtpUnitsIn k rows)) (st .args .buffer .now),
     )
-
-mul-number : tie.Need-mul-number Inv-loop μ-loop
-mul-number c = omega arith
-
-shared-slice-read-number : tie.Need-shared-slice-read-number Inv-loop μ-loop
-shared-slice-read-number c = omega arith
-
-number-requires : tie.Need-number-requires Inv-loop μ-loop
-number-requires c κs = search needs
 
 -- the row's number is one of the lists'
 there : (c : tie.After-number Inv-loop μ-loop) →
@@ -80,9 +68,6 @@ mul-joined-2 c = omega (arith, c .before .number .ensures .1)
 
 shared-slice-read-joined-2 : tie.Need-shared-slice-read-joined-2 Inv-loop μ-loop
 shared-slice-read-joined-2 c = omega (arith, c .before .before .number .ensures .0, there (c .before .before))
-
-missing-requires : tie.Need-missing-requires Inv-loop μ-loop
-missing-requires c κs = omega arith
 
 joined-requires : tie.Need-joined-requires Inv-loop μ-loop
 joined-requires c κs =
@@ -138,9 +123,6 @@ ends-requires c κs =
     let l = c .before .before .before .before .before .before .before in
     (omega arith, l .before .before .before .before .before .before .before .pre .1 .0 .1)
 
-add-i : tie.Need-add-i Inv-loop μ-loop
-add-i c = omega arith
-
 -- the buffer has room for its row
 space : (c : tie.After-write-unit-arg Inv-loop μ-loop) →
     32 * c .before .before .before .before .before .before .before .before .before .before .loop .j + 32 ≤ length
@@ -172,9 +154,6 @@ mul-write-unit c =
 write-unit-requires : tie.Need-write-unit-requires Inv-loop μ-loop
 write-unit-requires c κs = omega (arith, space c)
 
-no-unit-requires-2 : tie.Need-no-unit-requires-2 Inv-loop μ-loop
-no-unit-requires-2 c κs = search needs
-
 add-j : tie.Need-add-j Inv-loop μ-loop
 add-j c =
     let back = c .before .before .before .before .before .before .before in
@@ -185,9 +164,6 @@ add-j c =
       l .loop .inv .4,
       l .before .before .before .before .before .before .before .good .1 .1 .1 .1 .0 .0,
     )
-
-loop-less : tie.Need-loop-less Inv-loop μ-loop
-loop-less c = omega arith
 
 loop-again : tie.Need-loop-again Inv-loop μ-loop
 loop-again c =
@@ -217,9 +193,6 @@ loop-again c =
           (c .before .before .before .write-unit .ensures
           ∙ ap (λ (u : UnitRow). written (32 * l .loop .j) (unitBytes u) (l .loop .buffer)) (made (m .before))),
     )
-
-loop-less-2 : tie.Need-loop-less-2 Inv-loop μ-loop
-loop-less-2 c = omega arith
 
 loop-again-2 : tie.Need-loop-again-2 Inv-loop μ-loop
 loop-again-2 c =
@@ -260,30 +233,7 @@ returns c =
 
 pub write-units-spec : {M : Type 1} → statement M
 write-units-spec =
-    tie.close
-    (tie.spec
-    Inv-loop
-    μ-loop
-    no-unit-requires
-    loop-holds
-    mul-number
-    shared-slice-read-number
-    number-requires
-    mul-joined
-    shared-slice-read-joined
-    mul-joined-2
-    shared-slice-read-joined-2
-    missing-requires
-    joined-requires
-    ends-requires
-    add-i
-    mul-write-unit
-    write-unit-requires
-    no-unit-requires-2
-    add-j
-    loop-less
-    loop-again
-    loop-less-2
-    loop-again-2
-    same-length
-    returns)
+    tie.close (tie.spec Inv-loop μ-loop (λ c κs. search needs) loop-holds (λ c. omega arith) (λ c. omega arith)
+    (λ c κs. search needs) mul-joined shared-slice-read-joined mul-joined-2 shared-slice-read-joined-2
+    (λ c κs. omega arith) joined-requires ends-requires (λ c. omega arith) mul-write-unit write-unit-requires
+    (λ c κs. search needs) add-j (λ c. omega arith) loop-again (λ c. omega arith) loop-again-2 same-length returns)

@@ -5,21 +5,6 @@ use borrow.Author.Needs.{needs}
 use Rattle.sample.proofs.open.Statement.{statement}
 use Rattle.sample.proofs.open.Tie as tie
 
-opening-fault-requires : tie.Need-opening-fault-requires
-opening-fault-requires c κs = search needs
-
-cast-open : tie.Need-cast-open
-cast-open c = search needs
-
-cast-open-2 : tie.Need-cast-open-2
-cast-open-2 c = search needs
-
-open-requires : tie.Need-open-requires
-open-requires c κs = search needs
-
-open-requires-2 : tie.Need-open-requires-2
-open-requires-2 c κs = search needs
-
 returns : tie.Need-returns
 returns c =
     let f = c .before .before .before .before .before .before .before .before .before .before .before
@@ -36,11 +21,5 @@ returns c =
 
 pub open-spec : {M : Type 1} → statement M
 open-spec =
-    tie.close
-    (tie.spec
-    opening-fault-requires
-    cast-open
-    cast-open-2
-    open-requires
-    open-requires-2
-    returns)
+    tie.close (tie.spec (λ c κs. search needs) (λ c. search needs) (λ c. search needs) (λ c κs. search needs)
+    (λ c κs. search needs) returns)

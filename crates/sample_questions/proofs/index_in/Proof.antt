@@ -4,21 +4,6 @@ use borrow.Author.Needs.{needs}
 use Rattle.sample_questions.proofs.index_in.Statement.{statement}
 use Rattle.sample_questions.proofs.index_in.Tie as tie
 
-low-requires : tie.Need-low-requires
-low-requires c κs = search needs
-
-low-requires-2 : tie.Need-low-requires-2
-low-requires-2 c κs = search needs
-
-low-requires-3 : tie.Need-low-requires-3
-low-requires-3 c κs = search needs
-
-low-requires-4 : tie.Need-low-requires-4
-low-requires-4 c κs = search needs
-
-index-from-requires : tie.Need-index-from-requires
-index-from-requires c κs = search needs
-
 returns : tie.Need-returns
 returns c =
     index-by (c .before .before .before .before .low .ensures) (c .before .before .before .low2 .ensures)
@@ -26,11 +11,5 @@ returns c =
 
 pub index-in-spec : {M : Type 1} → statement M
 index-in-spec =
-    tie.close
-    (tie.spec
-    low-requires
-    low-requires-2
-    low-requires-3
-    low-requires-4
-    index-from-requires
-    returns)
+    tie.close (tie.spec (λ c κs. search needs) (λ c κs. search needs) (λ c κs. search needs) (λ c κs. search needs)
+    (λ c κs. search needs) returns)

@@ -6,31 +6,16 @@ use borrow.Author.Needs.{needs}
 use Rattle.sample_seal.proofs.seal.Statement.{statement}
 use Rattle.sample_seal.proofs.seal.Tie as tie
 
-sum-up-requires : tie.Need-sum-up-requires
-sum-up-requires c κs = search needs
-
-summarise-requires : tie.Need-summarise-requires
-summarise-requires c κs = search needs
-
-refused-requires : tie.Need-refused-requires
-refused-requires c κs = search needs
-
 returns : tie.Need-returns
 returns c =
     post-capture _ _ _ _ (c .before .before .before .before .sum-up .ensures)
     (c .before .before .before .summarise .ensures) _ (c .refused .ensures) (c .before .if1 .taken)
-
-refused-requires-2 : tie.Need-refused-requires-2
-refused-requires-2 c κs = search needs
 
 returns-2 : tie.Need-returns-2
 returns-2 c =
     post-luma _ _ _ _ (c .before .before .before .before .before .before .sum-up .ensures)
     (c .before .before .before .before .before .summarise .ensures) _ (c .before .before .before .if1 .left)
     (c .refused2 .ensures) (c .before .if2 .taken)
-
-refused-requires-3 : tie.Need-refused-requires-3
-refused-requires-3 c κs = search needs
 
 returns-3 : tie.Need-returns-3
 returns-3 c =
@@ -39,18 +24,12 @@ returns-3 c =
     (c .before .before .before .before .if1 .left) (c .before .before .if2 .left) (c .refused3 .ensures)
     (c .before .if3 .taken)
 
-refused-requires-4 : tie.Need-refused-requires-4
-refused-requires-4 c κs = search needs
-
 returns-4 : tie.Need-returns-4
 returns-4 c =
     post-no-packet _ _ _ _ (c .before .before .before .before .before .before .before .before .before .sum-up .ensures)
     (c .before .before .before .before .before .before .before .before .summarise .ensures) _
     (c .before .before .before .before .before .before .if1 .left) (c .before .before .before .before .if2 .left)
     (c .before .before .before .if3 .left) (c .refused4 .ensures) (c .before .if4 .taken)
-
-refused-requires-5 : tie.Need-refused-requires-5
-refused-requires-5 c κs = search needs
 
 returns-5 : tie.Need-returns-5
 returns-5 c =
@@ -60,9 +39,6 @@ returns-5 c =
     (c .before .before .before .before .before .before .before .if1 .left)
     (c .before .before .before .before .before .if2 .left) (c .before .before .before .before .if3 .left)
     (c .before .before .if4 .left) (c .refused5 .ensures) (c .before .if5 .taken)
-
-refused-requires-6 : tie.Need-refused-requires-6
-refused-requires-6 c κs = search needs
 
 returns-6 : tie.Need-returns-6
 returns-6 c =
@@ -74,15 +50,6 @@ returns-6 c =
     (c .before .before .before .before .before .before .before .if2 .left)
     (c .before .before .before .before .before .before .if3 .left) (c .before .before .before .before .if4 .left)
     (c .before .before .before .if5 .left) (c .refused6 .ensures) (c .before .if6 .taken)
-
-opening-in-requires : tie.Need-opening-in-requires
-opening-in-requires c κs = search needs
-
-write-requires : tie.Need-write-requires
-write-requires c κs = search needs
-
-same-length : tie.Need-same-length
-same-length c = search needs
 
 returns-7 : tie.Need-returns-7
 returns-7 c =
@@ -101,23 +68,7 @@ returns-7 c =
 
 pub seal-spec : {M : Type 1} → statement M
 seal-spec =
-    tie.close
-    (tie.spec
-    sum-up-requires
-    summarise-requires
-    refused-requires
-    returns
-    refused-requires-2
-    returns-2
-    refused-requires-3
-    returns-3
-    refused-requires-4
-    returns-4
-    refused-requires-5
-    returns-5
-    refused-requires-6
-    returns-6
-    opening-in-requires
-    write-requires
-    same-length
-    returns-7)
+    tie.close (tie.spec (λ c κs. search needs) (λ c κs. search needs) (λ c κs. search needs) returns
+    (λ c κs. search needs) returns-2 (λ c κs. search needs) returns-3 (λ c κs. search needs) returns-4
+    (λ c κs. search needs) returns-5 (λ c κs. search needs) returns-6 (λ c κs. search needs) (λ c κs. search needs)
+    (λ c. search needs) returns-7)

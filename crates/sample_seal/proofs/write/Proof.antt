@@ -10,9 +10,6 @@ use borrow.Author.Needs.{needs}
 use Rattle.sample_seal.proofs.write.Statement.{statement}
 use Rattle.sample_seal.proofs.write.Tie as tie
 
-refused-requires : tie.Need-refused-requires
-refused-requires c κs = search needs
-
 returns : tie.Need-returns
 returns c =
     record {
@@ -20,36 +17,12 @@ returns c =
       refusals = refused-leaves _ _ 12 _ (c .refused .ensures);
     }
 
-refused-requires-2 : tie.Need-refused-requires-2
-refused-requires-2 c κs = search needs
-
 returns-2 : tie.Need-returns-2
 returns-2 c =
     record {
       rule = λ fc fl r. absurd (omega (arith, few-pictures _ _ _ _ _ _ _ r, c .before .if2 .taken));
       refusals = refused-leaves _ _ 14 _ (c .refused2 .ensures);
     }
-
-cast-count : tie.Need-cast-count
-cast-count c = search needs
-
-count-requires : tie.Need-count-requires
-count-requires c κs = search needs
-
-cast-size : tie.Need-cast-size
-cast-size c = search needs
-
-add-size : tie.Need-add-size
-add-size c = search needs
-
-mul-size : tie.Need-mul-size
-mul-size c = search needs
-
-add-size-2 : tie.Need-add-size-2
-add-size-2 c = search needs
-
-refused-requires-3 : tie.Need-refused-requires-3
-refused-requires-3 c κs = search needs
 
 returns-3 : tie.Need-returns-3
 returns-3 c =
@@ -59,15 +32,6 @@ returns-3 c =
           (c .before .before .before .count .ensures) _ _ (c .before .if3 .taken) (c .refused3 .ensures);
       refusals = refused-leaves _ _ 15 _ (c .refused3 .ensures);
     }
-
-index-in-requires : tie.Need-index-in-requires
-index-in-requires c κs = search needs
-
-cast-header-of : tie.Need-cast-header-of
-cast-header-of c = search needs
-
-cast-header-of-2 : tie.Need-cast-header-of-2
-cast-header-of-2 c = search needs
 
 header-of-requires : tie.Need-header-of-requires
 header-of-requires c κs = c .index-in .ensures .numbers .value
@@ -88,9 +52,6 @@ write-record-requires c κs =
       c .before .before .before .before .before .before .before .before .before .if1 .left,
     )
 
-same-length : tie.Need-same-length
-same-length c = search needs
-
 returns-4 : tie.Need-returns-4
 returns-4 c =
     record {
@@ -107,24 +68,7 @@ returns-4 c =
 
 pub write-spec : {M : Type 1} → statement M
 write-spec =
-    tie.close
-    (tie.spec
-    refused-requires
-    returns
-    refused-requires-2
-    returns-2
-    cast-count
-    count-requires
-    cast-size
-    add-size
-    mul-size
-    add-size-2
-    refused-requires-3
-    returns-3
-    index-in-requires
-    cast-header-of
-    cast-header-of-2
-    header-of-requires
-    write-record-requires
-    same-length
-    returns-4)
+    tie.close (tie.spec (λ c κs. search needs) returns (λ c κs. search needs) returns-2 (λ c. search needs)
+    (λ c κs. search needs) (λ c. search needs) (λ c. search needs) (λ c. search needs) (λ c. search needs)
+    (λ c κs. search needs) returns-3 (λ c κs. search needs) (λ c. search needs) (λ c. search needs) header-of-requires
+    write-record-requires (λ c. search needs) returns-4)

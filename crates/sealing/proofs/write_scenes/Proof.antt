@@ -38,23 +38,11 @@ add-at-2 : tie.Need-add-at-2 Inv-loop μ-loop
 unfolding recordLength
 add-at-2 c = omega arith
 
-next-start-requires : tie.Need-next-start-requires Inv-loop μ-loop
-next-start-requires c κs = search needs
-
-scene-row-requires : tie.Need-scene-row-requires Inv-loop μ-loop
-scene-row-requires c κs = search needs
-
 write-scene-requires : tie.Need-write-scene-requires Inv-loop μ-loop
 unfolding recordLength sceneOffset
 write-scene-requires c κs =
     let i = c .before .before .before .before .loop .inv in
     omega (arith, i .0, i .1)
-
-add-j : tie.Need-add-j Inv-loop μ-loop
-add-j c = omega arith
-
-loop-less : tie.Need-loop-less Inv-loop μ-loop
-loop-less c = omega arith
 
 loop-again : tie.Need-loop-again Inv-loop μ-loop
 unfolding recordLength sceneOffset
@@ -86,19 +74,5 @@ returns c =
 
 pub write-scenes-spec : {M : Type 1} → statement M
 write-scenes-spec =
-    tie.close
-    (tie.spec
-    Inv-loop
-    μ-loop
-    loop-holds
-    add-at
-    mul-at
-    add-at-2
-    next-start-requires
-    scene-row-requires
-    write-scene-requires
-    add-j
-    loop-less
-    loop-again
-    same-length
-    returns)
+    tie.close (tie.spec Inv-loop μ-loop loop-holds add-at mul-at add-at-2 (λ c κs. search needs)
+    (λ c κs. search needs) write-scene-requires (λ c. omega arith) (λ c. omega arith) loop-again same-length returns)

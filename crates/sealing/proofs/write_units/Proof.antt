@@ -29,20 +29,11 @@ add-at : tie.Need-add-at Inv-loop μ-loop
 unfolding sceneOffset
 add-at c = omega arith
 
-row-requires : tie.Need-row-requires Inv-loop μ-loop
-row-requires c κs = search needs
-
 write-unit-requires : tie.Need-write-unit-requires Inv-loop μ-loop
 unfolding sceneOffset unitPlace
 write-unit-requires c κs =
     let i = c .before .before .before .loop .inv in
     omega (arith, i .0, i .1)
-
-add-j : tie.Need-add-j Inv-loop μ-loop
-add-j c = omega arith
-
-loop-less : tie.Need-loop-less Inv-loop μ-loop
-loop-less c = omega arith
 
 loop-again : tie.Need-loop-again Inv-loop μ-loop
 unfolding sceneOffset unitPlace
@@ -73,17 +64,5 @@ returns c =
 
 pub write-units-spec : {M : Type 1} → statement M
 write-units-spec =
-    tie.close
-    (tie.spec
-    Inv-loop
-    μ-loop
-    loop-holds
-    mul-at
-    add-at
-    row-requires
-    write-unit-requires
-    add-j
-    loop-less
-    loop-again
-    same-length
-    returns)
+    tie.close (tie.spec Inv-loop μ-loop loop-holds mul-at add-at (λ c κs. search needs) write-unit-requires
+    (λ c. omega arith) (λ c. omega arith) loop-again same-length returns)

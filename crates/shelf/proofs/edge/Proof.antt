@@ -6,18 +6,6 @@ use Rattle.shelf.proofs.Laws.{edge-inside, edge-end}
 use Rattle.shelf.proofs.edge.Statement.{statement}
 use Rattle.shelf.proofs.edge.Tie as tie
 
-mul-word32 : tie.Need-mul-word32
-mul-word32 c = search needs
-
-add-word32 : tie.Need-add-word32
-add-word32 c = search needs
-
-word32-requires : tie.Need-word32-requires
-word32-requires c κs = search needs
-
-cast-result : tie.Need-cast-result
-cast-result c = search needs
-
 returns : tie.Need-returns
 returns c = c .word32 .ensures ∙ sym (edge-inside (c .before .before .before .args .bytes .now) _ (omega arith))
 
@@ -26,4 +14,5 @@ returns-2 c = sym (edge-end (c .before .before .args .bytes .now) _ (omega arith
 
 pub edge-spec : {M : Type 1} → statement M
 edge-spec =
-    tie.close (tie.spec mul-word32 add-word32 word32-requires cast-result returns returns-2)
+    tie.close (tie.spec (λ c. search needs) (λ c. search needs) (λ c κs. search needs) (λ c. search needs) returns
+    returns-2)

@@ -7,34 +7,16 @@ use Rattle.shelf.proofs.laid_out.Tie as tie
 returns : tie.Need-returns
 returns c = no-words (c .before .before .args .bytes .now) (c .if1 .taken)
 
-word32-requires : tie.Need-word32-requires
-word32-requires c κs = search needs
-
-cast-records : tie.Need-cast-records
-cast-records c = search needs
-
 returns-2 : tie.Need-returns-2
 returns-2 c =
     let c₂ = c .before .before in
     too-many (c₂ .before .before .args .bytes .now) (c₂ .if1 .left) _ (c .before .word32 .ensures) (c .if2 .taken)
-
-mul-if3 : tie.Need-mul-if3
-mul-if3 c = search needs
-
-add-if3 : tie.Need-add-if3
-add-if3 c = search needs
 
 returns-3 : tie.Need-returns-3
 returns-3 c =
     let c₃ = c .before .before .before in
     no-head (c₃ .before .before .args .bytes .now) (c₃ .if1 .left) _ (c .before .before .word32 .ensures)
     (c .before .if2 .left) (c .if3 .taken)
-
-word32-requires-2 : tie.Need-word32-requires-2
-word32-requires-2 c κs = search needs
-
-cast-size : tie.Need-cast-size
-cast-size c = search needs
 
 returns-4 : tie.Need-returns-4
 returns-4 c =
@@ -45,15 +27,6 @@ returns-4 c =
     (c₂ .if3 .left) _
     (c .before .word322 .ensures) (c .if4 .taken)
 
-edge-requires : tie.Need-edge-requires
-edge-requires c κs = search needs
-
-mul-if5 : tie.Need-mul-if5
-mul-if5 c = search needs
-
-add-if5 : tie.Need-add-if5
-add-if5 c = search needs
-
 returns-5 : tie.Need-returns-5
 returns-5 c =
     let c₃ = c .before .before .before in
@@ -63,9 +36,6 @@ returns-5 c =
     other-first (c₇ .before .before .args .bytes .now) (c₇ .if1 .left) _ (c₅ .before .word32 .ensures)
     (c₅ .if2 .left) (c₄ .if3 .left) _
     (c₃ .word322 .ensures) (c .before .before .if4 .left) _ (c .before .edge .ensures) (c .if5 .taken)
-
-rising-requires : tie.Need-rising-requires
-rising-requires c κs = search needs
 
 returns-6 : tie.Need-returns-6
 returns-6 c =
@@ -80,21 +50,6 @@ returns-6 c =
 
 pub laid-out-spec : {M : Type 1} → statement M
 laid-out-spec =
-    tie.close
-    (tie.spec
-    returns
-    word32-requires
-    cast-records
-    returns-2
-    mul-if3
-    add-if3
-    returns-3
-    word32-requires-2
-    cast-size
-    returns-4
-    edge-requires
-    mul-if5
-    add-if5
-    returns-5
-    rising-requires
-    returns-6)
+    tie.close (tie.spec returns (λ c κs. search needs) (λ c. search needs) returns-2 (λ c. search needs)
+    (λ c. search needs) returns-3 (λ c κs. search needs) (λ c. search needs) returns-4 (λ c κs. search needs)
+    (λ c. search needs) (λ c. search needs) returns-5 (λ c κs. search needs) returns-6)

@@ -45,9 +45,6 @@ added c =
     (c .before .before .loop-test .taken)
     (ap (λ u. u .lost) (c .before .unit-row .ensures) ∙ lost-row r (st .pre .0) _ (omega (arith, st .pre .1)))
 
-cast-lost : tie.Need-cast-lost Inv-loop μ-loop
-cast-lost c = search needs
-
 add-lost : tie.Need-add-lost Inv-loop μ-loop
 add-lost c =
     let l = c .before .before .before in
@@ -61,12 +58,6 @@ add-lost c =
           );
     }
 
-add-i : tie.Need-add-i Inv-loop μ-loop
-add-i c = omega arith
-
-loop-less : tie.Need-loop-less Inv-loop μ-loop
-loop-less c = omega arith
-
 loop-again : tie.Need-loop-again Inv-loop μ-loop
 loop-again c = (omega arith, added c)
 
@@ -77,15 +68,5 @@ returns c =
 
 pub lost-in-spec : {M : Type 1} → statement M
 lost-in-spec =
-    tie.close
-    (tie.spec
-    Inv-loop
-    μ-loop
-    loop-holds
-    unit-row-requires
-    cast-lost
-    add-lost
-    add-i
-    loop-less
-    loop-again
-    returns)
+    tie.close (tie.spec Inv-loop μ-loop loop-holds unit-row-requires (λ c. search needs) add-lost (λ c. omega arith)
+    (λ c. omega arith) loop-again returns)

@@ -8,9 +8,6 @@ use Rattle.shelf.proofs.Laws.{laid-out}
 use Rattle.shelf.proofs.open.Statement.{statement}
 use Rattle.shelf.proofs.open.Tie as tie
 
-laid-out-requires : tie.Need-laid-out-requires
-laid-out-requires c κs = search needs
-
 returns : tie.Need-returns
 returns c =
     not-laid-out (c .before .before .before .args .bytes .now)
@@ -20,9 +17,6 @@ word32-requires : tie.Need-word32-requires
 word32-requires c κs =
     let right = sym (c .before .laid-out .ensures) ∙ not-false _ (c .if1 .left) in
     omega (arith, laid-out (c .before .before .before .args .bytes .now) right .head)
-
-cast-records : tie.Need-cast-records
-cast-records c = search needs
 
 read-records-requires : tie.Need-read-records-requires
 read-records-requires c κs =
@@ -37,11 +31,5 @@ returns-2 c =
 
 pub open-spec : {M : Type 1} → statement M
 open-spec =
-    tie.close
-    (tie.spec
-    laid-out-requires
-    returns
-    word32-requires
-    cast-records
-    read-records-requires
+    tie.close (tie.spec (λ c κs. search needs) returns word32-requires (λ c. search needs) read-records-requires
     returns-2)

@@ -6,12 +6,6 @@ use Rattle.shelf.proofs.Laws.{laid-out}
 use Rattle.shelf.proofs.part.Statement.{statement}
 use Rattle.shelf.proofs.part.Tie as tie
 
-open-requires : tie.Need-open-requires
-open-requires c κs = search needs
-
-enum-known-records : tie.Need-enum-known-records
-enum-known-records c = search needs
-
 returns : tie.Need-returns
 returns c =
     let g = c .before .before in
@@ -27,9 +21,6 @@ edge-requires c κs =
     let n = shelf-given s _ (o .«open» .ensures) _ _ (g .records .given .1) .1 in
     (n, omega (arith, n, laid-out s (shelf-laid-out s _ (o .«open» .ensures) _ _ (g .records .given .1)) .head))
 
-add-edge : tie.Need-add-edge
-add-edge c = search needs
-
 edge-requires-2 : tie.Need-edge-requires-2
 edge-requires-2 c κs =
     let g = c .before .before .before in
@@ -37,9 +28,6 @@ edge-requires-2 c κs =
     let s = o .before .before .args .bytes .now in
     let n = shelf-given s _ (o .«open» .ensures) _ _ (g .records .given .1) .1 in
     (n, omega (arith, n, laid-out s (shelf-laid-out s _ (o .«open» .ensures) _ _ (g .records .given .1)) .head))
-
-enum-known-number : tie.Need-enum-known-number
-enum-known-number c = search needs
 
 returns-2 : tie.Need-returns-2
 returns-2 c =
@@ -57,14 +45,5 @@ returns-3 c =
 
 pub part-spec : {M : Type 1} → statement M
 part-spec =
-    tie.close
-    (tie.spec
-    open-requires
-    enum-known-records
-    returns
-    edge-requires
-    add-edge
-    edge-requires-2
-    enum-known-number
-    returns-2
-    returns-3)
+    tie.close (tie.spec (λ c κs. search needs) (λ c. search needs) returns edge-requires (λ c. search needs)
+    edge-requires-2 (λ c. search needs) returns-2 returns-3)

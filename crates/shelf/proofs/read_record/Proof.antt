@@ -5,19 +5,10 @@ use Rattle.shelf.proofs.Steps.{record-given, record-done, record-refuse
 use Rattle.shelf.proofs.read_record.Statement.{statement}
 use Rattle.shelf.proofs.read_record.Tie as tie
 
-open-requires : tie.Need-open-requires
-open-requires c κs = search needs
-
-enum-known-units : tie.Need-enum-known-units
-enum-known-units c = search needs
-
 lost-in-requires : tie.Need-lost-in-requires
 lost-in-requires c κs =
     let o = c .before .before .before in
     record-given (o .before .before .args .bytes .now) _ (o .«open» .ensures) _ _ (c .before .units .given .1)
-
-enum-known-number : tie.Need-enum-known-number
-enum-known-number c = search needs
 
 returns : tie.Need-returns
 returns c =
@@ -32,5 +23,5 @@ returns-2 c =
 
 pub read-record-spec : {M : Type 1} → statement M
 read-record-spec =
-    tie.close
-    (tie.spec open-requires enum-known-units lost-in-requires enum-known-number returns returns-2)
+    tie.close (tie.spec (λ c κs. search needs) (λ c. search needs) lost-in-requires (λ c. search needs) returns
+    returns-2)

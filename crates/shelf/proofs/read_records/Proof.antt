@@ -39,9 +39,6 @@ headed s n pre = (pre .0, omega (arith, pre .0, laid-out s (pre .1) .head))
 edge-requires : tie.Need-edge-requires Inv-loop μ-loop
 edge-requires c κs = let st = c .before .before .before in headed (st .args .bytes .now) _ (st .pre)
 
-add-edge : tie.Need-add-edge Inv-loop μ-loop
-add-edge c = omega arith
-
 edge-requires-2 : tie.Need-edge-requires-2 Inv-loop μ-loop
 edge-requires-2 c κs = let st = c .before .before .before .before in headed (st .args .bytes .now) _ (st .pre)
 
@@ -85,15 +82,6 @@ part-read-record-start c = omega (arith, inside c .0)
 part-read-record-end : tie.Need-part-read-record-end Inv-loop μ-loop
 part-read-record-end c = omega (arith, inside c .1)
 
-read-record-requires : tie.Need-read-record-requires Inv-loop μ-loop
-read-record-requires c κs = search needs
-
-enum-known-read : tie.Need-enum-known-read Inv-loop μ-loop
-enum-known-read c = search needs
-
-enum-told : tie.Need-enum-told Inv-loop μ-loop
-enum-told c = search needs
-
 returns : tie.Need-returns Inv-loop μ-loop
 returns c =
     let r = c .before .before in
@@ -110,12 +98,6 @@ add-lost c =
     let s = known .before .args .bytes .now in
     let most = shelf-fits s (λ k. known .shared-slice-known .given k .fits) (known .before .pre .1) in
     record { fits = omega (arith, added c, most) }
-
-add-j : tie.Need-add-j Inv-loop μ-loop
-add-j c = omega arith
-
-loop-less : tie.Need-loop-less Inv-loop μ-loop
-loop-less c = omega arith
 
 loop-again : tie.Need-loop-again Inv-loop μ-loop
 loop-again c =
@@ -142,23 +124,6 @@ returns-2 c =
 
 pub read-records-spec : {M : Type 1} → statement M
 read-records-spec =
-    tie.close
-    (tie.spec
-    Inv-loop
-    μ-loop
-    loop-holds
-    edge-requires
-    add-edge
-    edge-requires-2
-    sub-read-record
-    part-read-record-start
-    part-read-record-end
-    read-record-requires
-    enum-known-read
-    enum-told
-    returns
-    add-lost
-    add-j
-    loop-less
-    loop-again
-    returns-2)
+    tie.close (tie.spec Inv-loop μ-loop loop-holds edge-requires (λ c. omega arith) edge-requires-2 sub-read-record
+    part-read-record-start part-read-record-end (λ c κs. search needs) (λ c. search needs) (λ c. search needs) returns
+    add-lost (λ c. omega arith) (λ c. omega arith) loop-again returns-2)

@@ -7,12 +7,9 @@ use Rattle.shelf_writer.proofs.good_lengths.Tie as tie
 returns : tie.Need-returns
 returns c = too-many (c .before .before .args .lengths .now) _ (c .if1 .taken)
 
-sum-requires : tie.Need-sum-requires
-sum-requires c κs = search needs
-
 returns-2 : tie.Need-returns-2
 returns-2 c =
     sum-tested (c .before .before .before .args .lengths .now) _ _ (c .before .if1 .left) (c .sum .ensures)
 
 pub good-lengths-spec : {M : Type 1} → statement M
-good-lengths-spec = tie.close (tie.spec returns sum-requires returns-2)
+good-lengths-spec = tie.close (tie.spec returns (λ c κs. search needs) returns-2)

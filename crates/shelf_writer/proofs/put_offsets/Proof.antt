@@ -23,22 +23,10 @@ Inv-loop lengths buffer₀ start₀ j₀ buffer start j =
 abbrev μ-loop : tie.MeasureT-loop
 μ-loop lengths buffer₀ start₀ j₀ buffer start j = length lengths - j
 
-mul-start : tie.Need-mul-start Inv-loop μ-loop
-mul-start c = omega arith
-
-add-start : tie.Need-add-start Inv-loop μ-loop
-add-start c = omega arith
-
 loop-holds : tie.Need-loop-holds Inv-loop μ-loop
 loop-holds c =
     let a = c .before .before .args in
     (omega arith, refl, omega (arith, no-sum (a .lengths .now)), no-words (a .lengths .now) (a .buffer .now))
-
-mul-put32 : tie.Need-mul-put32 Inv-loop μ-loop
-mul-put32 c = omega arith
-
-add-put32 : tie.Need-add-put32 Inv-loop μ-loop
-add-put32 c = omega arith
 
 cast-put32 : tie.Need-cast-put32 Inv-loop μ-loop
 unfolding shelfLength
@@ -46,18 +34,6 @@ cast-put32 c =
     let l = c .before .before in
     let st = l .before .before .before in
     omega (arith, st .pre .0, l .loop .inv .2, total-part (st .args .lengths .now) (l .loop .j))
-
-put32-requires : tie.Need-put32-requires Inv-loop μ-loop
-put32-requires c κs = omega arith
-
-mul-wide : tie.Need-mul-wide Inv-loop μ-loop
-mul-wide c = omega arith
-
-shared-slice-read-wide : tie.Need-shared-slice-read-wide Inv-loop μ-loop
-shared-slice-read-wide c = omega arith
-
-wide-requires : tie.Need-wide-requires Inv-loop μ-loop
-wide-requires c κs = search needs
 
 add-start-2 : tie.Need-add-start-2 Inv-loop μ-loop
 unfolding shelfLength
@@ -74,12 +50,6 @@ add-start-2 c =
       total-part (st .args .lengths .now) (l .loop .j + 1),
     )
 
-add-j : tie.Need-add-j Inv-loop μ-loop
-add-j c = omega arith
-
-loop-less : tie.Need-loop-less Inv-loop μ-loop
-loop-less c = omega arith
-
 loop-again : tie.Need-loop-again Inv-loop μ-loop
 loop-again c =
     let w = c .before .before .before .before in
@@ -94,9 +64,6 @@ loop-again c =
           (l .loop .inv .2) (t .loop-test .taken) (w .put32 .ensures),
     )
 
-same-length : tie.Need-same-length Inv-loop μ-loop
-same-length c = omega arith
-
 returns : tie.Need-returns Inv-loop μ-loop
 returns c =
     let l = c .before in
@@ -106,23 +73,6 @@ returns c =
 
 pub put-offsets-spec : {M : Type 1} → statement M
 put-offsets-spec =
-    tie.close
-    (tie.spec
-    Inv-loop
-    μ-loop
-    mul-start
-    add-start
-    loop-holds
-    mul-put32
-    add-put32
-    cast-put32
-    put32-requires
-    mul-wide
-    shared-slice-read-wide
-    wide-requires
-    add-start-2
-    add-j
-    loop-less
-    loop-again
-    same-length
-    returns)
+    tie.close (tie.spec Inv-loop μ-loop (λ c. omega arith) (λ c. omega arith) loop-holds (λ c. omega arith)
+    (λ c. omega arith) cast-put32 (λ c κs. omega arith) (λ c. omega arith) (λ c. omega arith) (λ c κs. search needs)
+    add-start-2 (λ c. omega arith) (λ c. omega arith) loop-again (λ c. omega arith) returns)

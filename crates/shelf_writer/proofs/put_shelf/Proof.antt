@@ -14,9 +14,6 @@ put32-requires : tie.Need-put32-requires
 unfolding shelfLength
 put32-requires c κs = omega arith
 
-cast-put32-2 : tie.Need-cast-put32-2
-cast-put32-2 c = omega arith
-
 put32-requires-2 : tie.Need-put32-requires-2
 unfolding shelfLength
 put32-requires-2 c κs = omega arith
@@ -25,9 +22,6 @@ put-offsets-requires : tie.Need-put-offsets-requires
 unfolding shelfLength
 put-offsets-requires c κs = (omega arith, omega arith)
 
-mul-put-text : tie.Need-mul-put-text
-mul-put-text c = omega arith
-
 add-put-text : tie.Need-add-put-text
 unfolding shelfLength
 add-put-text c = omega arith
@@ -35,9 +29,6 @@ add-put-text c = omega arith
 put-text-requires : tie.Need-put-text-requires
 unfolding shelfLength
 put-text-requires c κs = omega arith
-
-same-length : tie.Need-same-length
-same-length c = search needs
 
 returns : tie.Need-returns
 returns c =
@@ -52,15 +43,5 @@ returns c =
 
 pub put-shelf-spec : {M : Type 1} → statement M
 put-shelf-spec =
-    tie.close
-    (tie.spec
-    cast-put32
-    put32-requires
-    cast-put32-2
-    put32-requires-2
-    put-offsets-requires
-    mul-put-text
-    add-put-text
-    put-text-requires
-    same-length
-    returns)
+    tie.close (tie.spec cast-put32 put32-requires (λ c. omega arith) put32-requires-2 put-offsets-requires
+    (λ c. omega arith) add-put-text put-text-requires (λ c. search needs) returns)

@@ -26,15 +26,6 @@ loop-holds c =
     let a = c .before .before .args in
     (omega arith, no-sum (a .lengths .now), cut-start (a .records .now) (a .lengths .now))
 
-mul-wide : tie.Need-mul-wide Inv-loop μ-loop
-mul-wide c = omega arith
-
-shared-slice-read-wide : tie.Need-shared-slice-read-wide Inv-loop μ-loop
-shared-slice-read-wide c = omega arith
-
-wide-requires : tie.Need-wide-requires Inv-loop μ-loop
-wide-requires c κs = search needs
-
 -- record j lies within the bytes
 inside : (c : tie.After-wide Inv-loop μ-loop) →
     let l = c .before .before .before in
@@ -62,15 +53,6 @@ part-open-start c = omega (arith, inside c)
 part-open-end : tie.Need-part-open-end Inv-loop μ-loop
 part-open-end c = omega (arith, inside c)
 
-open-requires : tie.Need-open-requires Inv-loop μ-loop
-open-requires c κs = search needs
-
-enum-told : tie.Need-enum-told Inv-loop μ-loop
-enum-told c = search needs
-
-enum-told-2 : tie.Need-enum-told-2 Inv-loop μ-loop
-enum-told-2 c = search needs
-
 returns : tie.Need-returns Inv-loop μ-loop
 returns c =
     let o = c .before .before in
@@ -80,12 +62,6 @@ returns c =
     let a = l .before .before .before .args in
     rw (cut-stop (a .records .now) (a .lengths .now) (l .loop .start) (l .loop .j) (t .loop-test .taken) _
     (l .loop .inv .2) _ (w .wide .ensures) _ (o .«open» .ensures) _ _ (c .enum-told2 .given .1))
-
-add-j : tie.Need-add-j Inv-loop μ-loop
-add-j c = omega arith
-
-loop-less : tie.Need-loop-less Inv-loop μ-loop
-loop-less c = omega arith
 
 loop-again : tie.Need-loop-again Inv-loop μ-loop
 loop-again c =
@@ -114,23 +90,6 @@ returns-2 c =
 
 pub read-records-spec : {M : Type 1} → statement M
 read-records-spec =
-    tie.close
-    (tie.spec
-    Inv-loop
-    μ-loop
-    loop-holds
-    mul-wide
-    shared-slice-read-wide
-    wide-requires
-    add-end
-    sub-open
-    part-open-start
-    part-open-end
-    open-requires
-    enum-told
-    enum-told-2
-    returns
-    add-j
-    loop-less
-    loop-again
-    returns-2)
+    tie.close (tie.spec Inv-loop μ-loop loop-holds (λ c. omega arith) (λ c. omega arith) (λ c κs. search needs)
+    add-end sub-open part-open-start part-open-end (λ c κs. search needs) (λ c. search needs) (λ c. search needs)
+    returns (λ c. omega arith) (λ c. omega arith) loop-again returns-2)

@@ -13,9 +13,6 @@ use Rattle.shelf_writer.proofs.Steps.{stands, stored}
 use Rattle.shelf_writer.proofs.write.Statement.{statement}
 use Rattle.shelf_writer.proofs.write.Tie as tie
 
-good-lengths-requires : tie.Need-good-lengths-requires
-good-lengths-requires c κs = search needs
-
 returns : tie.Need-returns
 returns c =
     let a = c .before .before .before .before .before .args in
@@ -36,9 +33,6 @@ read-records-requires c κs =
     let a = c .before .before .before .before .before .args in
     good (a .records .now) (a .lengths .now) (passed c) .1
 
-enum-told : tie.Need-enum-told
-enum-told c = search needs
-
 -- 32 bits hold the shelf's length
 small : (c : tie.After-enum-told) →
     shelfLength (c .before .before .before .before .before .before .before .before .args .lengths .now) < 2 ^ 32
@@ -49,9 +43,6 @@ small c =
     let ls = a .lengths .now in
     let g = good s ls (passed (r .before)) in
     shelf-small s ls (g .0) (g .1) (all-read s ls _ (r .read-records .ensures) _ (c .enum-told .given .1))
-
-mul-size : tie.Need-mul-size
-mul-size c = omega arith
 
 add-size : tie.Need-add-size
 unfolding shelfLength
@@ -89,12 +80,6 @@ put-shelf-requires c κs =
     let is = size-is (a .records .now) (a .lengths .now) g in
     ((is, omega (arith, is, small t), f .if2 .left), g)
 
-enum-known-number : tie.Need-enum-known-number
-enum-known-number c = search needs
-
-same-length : tie.Need-same-length
-same-length c = search needs
-
 returns-3 : tie.Need-returns-3
 returns-3 c =
     let p = c .before .before in
@@ -127,18 +112,5 @@ returns-4 c =
 
 pub write-spec : {M : Type 1} → statement M
 write-spec =
-    tie.close
-    (tie.spec
-    good-lengths-requires
-    returns
-    read-records-requires
-    enum-told
-    mul-size
-    add-size
-    add-size-2
-    returns-2
-    put-shelf-requires
-    enum-known-number
-    same-length
-    returns-3
-    returns-4)
+    tie.close (tie.spec (λ c κs. search needs) returns read-records-requires (λ c. search needs) (λ c. omega arith)
+    add-size add-size-2 returns-2 put-shelf-requires (λ c. search needs) (λ c. search needs) returns-3 returns-4)

@@ -21,12 +21,6 @@ unit-row-requires : tie.Need-unit-row-requires Inv-loop μ-loop
 unfolding unitPlace
 unit-row-requires c κs = omega arith
 
-slice-aggregate-unit-line : tie.Need-slice-aggregate-unit-line Inv-loop μ-loop
-slice-aggregate-unit-line c = omega arith
-
-unit-line-requires : tie.Need-unit-line-requires Inv-loop μ-loop
-unit-line-requires c κs = omega arith
-
 array-share-prefix-text : tie.Need-array-share-prefix-text Inv-loop μ-loop
 array-share-prefix-text c = within-buffer _ _ _ _ (c .before .unit-line .ensures)
 
@@ -35,37 +29,13 @@ slice-aggregate-write-all c =
     let c₂ = c .before .before in
     whole-line _ _ _ _ (c₂ .unit-line .ensures)
 
-write-all-requires : tie.Need-write-all-requires Inv-loop μ-loop
-write-all-requires c κs = search needs
-
-add-j : tie.Need-add-j Inv-loop μ-loop
-add-j c = omega arith
-
-loop-less : tie.Need-loop-less Inv-loop μ-loop
-loop-less c = omega arith
-
 loop-again : tie.Need-loop-again Inv-loop μ-loop
 loop-again c =
     let c₃ = c .before .before .before in
     (omega arith, omega (arith, c₃ .unit-line .kept .0))
 
-returns : tie.Need-returns Inv-loop μ-loop
-returns c = search needs
-
 pub show-units-spec : {M : Type 1} → statement M
 show-units-spec =
-    tie.close
-    (tie.spec
-    Inv-loop
-    μ-loop
-    loop-holds
-    unit-row-requires
-    slice-aggregate-unit-line
-    unit-line-requires
-    array-share-prefix-text
-    slice-aggregate-write-all
-    write-all-requires
-    add-j
-    loop-less
-    loop-again
-    returns)
+    tie.close (tie.spec Inv-loop μ-loop loop-holds unit-row-requires (λ c. omega arith) (λ c κs. omega arith)
+    array-share-prefix-text slice-aggregate-write-all (λ c κs. search needs) (λ c. omega arith) (λ c. omega arith)
+    loop-again (λ c. search needs))

@@ -4,18 +4,6 @@ use borrow.Author.Needs.{needs}
 use Rattle.survey.proofs.feed.Statement.{statement}
 use Rattle.survey.proofs.feed.Tie as tie
 
-load-requires : tie.Need-load-requires
-load-requires c κs = search needs
-
-run-requires : tie.Need-run-requires
-run-requires c κs = search needs
-
-store-requires : tie.Need-store-requires
-store-requires c κs = search needs
-
-reply-requires : tie.Need-reply-requires
-reply-requires c κs = search needs
-
 returns : tie.Need-returns
 returns c =
     feed-post _ _ _ _ _ _ _ _ _ _ (c .before .before .before .before .before .before .load .ensures)
@@ -23,10 +11,5 @@ returns c =
 
 pub feed-spec : {M : Type 1} → statement M
 feed-spec =
-    tie.close
-    (tie.spec
-    load-requires
-    run-requires
-    store-requires
-    reply-requires
+    tie.close (tie.spec (λ c κs. search needs) (λ c κs. search needs) (λ c κs. search needs) (λ c κs. search needs)
     returns)

@@ -7,16 +7,9 @@ use borrow.Author.Needs.{needs}
 use Rattle.survey.proofs.open.Statement.{statement}
 use Rattle.survey.proofs.open.Tie as tie
 
-open-requires : tie.Need-open-requires
-open-requires c κs = search needs
-
 returns : tie.Need-returns
 returns c =
     opens _ _ _ (c .before .«open» .ensures) (length-replicate {A = ℕ} 8192 0) (zeros 8192)
 
 pub open-spec : {M : Type 1} → statement M
-open-spec =
-    tie.close
-    (tie.spec
-    open-requires
-    returns)
+open-spec = tie.close (tie.spec (λ c κs. search needs) returns)

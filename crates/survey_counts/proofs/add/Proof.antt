@@ -5,24 +5,6 @@ use borrow.Author.Needs.{needs}
 use Rattle.survey_counts.proofs.add.Statement.{statement}
 use Rattle.survey_counts.proofs.add.Tie as tie
 
-is-good-requires : tie.Need-is-good-requires
-is-good-requires c κs = search needs
-
-mul-wrapping-add-u32 : tie.Need-mul-wrapping-add-u32
-mul-wrapping-add-u32 c = search needs
-
-element-copy-out-wrapping-add-u32 : tie.Need-element-copy-out-wrapping-add-u32
-element-copy-out-wrapping-add-u32 c = search needs
-
-wrapping-add-u32-requires : tie.Need-wrapping-add-u32-requires
-wrapping-add-u32-requires c κs = search needs
-
-mul-counts : tie.Need-mul-counts
-mul-counts c = search needs
-
-element-write-counts : tie.Need-element-write-counts
-element-write-counts c = search needs
-
 returns : tie.Need-returns
 returns c =
     let start = c .before .before .before .before in
@@ -35,13 +17,5 @@ returns-2 c =
 
 pub add-spec : {M : Type 1} → statement M
 add-spec =
-    tie.close
-    (tie.spec
-    is-good-requires
-    mul-wrapping-add-u32
-    element-copy-out-wrapping-add-u32
-    wrapping-add-u32-requires
-    mul-counts
-    element-write-counts
-    returns
-    returns-2)
+    tie.close (tie.spec (λ c κs. search needs) (λ c. search needs) (λ c. search needs) (λ c κs. search needs)
+    (λ c. search needs) (λ c. search needs) returns returns-2)

@@ -59,16 +59,5 @@ returns c =
 
 pub add-run-spec : {M : Type 1} → statement M
 add-run-spec =
-    tie.close
-    (tie.spec
-    Inv-loop
-    μ-loop
-    loop-holds
-    cell-at-requires
-    add-requires
-    add-at
-    add-place
-    add-k
-    loop-less
-    loop-again
-    returns)
+    tie.close (tie.spec Inv-loop μ-loop loop-holds cell-at-requires add-requires add-at add-place add-k loop-less
+    loop-again returns)

@@ -5,15 +5,6 @@ use Rattle.c_numbers.specs.Numbers.{numberOf, valueOf}
 use Rattle.c_beside.proofs.busiest.carolsedge_most_scenes.Statement.{statement}
 use Rattle.c_beside.proofs.busiest.carolsedge_most_scenes.Tie as tie
 
-most-scenes-requires : tie.Need-most-scenes-requires
-most-scenes-requires c κs = search needs
-
-value-of-requires : tie.Need-value-of-requires
-value-of-requires c κs = search needs
-
-number-of-requires : tie.Need-number-of-requires
-number-of-requires c κs = search needs
-
 returns : tie.Need-returns
 returns c =
     let promised = c .before .before .most-scenes .ensures in
@@ -21,4 +12,4 @@ returns c =
 
 pub carolsedge-most-scenes-spec : {M : Type 1} → statement M
 carolsedge-most-scenes-spec =
-    tie.close (tie.spec most-scenes-requires value-of-requires number-of-requires returns)
+    tie.close (tie.spec (λ c κs. search needs) (λ c κs. search needs) (λ c κs. search needs) returns)

@@ -5,18 +5,6 @@ use Rattle.c_numbers.specs.Numbers.{numberOf, valueOf}
 use Rattle.c_beside.proofs.gaps.carolsedge_gap_runs.Statement.{statement}
 use Rattle.c_beside.proofs.gaps.carolsedge_gap_runs.Tie as tie
 
-gap-table-requires : tie.Need-gap-table-requires
-gap-table-requires c κs = search needs
-
-value-of-requires : tie.Need-value-of-requires
-value-of-requires c κs = search needs
-
-number-of-requires : tie.Need-number-of-requires
-number-of-requires c κs = search needs
-
-same-length : tie.Need-same-length
-same-length c = search needs
-
 returns : tie.Need-returns
 returns c =
     let valued = c .before .value-of .ensures in
@@ -26,4 +14,5 @@ returns c =
 
 pub carolsedge-gap-runs-spec : {M : Type 1} → statement M
 carolsedge-gap-runs-spec =
-    tie.close (tie.spec gap-table-requires value-of-requires number-of-requires same-length returns)
+    tie.close (tie.spec (λ c κs. search needs) (λ c κs. search needs) (λ c κs. search needs) (λ c. search needs)
+    returns)

@@ -6,18 +6,6 @@ use Rattle.c_numbers.specs.Numbers.{numberOf}
 use Rattle.c_beside.proofs.losses.carolsedge_effective_loss.Statement.{statement}
 use Rattle.c_beside.proofs.losses.carolsedge_effective_loss.Tie as tie
 
-effective-loss-requires : tie.Need-effective-loss-requires
-effective-loss-requires c κs = search needs
-
-number-of-requires : tie.Need-number-of-requires
-number-of-requires c κs = search needs
-
-same-length : tie.Need-same-length
-same-length c = search needs
-
-same-length-2 : tie.Need-same-length-2
-same-length-2 c = search needs
-
 returns : tie.Need-returns
 returns c =
     let promised = c .before .before .before .before .before .effective-loss .ensures in
@@ -25,4 +13,4 @@ returns c =
 
 pub carolsedge-effective-loss-spec : {M : Type 1} → statement M
 carolsedge-effective-loss-spec =
-    tie.close (tie.spec effective-loss-requires number-of-requires same-length same-length-2 returns)
+    tie.close (tie.spec (λ c κs. search needs) (λ c κs. search needs) (λ c. search needs) (λ c. search needs) returns)

@@ -5,18 +5,6 @@ use Rattle.c_numbers.specs.Numbers.{numberOf, valueOf}
 use Rattle.c_beside.proofs.small_screen.carolsedge_rtp_units.Statement.{statement}
 use Rattle.c_beside.proofs.small_screen.carolsedge_rtp_units.Tie as tie
 
-read-requires : tie.Need-read-requires
-read-requires c κs = search needs
-
-value-of-requires : tie.Need-value-of-requires
-value-of-requires c κs = search needs
-
-number-of-requires : tie.Need-number-of-requires
-number-of-requires c κs = search needs
-
-same-length : tie.Need-same-length
-same-length c = search needs
-
 returns : tie.Need-returns
 returns c =
     let valued = c .before .value-of .ensures in
@@ -25,4 +13,5 @@ returns c =
 
 pub carolsedge-rtp-units-spec : {M : Type 1} → statement M
 carolsedge-rtp-units-spec =
-    tie.close (tie.spec read-requires value-of-requires number-of-requires same-length returns)
+    tie.close (tie.spec (λ c κs. search needs) (λ c κs. search needs) (λ c κs. search needs) (λ c. search needs)
+    returns)

@@ -6,33 +6,6 @@ use borrow.Author.Needs.{needs}
 use Rattle.capture.proofs.numbers.store.Statement.{statement}
 use Rattle.capture.proofs.numbers.store.Tie as tie
 
-element-write-numbers : tie.Need-element-write-numbers
-element-write-numbers c = search needs
-
-element-write-numbers-2 : tie.Need-element-write-numbers-2
-element-write-numbers-2 c = search needs
-
-element-write-numbers-3 : tie.Need-element-write-numbers-3
-element-write-numbers-3 c = search needs
-
-element-write-numbers-4 : tie.Need-element-write-numbers-4
-element-write-numbers-4 c = search needs
-
-element-write-numbers-5 : tie.Need-element-write-numbers-5
-element-write-numbers-5 c = search needs
-
-element-write-numbers-6 : tie.Need-element-write-numbers-6
-element-write-numbers-6 c = search needs
-
-element-write-numbers-7 : tie.Need-element-write-numbers-7
-element-write-numbers-7 c = search needs
-
-element-write-numbers-8 : tie.Need-element-write-numbers-8
-element-write-numbers-8 c = search needs
-
-element-write-numbers-9 : tie.Need-element-write-numbers-9
-element-write-numbers-9 c = search needs
-
 returns : tie.Need-returns
 returns c =
     record {
@@ -42,15 +15,5 @@ returns c =
 
 pub store-spec : {M : Type 1} → statement M
 store-spec =
-    tie.close
-    (tie.spec
-    element-write-numbers
-    element-write-numbers-2
-    element-write-numbers-3
-    element-write-numbers-4
-    element-write-numbers-5
-    element-write-numbers-6
-    element-write-numbers-7
-    element-write-numbers-8
-    element-write-numbers-9
-    returns)
+    tie.close (tie.spec (λ c. search needs) (λ c. search needs) (λ c. search needs) (λ c. search needs)
+    (λ c. search needs) (λ c. search needs) (λ c. search needs) (λ c. search needs) (λ c. search needs) returns)

@@ -52,16 +52,5 @@ returns c =
 
 pub carry-spec : {M : Type 1} → statement M
 carry-spec =
-    tie.close
-    (tie.spec
-    Inv-loop
-    μ-loop
-    loop-holds
-    add-kept
-    shared-slice-read-kept
-    add-kept-2
-    element-write-kept
-    add-j
-    loop-less
-    loop-again
-    returns)
+    tie.close (tie.spec Inv-loop μ-loop loop-holds add-kept shared-slice-read-kept add-kept-2 element-write-kept add-j
+    loop-less loop-again returns)

@@ -4,9 +4,6 @@ use borrow.Author.Needs.{needs}
 use Rattle.capture_steps.proofs.spans.least.Statement.{statement}
 use Rattle.capture_steps.proofs.spans.least.Tie as tie
 
-returns : tie.Need-returns
-returns c = search needs
-
 returns-2 : tie.Need-returns-2
 returns-2 c =
     ⊎-elim (λ w. (omega (arith, w), omega (arith, w), omega (arith, w), λ h. omega (arith, w)))
@@ -20,9 +17,4 @@ returns-3 c =
     (c .before .before .if1 .came)
 
 pub least-spec : {M : Type 1} → statement M
-least-spec =
-    tie.close
-    (tie.spec
-    returns
-    returns-2
-    returns-3)
+least-spec = tie.close (tie.spec (λ c. search needs) returns-2 returns-3)

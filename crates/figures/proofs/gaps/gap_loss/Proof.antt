@@ -6,15 +6,6 @@ use Rattle.rules.specs.Units.{gapLoss}
 use Rattle.figures.proofs.gaps.gap_loss.Statement.{statement}
 use Rattle.figures.proofs.gaps.gap_loss.Tie as tie
 
-add-g : tie.Need-add-g
-add-g c = search needs
-
-sub-g : tie.Need-sub-g
-sub-g c = search needs
-
-sub-result : tie.Need-sub-result
-sub-result c = search needs
-
 returns : tie.Need-returns
 unfolding gapLoss
 returns c = record { counted = simp (lt-ltb _ _ (c .if1 .taken)); few = omega arith }
@@ -24,4 +15,4 @@ unfolding gapLoss
 returns-2 c = record { counted = simp (le-ltb _ _ (c .if1 .left)); few = omega arith }
 
 pub gap-loss-spec : {M : Type 1} → statement M
-gap-loss-spec = tie.close (tie.spec add-g sub-g sub-result returns returns-2)
+gap-loss-spec = tie.close (tie.spec (λ c. search needs) (λ c. search needs) (λ c. search needs) returns returns-2)

@@ -5,15 +5,9 @@ use Rattle.rules.specs.Opening.{goodSize}
 use Rattle.figures.proofs.opening.good_size.Statement.{statement}
 use Rattle.figures.proofs.opening.good_size.Tie as tie
 
-mul-result : tie.Need-mul-result
-mul-result c = search needs
-
-mul-result-2 : tie.Need-mul-result-2
-mul-result-2 c = search needs
-
 returns : tie.Need-returns
 unfolding goodSize
 returns c = refl
 
 pub good-size-spec : {M : Type 1} → statement M
-good-size-spec = tie.close (tie.spec mul-result mul-result-2 returns)
+good-size-spec = tie.close (tie.spec (λ c. search needs) (λ c. search needs) returns)

@@ -7,16 +7,10 @@ use Rattle.rules.specs.Opening.{openingFault}
 use Rattle.figures.proofs.opening.opening_fault.Statement.{statement}
 use Rattle.figures.proofs.opening.opening_fault.Tie as tie
 
-good-size-requires : tie.Need-good-size-requires
-good-size-requires c κs = search needs
-
 returns : tie.Need-returns
 unfolding openingFault
 returns c =
     record { shown = simp (sym (c .before .good-size .ensures) ∙ not-true _ (c .if1 .taken)); few = omega arith }
-
-good-time-requires : tie.Need-good-time-requires
-good-time-requires c κs = search needs
 
 returns-2 : tie.Need-returns-2
 unfolding openingFault
@@ -28,9 +22,6 @@ returns-2 c =
       );
       few = omega arith;
     }
-
-good-pid-requires : tie.Need-good-pid-requires
-good-pid-requires c κs = search needs
 
 returns-3 : tie.Need-returns-3
 unfolding openingFault
@@ -44,9 +35,6 @@ returns-3 c =
       );
       few = omega arith;
     }
-
-is-edition-requires : tie.Need-is-edition-requires
-is-edition-requires c κs = search needs
 
 returns-4 : tie.Need-returns-4
 unfolding openingFault
@@ -80,6 +68,5 @@ returns-5 c =
 
 pub opening-fault-spec : {M : Type 1} → statement M
 opening-fault-spec =
-    tie.close
-    (tie.spec good-size-requires returns good-time-requires returns-2 good-pid-requires returns-3 is-edition-requires
-    returns-4 returns-5)
+    tie.close (tie.spec (λ c κs. search needs) returns (λ c κs. search needs) returns-2 (λ c κs. search needs)
+    returns-3 (λ c κs. search needs) returns-4 returns-5)

@@ -21,15 +21,6 @@ shift c = shifted (c .level .result) (small c)
 most : (c : tie.After-level) → 2 ^ c .level .result ≤ 32
 most c = pow-mono (small c)
 
-cast-width : tie.Need-cast-width
-cast-width c = search needs
-
-cast-height : tie.Need-cast-height
-cast-height c = search needs
-
-level-requires : tie.Need-level-requires
-level-requires c κs = search needs
-
 shl-side : tie.Need-shl-side
 shl-side c = omega (arith, small c)
 
@@ -52,5 +43,5 @@ returns c = sizes-are (c .before .before .before .args .o) (c .level .result) (1
 
 pub sizes-of-spec : {M : Type 1} → statement M
 sizes-of-spec =
-    tie.close
-    (tie.spec cast-width cast-height level-requires shl-side mul-t6 div-t7 div-t8 mul-t9 returns)
+    tie.close (tie.spec (λ c. search needs) (λ c. search needs) (λ c κs. search needs) shl-side mul-t6 div-t7 div-t8
+    mul-t9 returns)

@@ -16,9 +16,6 @@ returns-2 c =
     (c .before .before .before .before .before .before .pre)
     (λ e. c .if2 .taken)
 
-end-picture-requires : tie.Need-end-picture-requires
-end-picture-requires c κs = search needs
-
 returns-3 : tie.Need-returns-3
 returns-3 c =
     is-finished (c .before .before .before .before .before .before .before .before .before .args .g)
@@ -26,4 +23,4 @@ returns-3 c =
     (c .before .before .before .before .before .before .before .before .before .pre) (c .end-picture .ensures)
 
 pub finish-spec : {M : Type 1} → statement M
-finish-spec = tie.close (tie.spec returns returns-2 end-picture-requires returns-3)
+finish-spec = tie.close (tie.spec returns returns-2 (λ c κs. search needs) returns-3)

@@ -4,9 +4,6 @@ use borrow.Author.Needs.{needs}
 use Rattle.luma.proofs.steps.pass.Statement.{statement}
 use Rattle.luma.proofs.steps.pass.Tie as tie
 
-skip-requires : tie.Need-skip-requires
-skip-requires c κs = search needs
-
 returns : tie.Need-returns
 returns c =
     let p = c .before .before .before .before .pre in
@@ -14,9 +11,6 @@ returns c =
     passed (a .g) (a .s) (p .0) (p .1)
     (λ i. omega (arith, c .before .before .before .shared-slice-known .given i)) (p .0 .some)
     (omega arith) (omega arith) (c .skip .ensures)
-
-skip-requires-2 : tie.Need-skip-requires-2
-skip-requires-2 c κs = search needs
 
 returns-2 : tie.Need-returns-2
 returns-2 c =
@@ -26,4 +20,4 @@ returns-2 c =
     (p .0 .sane .left (p .1)) (omega arith) (omega arith) (c .skip2 .ensures)
 
 pub pass-spec : {M : Type 1} → statement M
-pass-spec = tie.close (tie.spec skip-requires returns skip-requires-2 returns-2)
+pass-spec = tie.close (tie.spec (λ c κs. search needs) returns (λ c κs. search needs) returns-2)

@@ -27,15 +27,6 @@ returns c =
     (c .before .before .before .before .before .before .args .piece .now) (l .at) (l .inv .2)
     (c .before .before .before .loop-test .taken) (c .before .if1 .taken) (c .stopped .ensures)
 
-sub-step : tie.Need-sub-step Inv-loop μ-loop
-sub-step c = omega arith
-
-part-step-start : tie.Need-part-step-start Inv-loop μ-loop
-part-step-start c = omega arith
-
-part-step-end : tie.Need-part-step-end Inv-loop μ-loop
-part-step-end c = omega arith
-
 step-requires : tie.Need-step-requires Inv-loop μ-loop
 step-requires c κs =
     let l = c .before .before .before .before .before .before .before .before .loop in
@@ -90,18 +81,5 @@ returns-2 c =
 
 pub run-spec : {M : Type 1} → statement M
 run-spec =
-    tie.close
-    (tie.spec
-    Inv-loop
-    μ-loop
-    loop-holds
-    stopped-requires
-    returns
-    sub-step
-    part-step-start
-    part-step-end
-    step-requires
-    add-at
-    loop-less
-    loop-again
-    returns-2)
+    tie.close (tie.spec Inv-loop μ-loop loop-holds stopped-requires returns (λ c. omega arith) (λ c. omega arith)
+    (λ c. omega arith) step-requires add-at loop-less loop-again returns-2)

@@ -4,9 +4,6 @@ use borrow.Author.Needs.{needs}
 use Rattle.luma.proofs.steps.step.Statement.{statement}
 use Rattle.luma.proofs.steps.step.Tie as tie
 
-pass-requires : tie.Need-pass-requires
-pass-requires c κs = search needs
-
 finish-requires : tie.Need-finish-requires
 finish-requires c κs =
     let a = c .before .before .before .before .before .before .before .args in
@@ -19,12 +16,6 @@ returns c =
     stepped (a .g) (a .s) (c .before .before .before .pass .ensures (a .sums .now) (a .bins .now) (a .picture .now))
     (c .finish .ensures)
 
-draw-requires : tie.Need-draw-requires
-draw-requires c κs = search needs
-
-finish-requires-2 : tie.Need-finish-requires-2
-finish-requires-2 c κs = search needs
-
 returns-2 : tie.Need-returns-2
 returns-2 c =
     stepped (c .before .before .before .before .before .before .before .before .before .before .before .args .g)
@@ -33,5 +24,5 @@ returns-2 c =
 
 pub step-spec : {M : Type 1} → statement M
 step-spec =
-    tie.close
-    (tie.spec pass-requires finish-requires returns draw-requires finish-requires-2 returns-2)
+    tie.close (tie.spec (λ c κs. search needs) finish-requires returns (λ c κs. search needs) (λ c κs. search needs)
+    returns-2)

@@ -24,12 +24,6 @@ mul-target c = omega (arith, mul-le-mul (c .pre .few) (c .pre .few))
 loop-holds : tie.Need-loop-holds Inv-loop μ-loop
 loop-holds c = (omega arith, omega arith, omega arith, start (c .pre))
 
-add-loop : tie.Need-add-loop Inv-loop μ-loop
-add-loop c = omega arith
-
-add-mid : tie.Need-add-mid Inv-loop μ-loop
-add-mid c = omega arith
-
 mul-if1 : tie.Need-mul-if1 Inv-loop μ-loop
 mul-if1 c = fits-le (mul-le-mul (mid c) (mid c)) (fits-lit tt)
 
@@ -41,14 +35,8 @@ mul-if1-3 c =
     let few = c .before .before .pre .few in
     fits-le (mul-le-mul (mul-le-mul (mul-le-mul (mid c) (mid c)) few) few) (fits-lit tt)
 
-loop-less : tie.Need-loop-less Inv-loop μ-loop
-loop-less c = omega arith
-
 loop-again : tie.Need-loop-again Inv-loop μ-loop
 loop-again c = (omega arith, omega arith, c .if1 .taken, c .before .before .loop .inv .3)
-
-loop-less-2 : tie.Need-loop-less-2 Inv-loop μ-loop
-loop-less-2 c = omega arith
 
 loop-again-2 : tie.Need-loop-again-2 Inv-loop μ-loop
 loop-again-2 c = (omega arith, omega arith, c .before .before .loop .inv .2, c .if1 .left)
@@ -63,6 +51,5 @@ returns c =
 
 pub root-spec : {M : Type 1} → statement M
 root-spec =
-    tie.close
-    (tie.spec Inv-loop μ-loop mul-target loop-holds add-loop add-mid mul-if1 mul-if1-2 mul-if1-3 loop-less loop-again
-    loop-less-2 loop-again-2 returns)
+    tie.close (tie.spec Inv-loop μ-loop mul-target loop-holds (λ c. omega arith) (λ c. omega arith) mul-if1 mul-if1-2
+    mul-if1-3 (λ c. omega arith) loop-again (λ c. omega arith) loop-again-2 returns)

@@ -7,9 +7,6 @@ use Rattle.luma_state.proofs.Kept.{columns-most}
 use Rattle.luma_state.proofs.stored.grid_of.Statement.{statement}
 use Rattle.luma_state.proofs.stored.grid_of.Tie as tie
 
-sizes-of-requires : tie.Need-sizes-of-requires
-sizes-of-requires c κs = search needs
-
 boundary-requires : tie.Need-boundary-requires
 boundary-requires c κs = (
   omega arith,
@@ -26,9 +23,6 @@ boundary-requires-2 c κs = (
   ),
 )
 
-cast-t5 : tie.Need-cast-t5
-cast-t5 c = search needs
-
 returns : tie.Need-returns
 returns c =
     let z = c .before .before .before .sizes-of .result in
@@ -40,4 +34,4 @@ returns c =
 
 pub grid-of-spec : {M : Type 1} → statement M
 grid-of-spec =
-    tie.close (tie.spec sizes-of-requires boundary-requires boundary-requires-2 cast-t5 returns)
+    tie.close (tie.spec (λ c κs. search needs) boundary-requires boundary-requires-2 (λ c. search needs) returns)

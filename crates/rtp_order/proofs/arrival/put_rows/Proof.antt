@@ -19,20 +19,11 @@ Inv-loop sequence rows₀ last₀ place₀ i₀ rows last place i =
 abbrev μ-loop : tie.MeasureT-loop
 μ-loop sequence rows₀ last₀ place₀ i₀ rows last place i = length sequence - i
 
-shared-slice-read-last : tie.Need-shared-slice-read-last Inv-loop μ-loop
-shared-slice-read-last c = omega arith
-
-wide-requires : tie.Need-wide-requires Inv-loop μ-loop
-wide-requires c κs = search needs
-
 add-place : tie.Need-add-place Inv-loop μ-loop
 add-place c = omega (arith, c .before .shared-slice-known2 .given 0)
 
 mul-rows : tie.Need-mul-rows Inv-loop μ-loop
 mul-rows c = omega (arith, c .before .shared-slice-known2 .given 0)
-
-slice-write-rows : tie.Need-slice-write-rows Inv-loop μ-loop
-slice-write-rows c = omega arith
 
 loop-holds : tie.Need-loop-holds Inv-loop μ-loop
 loop-holds c =
@@ -45,15 +36,6 @@ loop-holds c =
       omega (arith, c .before .shared-slice-known2 .given 0),
       rw (c .wide .ensures) (rows-start s (st .args .rows .now) (st .pre .0 .0) (st .pre .1)),
     )
-
-mul-next : tie.Need-mul-next Inv-loop μ-loop
-mul-next c = omega arith
-
-shared-slice-read-next : tie.Need-shared-slice-read-next Inv-loop μ-loop
-shared-slice-read-next c = omega arith
-
-moved-requires : tie.Need-moved-requires Inv-loop μ-loop
-moved-requires c κs = search needs
 
 -- a row's place is at most 32,768 from the one before
 bounds : (c : tie.After-moved Inv-loop μ-loop) →
@@ -73,18 +55,6 @@ mul-rows-2 c = omega (arith, bounds c)
 add-rows : tie.Need-add-rows Inv-loop μ-loop
 add-rows c = omega (arith, bounds c)
 
-mul-rows-3 : tie.Need-mul-rows-3 Inv-loop μ-loop
-mul-rows-3 c = omega arith
-
-slice-write-rows-2 : tie.Need-slice-write-rows-2 Inv-loop μ-loop
-slice-write-rows-2 c = omega arith
-
-add-i : tie.Need-add-i Inv-loop μ-loop
-add-i c = omega arith
-
-loop-less : tie.Need-loop-less Inv-loop μ-loop
-loop-less c = omega arith
-
 loop-again : tie.Need-loop-again Inv-loop μ-loop
 loop-again c =
     let l = c .before .before .before in
@@ -98,9 +68,6 @@ loop-again c =
           (l .loop .inv .5) (c .moved .result) (c .moved .ensures),
     )
 
-same-length : tie.Need-same-length Inv-loop μ-loop
-same-length c = omega arith
-
 returns : tie.Need-returns Inv-loop μ-loop
 returns c =
     let l = c .before .loop in
@@ -109,25 +76,6 @@ returns c =
 
 pub put-rows-spec : {M : Type 1} → statement M
 put-rows-spec =
-    tie.close
-    (tie.spec
-    Inv-loop
-    μ-loop
-    shared-slice-read-last
-    wide-requires
-    add-place
-    mul-rows
-    slice-write-rows
-    loop-holds
-    mul-next
-    shared-slice-read-next
-    moved-requires
-    mul-rows-2
-    add-rows
-    mul-rows-3
-    slice-write-rows-2
-    add-i
-    loop-less
-    loop-again
-    same-length
-    returns)
+    tie.close (tie.spec Inv-loop μ-loop (λ c. omega arith) (λ c κs. search needs) add-place mul-rows
+    (λ c. omega arith) loop-holds (λ c. omega arith) (λ c. omega arith) (λ c κs. search needs) mul-rows-2 add-rows
+    (λ c. omega arith) (λ c. omega arith) (λ c. omega arith) (λ c. omega arith) loop-again (λ c. omega arith) returns)

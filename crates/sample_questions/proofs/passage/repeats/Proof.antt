@@ -4,26 +4,11 @@ use borrow.Author.Needs.{needs}
 use Rattle.sample_questions.proofs.passage.repeats.Statement.{statement}
 use Rattle.sample_questions.proofs.passage.repeats.Tie as tie
 
-opening-in-requires : tie.Need-opening-in-requires
-opening-in-requires c κs = search needs
-
-opening-fault-requires : tie.Need-opening-fault-requires
-opening-fault-requires c κs = search needs
-
-refused-requires : tie.Need-refused-requires
-refused-requires c κs = search needs
-
 returns : tie.Need-returns
 returns c =
     let c₂ = c .before .before in
     post-opening _ _ _ _ _ (c₂ .before .opening-in .ensures) _ (c₂ .opening-fault .ensures) (c .refused .ensures)
     (c .before .if1 .taken)
-
-totals-in-requires : tie.Need-totals-in-requires
-totals-in-requires c κs = search needs
-
-passage-requires : tie.Need-passage-requires
-passage-requires c κs = search needs
 
 returns-2 : tie.Need-returns-2
 returns-2 c =
@@ -33,12 +18,5 @@ returns-2 c =
 
 pub repeats-spec : {M : Type 1} → statement M
 repeats-spec =
-    tie.close
-    (tie.spec
-    opening-in-requires
-    opening-fault-requires
-    refused-requires
-    returns
-    totals-in-requires
-    passage-requires
-    returns-2)
+    tie.close (tie.spec (λ c κs. search needs) (λ c κs. search needs) (λ c κs. search needs) returns
+    (λ c κs. search needs) (λ c κs. search needs) returns-2)

@@ -5,23 +5,11 @@ use borrow.Author.Needs.{needs}
 use Rattle.sample_questions.proofs.while_feeding.index.Statement.{statement}
 use Rattle.sample_questions.proofs.while_feeding.index.Tie as tie
 
-totals-in-requires : tie.Need-totals-in-requires
-totals-in-requires c κs = search needs
-
-totals-in-requires-2 : tie.Need-totals-in-requires-2
-totals-in-requires-2 c κs = search needs
-
-refused-index-requires : tie.Need-refused-index-requires
-refused-index-requires c κs = search needs
-
 returns : tie.Need-returns
 returns c =
     let c₃ = c .before .before .before in
     post-capture _ _ _ _ (c₃ .before .totals-in .ensures) (c₃ .totals-in2 .ensures) _ (c .refused-index .ensures)
     (c .before .if1 .taken)
-
-refused-index-requires-2 : tie.Need-refused-index-requires-2
-refused-index-requires-2 c κs = search needs
 
 returns-2 : tie.Need-returns-2
 returns-2 c =
@@ -29,9 +17,6 @@ returns-2 c =
     let c₅ = c₃ .before .before in
     post-luma _ _ _ _ (c₅ .before .totals-in .ensures) (c₅ .totals-in2 .ensures) _ (c₃ .if1 .left)
     (c .refused-index2 .ensures) (c .before .if2 .taken)
-
-refused-index-requires-3 : tie.Need-refused-index-requires-3
-refused-index-requires-3 c κs = search needs
 
 returns-3 : tie.Need-returns-3
 returns-3 c =
@@ -41,9 +26,6 @@ returns-3 c =
     post-cells _ _ _ _ (c₇ .before .totals-in .ensures) (c₇ .totals-in2 .ensures) _ (c₅ .if1 .left) (c₃ .if2 .left)
     (c .refused-index3 .ensures) (c .before .if3 .taken)
 
-refused-index-requires-4 : tie.Need-refused-index-requires-4
-refused-index-requires-4 c κs = search needs
-
 returns-4 : tie.Need-returns-4
 returns-4 c =
     let c₃ = c .before .before .before in
@@ -52,9 +34,6 @@ returns-4 c =
     let c₉ = c₇ .before .before in
     post-pictures _ _ _ _ (c₉ .before .totals-in .ensures) (c₉ .totals-in2 .ensures) _ (c₇ .if1 .left) (c₅ .if2 .left)
     (c₃ .if3 .left) (c .refused-index4 .ensures) (c .before .if4 .taken)
-
-index-in-requires : tie.Need-index-in-requires
-index-in-requires c κs = search needs
 
 returns-5 : tie.Need-returns-5
 returns-5 c =
@@ -67,17 +46,6 @@ returns-5 c =
 
 pub index-spec : {M : Type 1} → statement M
 index-spec =
-    tie.close
-    (tie.spec
-    totals-in-requires
-    totals-in-requires-2
-    refused-index-requires
-    returns
-    refused-index-requires-2
-    returns-2
-    refused-index-requires-3
-    returns-3
-    refused-index-requires-4
-    returns-4
-    index-in-requires
-    returns-5)
+    tie.close (tie.spec (λ c κs. search needs) (λ c κs. search needs) (λ c κs. search needs) returns
+    (λ c κs. search needs) returns-2 (λ c κs. search needs) returns-3 (λ c κs. search needs) returns-4
+    (λ c κs. search needs) returns-5)
