@@ -1,7 +1,6 @@
-// The program `sheet`: reads a record on standard input and prints its pages, or the refusal as `show` does.
-// The longest record has 32,064 bytes; of longer input the first 65,536 are enough to refuse it. No sheet has more
-// than 17 pages.
-use libc::STDIN_FILENO;
+// The program `sheet`: reads a record on standard input and prints its pages, or the refusal as `show` does. If
+// standard input cannot be read, only standard error says so. No sheet has more than 17 pages.
+use libc::STDERR_FILENO;
 use libc::STDOUT_FILENO;
 use rules::Answer;
 
@@ -22,6 +21,11 @@ fn print_sheet(bytes: &[u8]) {
 
 fn main() {
     let mut input = io::large_buffer();
-    let n = io::read_full(STDIN_FILENO, &mut input);
+    let got = record_input::read(&mut input);
+    if got < 0 {
+        io::write_all(STDERR_FILENO, b"usage: sheet < RECORD\n");
+        return;
+    }
+    let n = io::count(got, &input);
     print_sheet(&input[..n]);
 }

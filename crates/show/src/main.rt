@@ -1,11 +1,10 @@
 // Program `show`: reads a record on standard input and prints its figures, a line for the sample and one
-// for each row, or the refusal.
-// The longest record has 32,064 bytes; of longer input the first 65,536 are enough to refuse it.
+// for each row, or the refusal. If standard input cannot be read, only standard error says so.
 ghost use mathlib.Core.Path.{_≡_};
 ghost use Prim.Native.Nat.{_+_, _*_, _≤_};
 ghost use lib.ListN.{length};
 ghost use Rattle.rules.specs.Bytes.{word32};
-use libc::STDIN_FILENO;
+use libc::STDERR_FILENO;
 use libc::STDOUT_FILENO;
 use record_reader::Opened;
 
@@ -53,6 +52,11 @@ fn show(bytes: &[u8]) {
 
 fn main() {
     let mut input = io::large_buffer();
-    let n = io::read_full(STDIN_FILENO, &mut input);
+    let got = record_input::read(&mut input);
+    if got < 0 {
+        io::write_all(STDERR_FILENO, b"usage: show < RECORD\n");
+        return;
+    }
+    let n = io::count(got, &input);
     show(&input[..n]);
 }
