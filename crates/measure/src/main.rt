@@ -2,7 +2,7 @@
 //
 // EDITION is that of the rules, and 1 if it is missing.
 // CAPTURE and LUMA are files; one of them may be `-`, standard input. Prints `sealed LENGTH` and writes RECORD, or
-// prints `refused NUMBER PLACE` and writes no file. A RECORD that stands already is left alone, and nothing is read.
+// prints `refused NUMBER PLACE` and writes no file. A RECORD that exists already is left alone, and nothing is read.
 mod arguments;
 mod side;
 mod write;
@@ -79,7 +79,7 @@ fn seal(
 
 // Opens a sample, feeds both sides and seals, if the record has a place to go to.
 fn measure(o: Opening, capture_name: &[u8], luma_name: &[u8], record_name: &[u8]) {
-    if !write::is_free(record_name) {
+    if !write::can_write(record_name) {
         return;
     }
     let mut walk = [0u64; capture_walk::WALK_WORDS];
@@ -144,6 +144,13 @@ fn main() {
     let r = os::arg(7, &mut record);
     if arguments::is_dash(&capture[..c]) && arguments::is_dash(&luma[..l]) {
         usage();
+        return;
+    }
+    if c == 0 || l == 0 {
+        io::write_all(
+            STDERR_FILENO,
+            b"CAPTURE or LUMA is empty or longer than 4,096 bytes; choose another name\n",
+        );
         return;
     }
     measure(o, &capture[..c], &luma[..l], &record[..r]);

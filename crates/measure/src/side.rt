@@ -5,6 +5,7 @@ use capture::Numbers;
 use capture_units::Table;
 use capture_walk::Collected;
 use capture_walk::WalkWords;
+use libc::STDERR_FILENO;
 use libc::STDIN_FILENO;
 use rules::Answer;
 
@@ -22,6 +23,16 @@ fn turn_of(a: Answer) -> u8 {
     }
 }
 
+// Says on standard error that a side cannot be read, and why.
+fn fail(name: &[u8]) {
+    io::write_all(STDERR_FILENO, b"cannot read ");
+    if is_dash(name) {
+        os::fail(b"standard input");
+    } else {
+        os::fail(name);
+    }
+}
+
 // A side's descriptor, or -1 after a line on standard error.
 fn open_side(name: &[u8]) -> i32 {
     if is_dash(name) {
@@ -29,7 +40,7 @@ fn open_side(name: &[u8]) -> i32 {
     }
     let fd = os::open_read(name);
     if fd < 0 {
-        os::fail(name);
+        fail(name);
     }
     fd
 }
@@ -46,7 +57,7 @@ fn capture_turn(
 ) -> u8 {
     let got = libc::read(fd, piece);
     if got < 0 {
-        os::fail(name);
+        fail(name);
         return FAILED;
     }
     if got == 0 {
@@ -68,7 +79,7 @@ fn luma_turn(
 ) -> u8 {
     let got = libc::read(fd, piece);
     if got < 0 {
-        os::fail(name);
+        fail(name);
         return FAILED;
     }
     if got == 0 {
