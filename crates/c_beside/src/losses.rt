@@ -1,6 +1,6 @@
 // How far a loss spreads, as a C function.
 ghost use Rattle.std.specs.Prelude.{◌≡◌};
-ghost use Rattle.rules.specs.EffectiveLoss.{both, lossAnswer, filled};
+ghost use Rattle.rules.specs.EffectiveLoss.{both, loss_answer, filled};
 ghost use Rattle.c_numbers.specs.Numbers.{number_of};
 
 use c_numbers::number_of;
@@ -15,7 +15,7 @@ pub extern "C" fn carolsedge_effective_loss(
     keys: &mut [f64],
     plain: &mut [f64],
 ) -> u32
-    ensures numbered { result ≡ number_of (lossAnswer units losses.now probabilities.now
+    ensures numbered { result ≡ number_of (loss_answer units losses.now probabilities.now
         (both keys.old plain.old)) }
     ensures lists { both keys.new plain.new ≡
         filled units losses.now probabilities.now

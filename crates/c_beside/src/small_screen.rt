@@ -1,6 +1,6 @@
 // Small-screen streams, as a C function.
 ghost use Rattle.std.specs.Prelude.{◌≡◌, length};
-ghost use Rattle.rules.specs.Rtp.{rtpLists, rtpAnswer, rtpBuffer};
+ghost use Rattle.rules.specs.Rtp.{rtp_lists, rtp_answer, rtp_buffer};
 ghost use Rattle.c_numbers.specs.Numbers.{number_of, value_of};
 
 use c_numbers::{number_of, value_of};
@@ -16,12 +16,12 @@ pub extern "C" fn carolsedge_rtp_units(
     buffer: &mut [u8],
     value: &mut u64,
 ) -> u32
-    ensures value { result ≡ number_of (rtpAnswer sequence.now
-        (rtpLists marker.now time.now size.now) (length buffer.old)) }
-    ensures value_after { value.new ≡ value_of (rtpAnswer sequence.now
-        (rtpLists marker.now time.now size.now) (length buffer.old)) }
-    ensures buffer_after { buffer.new ≡ rtpBuffer sequence.now
-        (rtpLists marker.now time.now size.now) buffer.old }
+    ensures value { result ≡ number_of (rtp_answer sequence.now
+        (rtp_lists marker.now time.now size.now) (length buffer.old)) }
+    ensures value_after { value.new ≡ value_of (rtp_answer sequence.now
+        (rtp_lists marker.now time.now size.now) (length buffer.old)) }
+    ensures buffer_after { buffer.new ≡ rtp_buffer sequence.now
+        (rtp_lists marker.now time.now size.now) buffer.old }
 {
     let a = rtp::read(sequence, marker, time, size, buffer);
     *value = value_of(a);

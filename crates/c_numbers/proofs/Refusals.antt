@@ -3,7 +3,7 @@
 use Prim.Native.Nat.{ℕ}
 use mathlib.Core.Path.{◌≡◌, refl}
 use mathlib.Core.Bool.{Bool, true, false}
-use Rattle.rules.specs.Refusals.{Fault, none, fault, unless, ◌orElse◌, answer}
+use Rattle.rules.specs.Refusals.{Fault, none, fault, unless, ◌or_else◌, answer}
 use Rattle.rules.proofs.Laws.Listed.{Numbered}
 use Rattle.c_numbers.specs.Numbers.{number_of}
 

@@ -20,67 +20,67 @@ use Rattle.record_verify.specs.declared.Verdict.TheVariants as of-verdict
 
 -- ---- the header
 
-abbrev pub headerNumber : HeaderAnswer → ℕ
-headerNumber (of-header.Given h) = 0
-headerNumber (of-header.Refused k p) = listed k
+abbrev pub header_number : HeaderAnswer → ℕ
+header_number (of-header.Given h) = 0
+header_number (of-header.Refused k p) = listed k
 
-abbrev pub figuresOf : Header → List ℕ
-figuresOf h =
+abbrev pub figures_of : Header → List ℕ
+figures_of h =
     h.edition ∷ h.units ∷ h.scenes ∷ h.width ∷ h.height ∷ h.time ∷ h.pid ∷ h.pictures ∷ h.frames ∷ h.skipped
     ∷ h.bad ∷ h.index ∷ []
 
-abbrev pub headerInto : HeaderAnswer → List ℕ → List ℕ
-headerInto (of-header.Given h) old = figuresOf h
-headerInto (of-header.Refused k p) old = old
+abbrev pub header_into : HeaderAnswer → List ℕ → List ℕ
+header_into (of-header.Given h) old = figures_of h
+header_into (of-header.Refused k p) old = old
 
 -- ---- a unit's row
 
-abbrev pub unitNumber : UnitAnswer → ℕ
-unitNumber (of-unit.Given u) = 0
-unitNumber (of-unit.Refused k p) = listed k
+abbrev pub unit_number : UnitAnswer → ℕ
+unit_number (of-unit.Given u) = 0
+unit_number (of-unit.Refused k p) = listed k
 
-abbrev pub unitFigures : UnitRow → List ℕ
-unitFigures u = u.least ∷ u.greatest ∷ u.size ∷ u.packets ∷ u.lost ∷ u.damaged ∷ []
+abbrev pub unit_figures : UnitRow → List ℕ
+unit_figures u = u.least ∷ u.greatest ∷ u.size ∷ u.packets ∷ u.lost ∷ u.damaged ∷ []
 
-abbrev pub unitInto : UnitAnswer → List ℕ → List ℕ
-unitInto (of-unit.Given u) old = unitFigures u
-unitInto (of-unit.Refused k p) old = old
+abbrev pub unit_into : UnitAnswer → List ℕ → List ℕ
+unit_into (of-unit.Given u) old = unit_figures u
+unit_into (of-unit.Refused k p) old = old
 
 -- ---- a scene's row
 
-abbrev pub sceneNumber : SceneAnswer → ℕ
-sceneNumber (of-scene.Given s) = 0
-sceneNumber (of-scene.Refused k p) = listed k
+abbrev pub scene_number : SceneAnswer → ℕ
+scene_number (of-scene.Given s) = 0
+scene_number (of-scene.Refused k p) = listed k
 
-abbrev pub sceneFigures : SceneRow → List ℕ
-sceneFigures s = s.first ∷ s.pictures ∷ s.repeated ∷ s.longest ∷ s.score ∷ s.peak ∷ s.change ∷ []
+abbrev pub scene_figures : SceneRow → List ℕ
+scene_figures s = s.first ∷ s.pictures ∷ s.repeated ∷ s.longest ∷ s.score ∷ s.peak ∷ s.change ∷ []
 
-abbrev pub sceneInto : SceneAnswer → List ℕ → List ℕ
-sceneInto (of-scene.Given s) old = sceneFigures s
-sceneInto (of-scene.Refused k p) old = old
+abbrev pub scene_into : SceneAnswer → List ℕ → List ℕ
+scene_into (of-scene.Given s) old = scene_figures s
+scene_into (of-scene.Refused k p) old = old
 
 -- ---- a verdict
 
 -- the number where a mark fails: no refusal, so none of the table's
-abbrev pub notSealed : ℕ
-notSealed = 100
+abbrev pub not_sealed : ℕ
+not_sealed = 100
 
-abbrev pub verdictNumber : Verdict → ℕ
-verdictNumber (of-verdict.CouldBeSealed x) = 0
-verdictNumber (of-verdict.CouldNotBeSealed mark row found limit) = notSealed
-verdictNumber (of-verdict.Refused k p) = listed k
+abbrev pub verdict_number : Verdict → ℕ
+verdict_number (of-verdict.CouldBeSealed x) = 0
+verdict_number (of-verdict.CouldNotBeSealed mark row found limit) = not_sealed
+verdict_number (of-verdict.Refused k p) = listed k
 
 -- no mark; the totals of the rows, and the bits of the three f64 that they reach
-abbrev pub reachedFigures : Reached → List ℕ
-reachedFigures x =
+abbrev pub reached_figures : Reached → List ℕ
+reached_figures x =
     0 ∷ 0 ∷ 0 ∷ 0 ∷ x.unrepeated ∷ x.pictures ∷ x.packets ∷ x.lost ∷ to_bits binary64 x.index.ic
     ∷ to_bits binary64 x.index.ip ∷ to_bits binary64 x.index.value ∷ []
 
 -- the mark that fails first, and no totals
-abbrev pub failingFigures : ℕ → ℕ → ℕ → ℕ → List ℕ
-failingFigures mark row found limit = mark ∷ row ∷ found ∷ limit ∷ 0 ∷ 0 ∷ 0 ∷ 0 ∷ 0 ∷ 0 ∷ 0 ∷ []
+abbrev pub failing_figures : ℕ → ℕ → ℕ → ℕ → List ℕ
+failing_figures mark row found limit = mark ∷ row ∷ found ∷ limit ∷ 0 ∷ 0 ∷ 0 ∷ 0 ∷ 0 ∷ 0 ∷ 0 ∷ []
 
-abbrev pub verdictInto : Verdict → List ℕ → List ℕ
-verdictInto (of-verdict.CouldBeSealed x) old = reachedFigures x
-verdictInto (of-verdict.CouldNotBeSealed mark row found limit) old = failingFigures mark row found limit
-verdictInto (of-verdict.Refused k p) old = old
+abbrev pub verdict_into : Verdict → List ℕ → List ℕ
+verdict_into (of-verdict.CouldBeSealed x) old = reached_figures x
+verdict_into (of-verdict.CouldNotBeSealed mark row found limit) old = failing_figures mark row found limit
+verdict_into (of-verdict.Refused k p) old = old

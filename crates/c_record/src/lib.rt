@@ -4,8 +4,8 @@ mod rows;
 
 ghost use Rattle.std.specs.Prelude.{◌≡◌};
 ghost use Rattle.index.specs.Counts.{NoNan};
-ghost use Rattle.c_record.specs.Figures.{figuresOf, unitFigures, sceneFigures};
-ghost use Rattle.c_record.specs.Figures.{reachedFigures, failingFigures};
+ghost use Rattle.c_record.specs.Figures.{figures_of, unit_figures, scene_figures};
+ghost use Rattle.c_record.specs.Figures.{reached_figures, failing_figures};
 ghost use Rattle.c_record.specs.Contract.{HeaderRead, UnitRead, SceneRead, Verified, SheetPrinted};
 
 use c_numbers::{listed_number, number_of, value_of};
@@ -16,7 +16,7 @@ use rules::{Header, HeaderAnswer, SceneAnswer, SceneRow, UnitAnswer, UnitRow};
 const NOT_SEALED: u32 = 100;
 
 fn put_header(figures: &mut [u64; 12], h: Header)
-    ensures { figures.new ≡ figuresOf h }
+    ensures { figures.new ≡ figures_of h }
 {
     *figures = [
         h.edition as u64,
@@ -35,7 +35,7 @@ fn put_header(figures: &mut [u64; 12], h: Header)
 }
 
 fn put_unit(row: &mut [u64; 6], u: UnitRow)
-    ensures { row.new ≡ unitFigures u }
+    ensures { row.new ≡ unit_figures u }
 {
     *row = [
         u.least,
@@ -48,7 +48,7 @@ fn put_unit(row: &mut [u64; 6], u: UnitRow)
 }
 
 fn put_scene(row: &mut [u64; 7], s: SceneRow)
-    ensures { row.new ≡ sceneFigures s }
+    ensures { row.new ≡ scene_figures s }
 {
     *row = [
         s.first as u64,
@@ -63,7 +63,7 @@ fn put_scene(row: &mut [u64; 7], s: SceneRow)
 
 fn put_reached(verdict: &mut [u64; 11], x: Reached)
     requires { NoNan x.index }
-    ensures { verdict.new ≡ reachedFigures x }
+    ensures { verdict.new ≡ reached_figures x }
 {
     let i = x.index;
     *verdict = [
@@ -82,7 +82,7 @@ fn put_reached(verdict: &mut [u64; 11], x: Reached)
 }
 
 fn put_failing(verdict: &mut [u64; 11], mark: u64, row: u64, found: u64, limit: u64)
-    ensures { verdict.new ≡ failingFigures mark row found limit }
+    ensures { verdict.new ≡ failing_figures mark row found limit }
 {
     *verdict = [mark, row, found, limit, 0, 0, 0, 0, 0, 0, 0];
 }

@@ -8,11 +8,11 @@ use Rattle.rules.specs.declared.IndexAnswer.{IndexAnswer}
 use Rattle.rules.specs.declared.IndexAnswer.TheVariants.{Given, Refused}
 use Rattle.rules.specs.Refusals.{listed}
 use Rattle.sample_questions.specs.WhileFeeding.{IndexPost}
-use Rattle.c_sample.specs.Replies.{indexFigures}
+use Rattle.c_sample.specs.Replies.{index_figures}
 use Rattle.c_sample.specs.Contract.{IndexTold}
 
 module _ (numbers luma : List ℕ) (old : List Float) (a : IndexAnswer) (h : IndexPost numbers luma a) where
-  pub index-given : (i : Index) (new : List Float) → a ≡ Given i → new ≡ indexFigures i →
+  pub index-given : (i : Index) (new : List Float) → a ≡ Given i → new ≡ index_figures i →
       IndexTold numbers luma old 0 0 new
   index-given i new g n = record { answer = a; made = h; numbered = rw g; placed = rw g; given = rw g n }
 

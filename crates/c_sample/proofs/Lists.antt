@@ -11,14 +11,14 @@ use Rattle.rules.specs.declared.Answer.{Answer}
 use Rattle.rules.specs.declared.IndexAnswer.{IndexAnswer}
 use Rattle.rules.specs.declared.IndexAnswer.TheVariants.{Given, Refused}
 use Rattle.rules.specs.Bytes.{pick}
-use Rattle.rules.specs.Calls.{Reply, indexed, counted, lentAfter, Call, Outcome, fed, replied}
+use Rattle.rules.specs.Calls.{Reply, indexed, counted, lent_after, Call, Outcome, fed, replied}
 use Rattle.rules.proofs.Laws.Listed.{listed_in}
 use Rattle.sample_questions.specs.State.{State}
 use Rattle.sample.specs.Calls as of-sample
 use Rattle.sample.proofs.Lists.{every-list}
 use Rattle.c_numbers.specs.Numbers.{number_of, value_of}
-use Rattle.c_sample.specs.Replies.{indexNumber, indexInto, replyNumber, replyValue, threeOf}
-use Rattle.c_sample.specs.Calls.{Left, left_of, feedsCapture, feedsLuma, asks, asksIndex, asksRepeats}
+use Rattle.c_sample.specs.Replies.{index_number, index_into, reply_number, reply_value, three_of}
+use Rattle.c_sample.specs.Calls.{Left, left_of, feeds_capture, feeds_luma, asks, asks_index, asks_repeats}
 use Rattle.c_sample.specs.Calls.{MadeAll, done, next, EveryList}
 
 record Under (st : State) (cs : List Call) (ls : List Left) (end : State) : Type 0 where
@@ -33,31 +33,31 @@ fed-more : (n v : ℕ) (a : Answer) (ls : List Left) (os : List Outcome) → n �
 fed-more n v a ls os k x l = rw (k, x, l)
 
 told_more : (n v : ℕ) (b : List ℕ) (f : List Float) (r : Reply) (ls : List Left) (os : List Outcome) →
-    n ≡ replyNumber r → v ≡ replyValue r → b ≡ lentAfter r → f ≡ threeOf r → ls ≡ map left_of os →
+    n ≡ reply_number r → v ≡ reply_value r → b ≡ lent_after r → f ≡ three_of r → ls ≡ map left_of os →
     record { number = n; value = v; lent = b; three = f } ∷ ls ≡ map left_of (replied r ∷ os)
 told_more n v b f r ls os k x y z l = rw (k, x, y, z, l)
 
 -- the three that an index call leaves where its number is 0
-three-left : (a : IndexAnswer) (n : ℕ) (before after : List Float) → n ≡ indexNumber a → after ≡ indexInto a before →
-    pick (eqb n 0) after [] ≡ indexInto a []
+three-left : (a : IndexAnswer) (n : ℕ) (before after : List Float) → n ≡ index_number a → after ≡ index_into a before →
+    pick (eqb n 0) after [] ≡ index_into a []
 three-left (Given i) n before after e g = rw (e, g)
 three-left (Refused k p) n before after e g =
     rw (ne_eqb n 0 (λ z. omega (arith, e, (listed_in k).0)))
 
 under : {st : State} {cs : List Call} {ls : List Left} {end : State} → MadeAll st cs ls end → Under st cs ls end
 under done = record { outcomes = []; runs = of-sample.done; left = refl }
-under (next (feedsCapture p) r) =
+under (next (feeds_capture p) r) =
     let u = under r in
     record {
       outcomes = fed p.answer ∷ u.outcomes;
-      runs = of-sample.next (of-sample.feedsCapture p.made) u.runs;
+      runs = of-sample.next (of-sample.feeds_capture p.made) u.runs;
       left = fed-more _ _ p.answer _ u.outcomes p.numbered p.valued u.left;
     }
-under (next (feedsLuma p) r) =
+under (next (feeds_luma p) r) =
     let u = under r in
     record {
       outcomes = fed p.answer ∷ u.outcomes;
-      runs = of-sample.next (of-sample.feedsLuma p.made) u.runs;
+      runs = of-sample.next (of-sample.feeds_luma p.made) u.runs;
       left = fed-more _ _ p.answer _ u.outcomes p.numbered p.valued u.left;
     }
 under (next (asks p) r) =
@@ -68,7 +68,7 @@ under (next (asks p) r) =
       left =
           told_more _ _ _ [] p.reply _ u.outcomes p.numbered p.valued p.lent (sym p.three) u.left;
     }
-under (next (asksIndex {st = st} {before = before} p) r) =
+under (next (asks_index {st = st} {before = before} p) r) =
     let u = under r in
     let made = p.made.asked st.capture.walk st.capture.kept st.capture.table in
     record {
@@ -78,7 +78,7 @@ under (next (asksIndex {st = st} {before = before} p) r) =
           told_more _ _ [] _ (indexed p.answer) _ u.outcomes p.numbered p.placed refl
           (three-left p.answer _ before _ p.numbered p.given) u.left;
     }
-under (next (asksRepeats {st = st} p) r) =
+under (next (asks_repeats {st = st} p) r) =
     let u = under r in
     record {
       outcomes = replied (counted p.answer) ∷ u.outcomes;

@@ -4,14 +4,14 @@
 use Rattle.std.specs.Prelude.{ℕ, ◌≡◌, List, [], ◌∷◌, map, Float, eqb}
 use Rattle.rules.specs.Bytes.{pick}
 use Rattle.rules.specs.declared.Opening.{Opening}
-use Rattle.rules.specs.Opening.{openAnswer}
-use Rattle.rules.specs.Calls.{Question, index, repeats, lentAfter, Call, feedCapture, feedLuma, ask, Outcome, fed}
-use Rattle.rules.specs.Calls.{replied, expected, lumaFed}
+use Rattle.rules.specs.Opening.{open_answer}
+use Rattle.rules.specs.Calls.{Question, index, repeats, lent_after, Call, feed_capture, feed_luma, ask, Outcome, fed}
+use Rattle.rules.specs.Calls.{replied, expected, luma_fed}
 use Rattle.capture.specs.State.{Arrays}
 use Rattle.sample_questions.specs.State.{State, words_of}
 use Rattle.sample.specs.Calls.{InHistograms}
 use Rattle.c_numbers.specs.Numbers.{number_of, value_of}
-use Rattle.c_sample.specs.Replies.{replyNumber, replyValue, threeOf}
+use Rattle.c_sample.specs.Replies.{reply_number, reply_value, three_of}
 use Rattle.c_sample.specs.Contract.{Opened, FedCapture, FedLuma, Told, IndexTold, CountTold}
 
 -- what a call leaves: its number, its value, of a question the lent bytes and, of an index that is given, its three
@@ -24,31 +24,31 @@ pub record Left : Type 0 where
 
 abbrev pub left_of : Outcome → Left
 left_of (fed a) = record { number = number_of a; value = value_of a; lent = []; three = [] }
-left_of (replied r) = record { number = replyNumber r; value = replyValue r; lent = lentAfter r; three = threeOf r }
+left_of (replied r) = record { number = reply_number r; value = reply_value r; lent = lent_after r; three = three_of r }
 
 -- one call of a C function on a state, which leaves another: no more and no less than the function's own contract
 pub data Made : State → Call → Left → State → Type 0 where
-  feedsCapture : {side side' : Arrays} {luma sums bins picture piece : List ℕ} {n v : ℕ} →
+  feeds_capture : {side side' : Arrays} {luma sums bins picture piece : List ℕ} {n v : ℕ} →
       FedCapture side piece n v side' →
       Made
       (record { capture = side; luma = luma; sums = sums; bins = bins; picture = picture })
-      (feedCapture piece)
+      (feed_capture piece)
       (record { number = n; value = v; lent = []; three = [] })
       (record { capture = side'; luma = luma; sums = sums; bins = bins; picture = picture })
-  feedsLuma : {side : Arrays} {luma sums bins picture luma' sums' bins' picture' piece : List ℕ} {n v : ℕ} →
+  feeds_luma : {side : Arrays} {luma sums bins picture luma' sums' bins' picture' piece : List ℕ} {n v : ℕ} →
       FedLuma luma sums bins picture piece n v luma' sums' bins' picture' →
       Made
       (record { capture = side; luma = luma; sums = sums; bins = bins; picture = picture })
-      (feedLuma piece)
+      (feed_luma piece)
       (record { number = n; value = v; lent = []; three = [] })
       (record { capture = side; luma = luma'; sums = sums'; bins = bins'; picture = picture' })
   asks : {st : State} {q : Question} {n v : ℕ} {after : List ℕ} →
       Told (words_of st) q n v after →
       Made st (ask q) (record { number = n; value = v; lent = after; three = [] }) st
-  asksIndex : {st : State} {n v : ℕ} {before after : List Float} →
+  asks_index : {st : State} {n v : ℕ} {before after : List Float} →
       IndexTold st.capture.numbers st.luma before n v after →
       Made st (ask index) (record { number = n; value = v; lent = []; three = pick (eqb n 0) after [] }) st
-  asksRepeats : {st : State} {a b n v : ℕ} →
+  asks_repeats : {st : State} {a b n v : ℕ} →
       CountTold st.luma a b n v →
       Made st (ask (repeats a b)) (record { number = n; value = v; lent = []; three = [] }) st
 
@@ -61,9 +61,9 @@ pub data MadeAll : State → List Call → List Left → State → Type 0 where
 
 -- THE STATEMENT
 pub record AsTheRulesSay (o : Opening) (number : ℕ) (cs : List Call) (ls : List Left) (end : State) : Type 0 where
-  pub opening : number ≡ number_of (openAnswer o)
+  pub opening : number ≡ number_of (open_answer o)
   pub left : ls ≡ map left_of (expected o [] [] cs)
-  pub counted : InHistograms o (lumaFed cs) end
+  pub counted : InHistograms o (luma_fed cs) end
 
 abbrev pub EveryList : Type 0
 EveryList =

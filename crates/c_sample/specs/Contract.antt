@@ -4,7 +4,7 @@ use Rattle.std.specs.Prelude.{ℕ, ◌≡◌, List, [], Float}
 use Rattle.rules.specs.declared.Opening.{Opening}
 use Rattle.rules.specs.declared.Answer.{Answer}
 use Rattle.rules.specs.declared.IndexAnswer.{IndexAnswer}
-use Rattle.rules.specs.Calls.{Question, Reply, lentAfter}
+use Rattle.rules.specs.Calls.{Question, Reply, lent_after}
 use Rattle.capture.specs.State.{Arrays}
 use Rattle.capture.specs.Contract as side-capture
 use Rattle.luma.specs.Contract as side-luma
@@ -14,7 +14,7 @@ use Rattle.sample_questions.specs.WhileFeeding.{IndexPost}
 use Rattle.sample_questions.specs.Passage.{RepeatsPost}
 use Rattle.sample.specs.Contract.{OpenPost}
 use Rattle.c_numbers.specs.Numbers.{number_of, value_of}
-use Rattle.c_sample.specs.Replies.{indexNumber, indexPlace, indexInto, replyNumber, replyValue, threeOf}
+use Rattle.c_sample.specs.Replies.{index_number, index_place, index_into, reply_number, reply_value, three_of}
 
 -- the opening, the number, the state after
 pub record Opened (o : Opening) (number : ℕ) (after : State) : Type 0 where
@@ -42,10 +42,10 @@ pub record FedLuma (luma sums bins picture piece : List ℕ) (number value : ℕ
 pub record Told (w : Words) (q : Question) (number value : ℕ) (after : List ℕ) : Type 0 where
   pub reply : Reply
   pub made : Asked w q reply
-  pub numbered : number ≡ replyNumber reply
-  pub valued : value ≡ replyValue reply
-  pub lent : after ≡ lentAfter reply
-  pub three : threeOf reply ≡ []
+  pub numbered : number ≡ reply_number reply
+  pub valued : value ≡ reply_value reply
+  pub lent : after ≡ lent_after reply
+  pub three : three_of reply ≡ []
 
 -- of an index: the capture side's numbers, the luma words, the lent three before, the number, the place, the lent
 -- three after
@@ -53,9 +53,9 @@ pub record IndexTold (numbers luma : List ℕ) (before : List Float) (number pla
     Type 0 where
   pub answer : IndexAnswer
   pub made : IndexPost numbers luma answer
-  pub numbered : number ≡ indexNumber answer
-  pub placed : place ≡ indexPlace answer
-  pub given : after ≡ indexInto answer before
+  pub numbered : number ≡ index_number answer
+  pub placed : place ≡ index_place answer
+  pub given : after ≡ index_into answer before
 
 -- of a count of repeats: the luma words, a and b, the number, the value
 pub record CountTold (luma : List ℕ) (a b number value : ℕ) : Type 0 where

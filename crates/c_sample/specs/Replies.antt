@@ -4,41 +4,41 @@ use Rattle.rules.specs.declared.Index.{Index}
 use Rattle.rules.specs.declared.IndexAnswer.{IndexAnswer}
 use Rattle.rules.specs.declared.IndexAnswer.TheVariants.{Given, Refused}
 use Rattle.rules.specs.Refusals.{listed}
-use Rattle.rules.specs.Calls.{Reply, sealedInto, indexed, counted}
+use Rattle.rules.specs.Calls.{Reply, sealed_into, indexed, counted}
 use Rattle.c_numbers.specs.Numbers.{number_of, value_of}
 
 -- ---- an index: its value is the refusal's place, or 0; after a refusal the lent three are what stood there
 
-abbrev pub indexNumber : IndexAnswer → ℕ
-indexNumber (Given i) = 0
-indexNumber (Refused k p) = listed k
+abbrev pub index_number : IndexAnswer → ℕ
+index_number (Given i) = 0
+index_number (Refused k p) = listed k
 
-abbrev pub indexPlace : IndexAnswer → ℕ
-indexPlace (Given i) = 0
-indexPlace (Refused k p) = p
+abbrev pub index_place : IndexAnswer → ℕ
+index_place (Given i) = 0
+index_place (Refused k p) = p
 
 -- Ic, Ip and the index
-abbrev pub indexFigures : Index → List Float
-indexFigures i = i.ic ∷ i.ip ∷ i.value ∷ []
+abbrev pub index_figures : Index → List Float
+index_figures i = i.ic ∷ i.ip ∷ i.value ∷ []
 
-abbrev pub indexInto : IndexAnswer → List Float → List Float
-indexInto (Given i) old = indexFigures i
-indexInto (Refused k p) old = old
+abbrev pub index_into : IndexAnswer → List Float → List Float
+index_into (Given i) old = index_figures i
+index_into (Refused k p) old = old
 
 -- ---- any question
 
-abbrev pub replyNumber : Reply → ℕ
-replyNumber (sealedInto a buffer) = number_of a
-replyNumber (indexed a) = indexNumber a
-replyNumber (counted a) = number_of a
+abbrev pub reply_number : Reply → ℕ
+reply_number (sealed_into a buffer) = number_of a
+reply_number (indexed a) = index_number a
+reply_number (counted a) = number_of a
 
-abbrev pub replyValue : Reply → ℕ
-replyValue (sealedInto a buffer) = value_of a
-replyValue (indexed a) = indexPlace a
-replyValue (counted a) = value_of a
+abbrev pub reply_value : Reply → ℕ
+reply_value (sealed_into a buffer) = value_of a
+reply_value (indexed a) = index_place a
+reply_value (counted a) = value_of a
 
 -- the three f64 that it gives
-abbrev pub threeOf : Reply → List Float
-threeOf (sealedInto a buffer) = []
-threeOf (indexed a) = indexInto a []
-threeOf (counted a) = []
+abbrev pub three_of : Reply → List Float
+three_of (sealed_into a buffer) = []
+three_of (indexed a) = index_into a []
+three_of (counted a) = []

@@ -2,10 +2,10 @@
 // thin: it hands its memory to the call of the crate below and splits the answer into numbers (`c_numbers`).
 ghost use Rattle.std.specs.Prelude.{◌≡◌};
 ghost use Rattle.rules.specs.Calls.{seal};
-ghost use Rattle.capture.specs.State.{arraysOf};
-ghost use Rattle.sample_questions.specs.State.{sampleOf, words_in};
+ghost use Rattle.capture.specs.State.{arrays_of};
+ghost use Rattle.sample_questions.specs.State.{sample_of, words_in};
 ghost use Rattle.replay.specs.Run.{Replayed};
-ghost use Rattle.c_sample.specs.Replies.{indexFigures};
+ghost use Rattle.c_sample.specs.Replies.{index_figures};
 ghost use Rattle.c_sample.specs.Contract.{Opened, FedCapture, FedLuma, Told, IndexTold, CountTold};
 
 use c_numbers::{listed_number, number_of, value_of};
@@ -32,7 +32,7 @@ pub extern "C" fn carolsedge_open(
     edition: u32,
 ) -> u32
     ensures { Opened (record { width = width; height = height; time = time; pid = pid; edition = edition }) result
-        (sampleOf (arraysOf walk.new kept.new numbers.new table.new)
+        (sample_of (arrays_of walk.new kept.new numbers.new table.new)
         luma.new sums.new bins.new picture.new) }
 {
     let o = Opening {
@@ -57,9 +57,9 @@ pub extern "C" fn carolsedge_feed_capture(
     value: &mut u64,
 ) -> u32
     ensures { FedCapture
-        (arraysOf walk.old kept.old numbers.old table.old)
+        (arrays_of walk.old kept.old numbers.old table.old)
         piece.now result value.new
-        (arraysOf walk.new kept.new numbers.new table.new) }
+        (arrays_of walk.new kept.new numbers.new table.new) }
 {
     let a = sample::feed_capture(walk, kept, numbers, table, piece);
     *value = value_of(a);
@@ -98,7 +98,7 @@ pub extern "C" fn carolsedge_seal(
     value: &mut u64,
 ) -> u32
     ensures { Told
-        (words_in (arraysOf walk.now kept.now numbers.now table.now)
+        (words_in (arrays_of walk.now kept.now numbers.now table.now)
         luma.now)
         (seal buffer.old) result value.new buffer.new }
 {
@@ -108,7 +108,7 @@ pub extern "C" fn carolsedge_seal(
 }
 
 fn put_three(three: &mut [f64; 3], i: Index)
-    ensures { three.new ≡ indexFigures i }
+    ensures { three.new ≡ index_figures i }
 {
     *three = [i.ic, i.ip, i.value];
 }

@@ -5,26 +5,26 @@ use mathlib.Core.Path.{◌≡◌, refl, ap, ◌∙◌}
 use mathlib.Core.List.{List, [], ◌∷◌, map}
 use Rattle.rules.specs.declared.Answer.{Answer}
 use Rattle.rules.specs.declared.SurveyAnswer.{SurveyAnswer}
-use Rattle.rules.specs.Survey.{SurveyCall, SurveyOutcome, fedSurvey, found}
+use Rattle.rules.specs.Survey.{SurveyCall, SurveyOutcome, fed_survey, found}
 use Rattle.survey.specs.State.{State}
 use Rattle.survey.specs.Calls as of-survey
 use Rattle.survey.proofs.Lists.{every-survey}
 use Rattle.c_numbers.specs.Numbers.{number_of, value_of}
-use Rattle.c_survey.specs.Contract.{mostNumber, mostValue, mostCount}
-use Rattle.c_survey.specs.Calls.{SurveyLeft, surveyLeft, feeds, asks, SurveyMadeAll, done, next, EverySurvey}
+use Rattle.c_survey.specs.Contract.{most_number, most_value, most_count}
+use Rattle.c_survey.specs.Calls.{SurveyLeft, survey_left, feeds, asks, SurveyMadeAll, done, next, EverySurvey}
 
 record Under (st : State) (cs : List SurveyCall) (ls : List SurveyLeft) (end : State) : Type 0 where
   outcomes : List SurveyOutcome
   runs : of-survey.Runs st cs outcomes end
-  left : ls ≡ map surveyLeft outcomes
+  left : ls ≡ map survey_left outcomes
 
 fed-more : (n v : ℕ) (a : Answer) (ls : List SurveyLeft) (os : List SurveyOutcome) → n ≡ number_of a → v ≡ value_of a →
-    ls ≡ map surveyLeft os → record { number = n; value = v; count = 0 } ∷ ls ≡ map surveyLeft (fedSurvey a ∷ os)
+    ls ≡ map survey_left os → record { number = n; value = v; count = 0 } ∷ ls ≡ map survey_left (fed_survey a ∷ os)
 fed-more n v a ls os k x l = rw (k, x, l)
 
-found-more : (n v c : ℕ) (a : SurveyAnswer) (ls : List SurveyLeft) (os : List SurveyOutcome) → n ≡ mostNumber a →
-    v ≡ mostValue a → c ≡ mostCount a → ls ≡ map surveyLeft os →
-    record { number = n; value = v; count = c } ∷ ls ≡ map surveyLeft (found a ∷ os)
+found-more : (n v c : ℕ) (a : SurveyAnswer) (ls : List SurveyLeft) (os : List SurveyOutcome) → n ≡ most_number a →
+    v ≡ most_value a → c ≡ most_count a → ls ≡ map survey_left os →
+    record { number = n; value = v; count = c } ∷ ls ≡ map survey_left (found a ∷ os)
 found-more n v c a ls os k x y l = rw (k, x, y, l)
 
 under : {st : State} {cs : List SurveyCall} {ls : List SurveyLeft} {end : State} → SurveyMadeAll st cs ls end →
@@ -33,7 +33,7 @@ under done = record { outcomes = []; runs = of-survey.done; left = refl }
 under (next (feeds p) r) =
     let u = under r in
     record {
-      outcomes = fedSurvey p.answer ∷ u.outcomes;
+      outcomes = fed_survey p.answer ∷ u.outcomes;
       runs = of-survey.next (of-survey.feeds p.made) u.runs;
       left = fed-more _ _ p.answer _ u.outcomes p.numbered p.valued u.left;
     }
@@ -47,4 +47,4 @@ under (next (asks p) r) =
 
 pub every-survey-call : EverySurvey
 every-survey-call st cs ls end p r =
-    let u = under r in u.left ∙ ap (map surveyLeft) (every-survey st cs u.outcomes end p u.runs)
+    let u = under r in u.left ∙ ap (map survey_left) (every-survey st cs u.outcomes end p u.runs)

@@ -10,17 +10,17 @@ use Rattle.survey.specs.Contract.{FeedPost, AskPost}
 use Rattle.c_numbers.specs.Numbers.{number_of, value_of}
 
 -- what a question answers, which has a third number: how many packets the identifier has
-abbrev pub mostNumber : SurveyAnswer → ℕ
-mostNumber (Most id n) = 0
-mostNumber (Refused k p) = listed k
+abbrev pub most_number : SurveyAnswer → ℕ
+most_number (Most id n) = 0
+most_number (Refused k p) = listed k
 
-abbrev pub mostValue : SurveyAnswer → ℕ
-mostValue (Most id n) = id
-mostValue (Refused k p) = p
+abbrev pub most_value : SurveyAnswer → ℕ
+most_value (Most id n) = id
+most_value (Refused k p) = p
 
-abbrev pub mostCount : SurveyAnswer → ℕ
-mostCount (Most id n) = n
-mostCount (Refused k p) = 0
+abbrev pub most_count : SurveyAnswer → ℕ
+most_count (Most id n) = n
+most_count (Refused k p) = 0
 
 -- the survey's state before, the piece, the number, the value, the state after
 pub record SurveyFed (before : State) (piece : List ℕ) (number value : ℕ) (after : State) : Type 0 where
@@ -33,6 +33,6 @@ pub record SurveyFed (before : State) (piece : List ℕ) (number value : ℕ) (a
 pub record SurveyTold (walk counts : List ℕ) (number value count : ℕ) : Type 0 where
   pub answer : SurveyAnswer
   pub made : AskPost walk counts answer
-  pub numbered : number ≡ mostNumber answer
-  pub valued : value ≡ mostValue answer
-  pub counted : count ≡ mostCount answer
+  pub numbered : number ≡ most_number answer
+  pub valued : value ≡ most_value answer
+  pub counted : count ≡ most_count answer

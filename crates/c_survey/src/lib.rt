@@ -3,7 +3,7 @@
 ghost use Rattle.std.specs.Prelude.{◌≡◌};
 ghost use Rattle.survey.specs.State.{state_of};
 ghost use Rattle.survey.specs.Contract.{Opened};
-ghost use Rattle.c_survey.specs.Contract.{mostNumber, mostValue, mostCount, SurveyFed, SurveyTold};
+ghost use Rattle.c_survey.specs.Contract.{most_number, most_value, most_count, SurveyFed, SurveyTold};
 
 use c_numbers::{listed_number, number_of, value_of};
 use capture_walk::{Collected, WalkWords};
@@ -11,7 +11,7 @@ use rules::SurveyAnswer;
 use survey::Counts;
 
 fn most_number(a: SurveyAnswer) -> u32
-    ensures { result ≡ mostNumber a }
+    ensures { result ≡ most_number a }
 {
     match a {
         SurveyAnswer::Most {
@@ -23,7 +23,7 @@ fn most_number(a: SurveyAnswer) -> u32
 }
 
 fn most_value(a: SurveyAnswer) -> u64
-    ensures { result ≡ mostValue a }
+    ensures { result ≡ most_value a }
 {
     match a {
         SurveyAnswer::Most {
@@ -35,7 +35,7 @@ fn most_value(a: SurveyAnswer) -> u64
 }
 
 fn most_count(a: SurveyAnswer) -> u64
-    ensures { result ≡ mostCount a }
+    ensures { result ≡ most_count a }
 {
     match a {
         SurveyAnswer::Most {

@@ -8,10 +8,10 @@ use lib.Seq.{take-add, take_all, sets, sets-eq}
 use Rattle.rules.specs.declared.Opening.{Opening}
 use Rattle.rules.specs.declared.Answer.{Answer}
 use Rattle.rules.specs.declared.Answer.TheVariants.{Done, Refused}
-use Rattle.rules.specs.Refusals.{Fault, none, fault, ◌orElse◌, answer}
-use Rattle.rules.specs.Opening.{openingFault}
-use Rattle.rules.specs.Capture.{captureFault}
-use Rattle.rules.specs.Seal.{captureAnswer}
+use Rattle.rules.specs.Refusals.{Fault, none, fault, ◌or_else◌, answer}
+use Rattle.rules.specs.Opening.{opening_fault}
+use Rattle.rules.specs.Capture.{capture_fault}
+use Rattle.rules.specs.Seal.{capture_answer}
 use Rattle.capture_laws.proofs.Begins.{capture-kept}
 use Rattle.capture_laws.proofs.Format.{magic-early, link-early, header-units, capture-format, header-shows}
 use Rattle.capture_steps.specs.declared.types.Walk.{Walk}
@@ -28,11 +28,11 @@ use Rattle.capture.specs.Contract.{Opened, FeedPost, Takes, Goes, Replies, Store
 
 -- ---- a refusal stays
 
-kept_on : (o : Opening) (joined t : List ℕ) (k p : ℕ) → openingFault o or_else captureFault o joined ≡ fault k p →
-    openingFault o or_else captureFault o (joined ++ t) ≡ fault k p
-kept_on o joined t k p = go (openingFault o)
+kept_on : (o : Opening) (joined t : List ℕ) (k p : ℕ) → opening_fault o or_else capture_fault o joined ≡ fault k p →
+    opening_fault o or_else capture_fault o (joined ++ t) ≡ fault k p
+kept_on o joined t k p = go (opening_fault o)
   where
-    go : (f : Fault) → f or_else captureFault o joined ≡ fault k p → f or_else captureFault o (joined ++ t) ≡ fault k p
+    go : (f : Fault) → f or_else capture_fault o joined ≡ fault k p → f or_else capture_fault o (joined ++ t) ≡ fault k p
     go none e = capture-kept o joined t k p e
     go (fault l q) e = e
 
@@ -91,12 +91,12 @@ module _ {k k' b b' : List ℕ} {s : Meter} {w : Walk} {t : Tally} (piece : List
 -- ---- the calls
 
 pub reply-stopped : {t : Tally} (n : ℕ) → (t.status ≡ 0 → ⊥) → Replies t n (Refused t.status t.place)
-unfolding captureAnswer
+unfolding capture_answer
 reply-stopped n h table o joined (stopped e k) = rw e
 reply-stopped n h table o joined (live v) = absurd (h v.counts.status)
 
 pub reply-done : {t : Tally} (n : ℕ) → t.status ≡ 0 → Replies t n (Done n)
-unfolding captureAnswer
+unfolding capture_answer
 reply-done n h table o joined c = let v = is_live h c in rw (v.good, v.clear)
 
 pub feed-post : (before : Arrays) (piece : List ℕ) (a : Answer) (after : Arrays) (w : Walk) (t : Tally) (r : Meter) →
@@ -127,7 +127,7 @@ stored w t h = ap loaded (sets-eq (listed t) w 0 h)
 
 -- ---- the opening
 
-clear_none : (o : Opening) → captureFault o [] ≡ none
+clear_none : (o : Opening) → capture_fault o [] ≡ none
 clear_none o =
     capture-format o []
     ∙ rw (

@@ -3,18 +3,18 @@ use Rattle.std.specs.Prelude.{ℕ, ◌%◌, ◌^◌, ◌≤◌, ◌<◌, ◌≡�
 use Rattle.rules.specs.declared.Opening.{Opening}
 use Rattle.rules.specs.declared.Answer.{Answer}
 use Rattle.rules.specs.Bytes.{pick, total}
-use Rattle.rules.specs.Refusals.{Fault, none, fault, ◌orElse◌}
-use Rattle.rules.specs.Opening.{openingFault}
+use Rattle.rules.specs.Refusals.{Fault, none, fault, ◌or_else◌}
+use Rattle.rules.specs.Opening.{opening_fault}
 use Rattle.rules.specs.Capture as rule
-use Rattle.rules.specs.Capture.{frameCount, skippedCount, badCount, captureFault, captureInside}
-use Rattle.rules.specs.Seal.{captureAnswer}
+use Rattle.rules.specs.Capture.{frame_count, skipped_count, bad_count, capture_fault, capture_inside}
+use Rattle.rules.specs.Seal.{capture_answer}
 use Rattle.capture_steps.specs.declared.types.Walk.{Walk}
 use Rattle.capture_steps.specs.declared.types.Event.{Event}
-use Rattle.capture_steps.specs.Format.{wholeCells}
+use Rattle.capture_steps.specs.Format.{whole_cells}
 use Rattle.capture_steps.specs.State as walk
 use Rattle.capture_steps.specs.Contract.{Tells}
 use Rattle.capture_units.specs.declared.Units.{Units}
-use Rattle.capture_units.specs.Units.{ofPid}
+use Rattle.capture_units.specs.Units.{of_pid}
 use Rattle.capture_units.specs.State as table
 use Rattle.capture_counts.specs.declared.Tally.{Tally}
 use Rattle.capture.specs.declared.Meter.{Meter}
@@ -25,7 +25,7 @@ use Rattle.capture.specs.State.{Arrays, loaded, Live, Counting, Stands, Means}
 -- `open`: the opening's number, or 0, its PID and its edition; the arrays after
 abbrev pub Opened : ℕ → ℕ → ℕ → Arrays → Type 0
 Opened number pid edition a =
-    (o : Opening) → (number ≡ 0 → openingFault o ≡ none) → (0 < number → openingFault o ≡ fault number 0) →
+    (o : Opening) → (number ≡ 0 → opening_fault o ≡ none) → (0 < number → opening_fault o ≡ fault number 0) →
     pid ≡ o.pid → edition ≡ o.edition →
     Means a o []
 
@@ -33,7 +33,7 @@ Opened number pid edition a =
 pub record FeedPost (before : Arrays) (piece : List ℕ) (a : Answer) (after : Arrays) : Type 0 where
   pub means : (o : Opening) (joined : List ℕ) → Means before o joined → Means after o (joined ++ piece)
   pub answer : (o : Opening) (joined : List ℕ) → Means before o joined →
-      a ≡ captureAnswer o (joined ++ piece) (length piece)
+      a ≡ capture_answer o (joined ++ piece) (length piece)
 
 -- ---- `sum_up`
 
@@ -43,24 +43,24 @@ standing number place = pick (eqb number 0) none (fault number place)
 
 -- no refusal stands: the figures are the rules'
 pub record Figures (rows : List ℕ) (o : Opening) (joined : List ℕ) (r : Summary) : Type 0 where
-  pub good : openingFault o ≡ none
-  pub clear : captureFault o joined ≡ none
+  pub good : opening_fault o ≡ none
+  pub clear : capture_fault o joined ≡ none
   pub limit : length joined ≤ 268435456
   pub fed : r.fed ≡ length joined
-  pub inside : r.inside ≡ captureInside joined
-  pub frames : r.frames ≡ frameCount joined
-  pub skipped : r.skipped ≡ skippedCount joined
-  pub bad : r.bad ≡ badCount o joined
+  pub inside : r.inside ≡ capture_inside joined
+  pub frames : r.frames ≡ frame_count joined
+  pub skipped : r.skipped ≡ skipped_count joined
+  pub bad : r.bad ≡ bad_count o joined
   pub units : r.units ≡ length (rule.units o joined)
   pub packets : r.packets ≡ total (map (λ u. u.packets) (rule.units o joined))
   pub lost : r.lost ≡ total (map (λ u. u.lost) (rule.units o joined))
   -- the table of units, for whoever reads its rows
   pub beside : Units
-  pub table : table.Stands rows beside (ofPid o.edition o.pid (wholeCells joined))
-  pub few : length (ofPid o.edition o.pid (wholeCells joined)) < 2 ^ 24
+  pub table : table.Stands rows beside (of_pid o.edition o.pid (whole_cells joined))
+  pub few : length (of_pid o.edition o.pid (whole_cells joined)) < 2 ^ 24
 
 pub record SumOf (rows : List ℕ) (o : Opening) (joined : List ℕ) (r : Summary) : Type 0 where
-  pub refusal : openingFault o or_else captureFault o joined ≡ standing r.number r.place
+  pub refusal : opening_fault o or_else capture_fault o joined ≡ standing r.number r.place
   pub figures : r.number ≡ 0 → Figures rows o joined r
 
 -- the walk's words and the side's numbers, the summary
@@ -72,8 +72,8 @@ SumsUp walk numbers r =
 
 -- ---- `totals_in`
 
-abbrev pub totalsIn : List ℕ → Totals
-totalsIn numbers =
+abbrev pub totals_in : List ℕ → Totals
+totals_in numbers =
     record { number = get_or numbers 0 0; place = get_or numbers 1 0; packets = get_or numbers 6 0; lost = get_or numbers 7 0 }
 
 -- ---- of the functions within
@@ -94,15 +94,15 @@ Goes kept table s chunk kept' table' r =
 -- what a feed of n bytes answers, from the numbers after it
 abbrev pub Replies : Tally → ℕ → Answer → Type 0
 Replies t n a =
-    (table : List ℕ) (o : Opening) (joined : List ℕ) → Counting table t o joined → a ≡ captureAnswer o joined n
+    (table : List ℕ) (o : Opening) (joined : List ℕ) → Counting table t o joined → a ≡ capture_answer o joined n
 
 -- before, the numbers, after: the numbers are in the words
 pub record Stored (before : List ℕ) (t : Tally) (after : List ℕ) : Type 0 where
   pub size : length after ≡ length before
   pub loads : length before ≡ 16 → loaded after ≡ t
 
-abbrev pub summaryOf : Walk → Tally → Bool → Summary
-summaryOf w t inside =
+abbrev pub summary_of : Walk → Tally → Bool → Summary
+summary_of w t inside =
     record {
       number = t.status;
       place = t.place;

@@ -1,11 +1,11 @@
 -- What the capture side's lent arrays stand for.
 use Rattle.std.specs.Prelude.{ℕ, ◌<◌, ◌≡◌, List, length, get_or}
 use Rattle.rules.specs.declared.Opening.{Opening}
-use Rattle.rules.specs.Refusals.{none, fault, ◌orElse◌}
-use Rattle.rules.specs.Opening.{openingFault}
-use Rattle.rules.specs.Capture.{captureFault}
+use Rattle.rules.specs.Refusals.{none, fault, ◌or_else◌}
+use Rattle.rules.specs.Opening.{opening_fault}
+use Rattle.rules.specs.Capture.{capture_fault}
 use Rattle.capture_steps.specs.declared.types.Walk.{Walk}
-use Rattle.capture_steps.specs.Format.{wholeCells}
+use Rattle.capture_steps.specs.Format.{whole_cells}
 use Rattle.capture_steps.specs.State as walk
 use Rattle.capture_counts.specs.declared.Tally.{Tally}
 use Rattle.capture_counts.specs.Counts.{Counts}
@@ -17,8 +17,8 @@ pub record Arrays : Type 0 where
   pub numbers : List ℕ
   pub table : List ℕ
 
-abbrev pub arraysOf : List ℕ → List ℕ → List ℕ → List ℕ → Arrays
-arraysOf walk kept numbers table = record { walk = walk; kept = kept; numbers = numbers; table = table }
+abbrev pub arrays_of : List ℕ → List ℕ → List ℕ → List ℕ → Arrays
+arrays_of walk kept numbers table = record { walk = walk; kept = kept; numbers = numbers; table = table }
 
 abbrev pub loaded : List ℕ → Tally
 loaded w =
@@ -33,14 +33,14 @@ loaded w =
 
 -- nothing is refused, and the whole cells are counted
 pub record Live (table : List ℕ) (t : Tally) (o : Opening) (joined : List ℕ) : Type 0 where
-  pub good : openingFault o ≡ none
-  pub clear : captureFault o joined ≡ none
-  pub counts : Counts table t o.edition o.pid (wholeCells joined)
+  pub good : opening_fault o ≡ none
+  pub clear : capture_fault o joined ≡ none
+  pub counts : Counts table t o.edition o.pid (whole_cells joined)
 
 -- the table and the numbers stand for the opening o and the joined bytes: a refusal stands, the opening's or the
 -- first that the bytes show; or none does
 pub data Counting (table : List ℕ) (t : Tally) (o : Opening) (joined : List ℕ) : Type 0 where
-  stopped : openingFault o or_else captureFault o joined ≡ fault t.status t.place → 0 < t.status →
+  stopped : opening_fault o or_else capture_fault o joined ≡ fault t.status t.place → 0 < t.status →
       Counting table t o joined
   live : Live table t o joined → Counting table t o joined
 

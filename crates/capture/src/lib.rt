@@ -2,9 +2,9 @@
 // PID make units. Its state is four lent arrays: the walk's words and collected bytes, the side's own numbers, and
 // the table of units. Every call is safe on any contents of them.
 ghost use Rattle.capture_steps.specs.Contract.{Fits};
-ghost use Rattle.capture.specs.Contract.{Opened, FeedPost, SumsUp, Takes, Goes, Replies, summaryOf, totalsIn};
+ghost use Rattle.capture.specs.Contract.{Opened, FeedPost, SumsUp, Takes, Goes, Replies, summary_of, totals_in};
 ghost use Rattle.std.specs.Prelude.{◌≡◌};
-ghost use Rattle.capture.specs.State.{arraysOf};
+ghost use Rattle.capture.specs.State.{arrays_of};
 
 mod numbers;
 
@@ -60,7 +60,7 @@ pub fn open(
     edition: u64,
 )
     ensures { Opened number pid edition
-        (arraysOf walk.new kept.new numbers.new table.new) }
+        (arrays_of walk.new kept.new numbers.new table.new) }
 {
     capture_walk::open(walk, kept);
     *numbers = [0u64; NUMBERS];
@@ -141,9 +141,9 @@ pub fn feed(
     piece: &[u8],
 ) -> Answer
     ensures { FeedPost
-        (arraysOf walk.old kept.old numbers.old table.old)
+        (arrays_of walk.old kept.old numbers.old table.old)
         piece.now result
-        (arraysOf walk.new kept.new numbers.new table.new) }
+        (arrays_of walk.new kept.new numbers.new table.new) }
 {
     let w = capture_walk::load(walk);
     let t = load(numbers);
@@ -156,7 +156,7 @@ pub fn feed(
 }
 
 fn summary_of(w: Walk, t: Tally, inside: bool) -> Summary
-    ensures { result ≡ summaryOf w t inside }
+    ensures { result ≡ summary_of w t inside }
 {
     let u = t.units;
     Summary {
@@ -185,7 +185,7 @@ pub fn sum_up(walk: &WalkWords, numbers: &Numbers) -> Summary
 
 // The totals, and no word beside them.
 pub fn totals_in(numbers: &Numbers) -> Totals
-    ensures { result ≡ totalsIn numbers.now }
+    ensures { result ≡ totals_in numbers.now }
 {
     Totals {
         number: numbers[0],

@@ -3,18 +3,18 @@ use Rattle.std.proofs.Common.{◌≡◌, ℕ, zero, suc, ◌+◌, ◌-◌, ◌*�
 use mathlib.Core.Bool.{false≢true}
 use Rattle.rules.specs.Bytes.{pick, count, only}
 use Rattle.rules.specs.Refusals.{none, fault}
-use Rattle.rules.specs.Packets.{isBad, isDamaged, packetsFrom}
+use Rattle.rules.specs.Packets.{is_bad, is_damaged, packets_from}
 use Rattle.rules.specs.Units as rule
-use Rattle.rules.specs.Capture.{beginsAt}
+use Rattle.rules.specs.Capture.{begins_at}
 use Rattle.rules.proofs.Laws.Lists.{both, count-append, count-few}
 use Rattle.capture_laws.proofs.Onward.{from-split}
 use Rattle.capture_cells.specs.declared.Cell.{Cell}
-use Rattle.capture_cells.specs.Cells.{cellIn, cell_of}
-use Rattle.capture_steps.specs.Format.{cellsFrom}
+use Rattle.capture_cells.specs.Cells.{cell_in, cell_of}
+use Rattle.capture_steps.specs.Format.{cells_from}
 use Rattle.capture_steps.proofs.Lists.{cells-more, from-cells, map-append}
 use Rattle.capture_units.specs.declared.Units.{Units}
-use Rattle.capture_units.specs.Units.{is_of, seen, all_of, fromSound, beforeSound, ofPid, badIn, arrivalsAfter, arrivals}
-use Rattle.capture_units.specs.Units.{beginnings, nineIn}
+use Rattle.capture_units.specs.Units.{is_of, seen, all_of, from_sound, before_sound, of_pid, bad_in, arrivals_after, arrivals}
+use Rattle.capture_units.specs.Units.{beginnings, nine_in}
 use Rattle.capture_units.specs.State as table
 use Rattle.capture_units.specs.Contract as units
 use Rattle.capture_units.proofs.More.{begins-nine, units-none, units-some}
@@ -22,16 +22,16 @@ use Rattle.capture_units.proofs.Steps.{none_yet}
 use Rattle.capture_units.proofs.Laws.{all-few, all_append, from-append, from-none, before-some, before-none, nine-kept}
 use Rattle.capture_counts.specs.declared.Tally.{Tally}
 use Rattle.capture_counts.specs.Counts.{Counts, Counted, going, stopped, Checked, fits, full, Accounts}
-use Rattle.capture_counts.specs.Counts.{Runs, Checks, Takes, withBad, Included, as-bad, as-unit, passed_by}
+use Rattle.capture_counts.specs.Counts.{Runs, Checks, Takes, with_bad, Included, as_bad, as_unit, passed_by}
 
 -- ---- a cell more
 
-few-nine : (e pid : ℕ) (cs : List Cell) → nineIn e pid cs ≡ none → length (beginnings (ofPid e pid cs)) ≤ 750
-unfolding nineIn
-few-nine e pid cs h = go (drop 750 (beginnings (ofPid e pid cs))) (length-drop 750 (beginnings (ofPid e pid cs))) h
+few-nine : (e pid : ℕ) (cs : List Cell) → nine_in e pid cs ≡ none → length (beginnings (of_pid e pid cs)) ≤ 750
+unfolding nine_in
+few-nine e pid cs h = go (drop 750 (beginnings (of_pid e pid cs))) (length-drop 750 (beginnings (of_pid e pid cs))) h
   where
-    go : (xs : List rule.Arrival) → length xs ≡ length (beginnings (ofPid e pid cs)) - 750 → beginsAt xs ≡ none →
-        length (beginnings (ofPid e pid cs)) ≤ 750
+    go : (xs : List rule.Arrival) → length xs ≡ length (beginnings (of_pid e pid cs)) - 750 → begins_at xs ≡ none →
+        length (beginnings (of_pid e pid cs)) ≤ 750
     go [] z n = omega arith
     go (x ∷ xs) z n = let y : ◌≡◌ {A = ℕ} 0 1 = cc in absurd (omega arith)
 
@@ -46,19 +46,19 @@ all_more e pid cs c = all_append e pid cs (c ∷ []) ∙ ap (λ (x : List Cell).
 
 -- how a cell of the identifier comes: damaged before the first unit, or behind those that units are made of
 data Comes (e pid : ℕ) (cs : List Cell) (c : Cell) : Type 0 where
-  early : ofPid e pid cs ≡ [] → isDamaged (seen e c).condition ≡ true → ofPid e pid (cs ++ c ∷ []) ≡ [] →
-      beforeSound (all_of e pid (cs ++ c ∷ [])) ≡ beforeSound (all_of e pid cs) + 1 → Comes e pid cs c
-  joins : (ofPid e pid cs ≡ [] → isDamaged (seen e c).condition ≡ false) →
-      ofPid e pid (cs ++ c ∷ []) ≡ ofPid e pid cs ++ seen e c ∷ [] →
-      beforeSound (all_of e pid (cs ++ c ∷ [])) ≡ beforeSound (all_of e pid cs) → Comes e pid cs c
+  early : of_pid e pid cs ≡ [] → is_damaged (seen e c).condition ≡ true → of_pid e pid (cs ++ c ∷ []) ≡ [] →
+      before_sound (all_of e pid (cs ++ c ∷ [])) ≡ before_sound (all_of e pid cs) + 1 → Comes e pid cs c
+  joins : (of_pid e pid cs ≡ [] → is_damaged (seen e c).condition ≡ false) →
+      of_pid e pid (cs ++ c ∷ []) ≡ of_pid e pid cs ++ seen e c ∷ [] →
+      before_sound (all_of e pid (cs ++ c ∷ [])) ≡ before_sound (all_of e pid cs) → Comes e pid cs c
 
 none_left : (xs : List Cell) → Dec (xs ≡ [])
 none_left [] = yes refl
 none_left (x ∷ xs) = no (λ e. let z : ◌≡◌ {A = ℕ} 0 1 = cc in omega arith)
 
 comes : (e pid : ℕ) (cs : List Cell) (c : Cell) → is_of pid c ≡ true → Comes e pid cs c
-unfolding ofPid
-comes e pid cs c h = go (none_left (fromSound all)) (isDamaged (seen e c).condition) refl
+unfolding of_pid
+comes e pid cs c h = go (none_left (from_sound all)) (is_damaged (seen e c).condition) refl
   where
     all : List Cell
     all = all_of e pid cs
@@ -66,20 +66,20 @@ comes e pid cs c h = go (none_left (fromSound all)) (isDamaged (seen e c).condit
     more : all_of e pid (cs ++ c ∷ []) ≡ all ++ seen e c ∷ []
     more = all_more e pid cs c ∙ ap (λ (t : Bool). all ++ pick t (seen e c ∷ []) []) h
 
-    go : Dec (fromSound all ≡ []) → (d : Bool) → isDamaged (seen e c).condition ≡ d → Comes e pid cs c
+    go : Dec (from_sound all ≡ []) → (d : Bool) → is_damaged (seen e c).condition ≡ d → Comes e pid cs c
     go (yes n) true z =
         early n z
-        (ap fromSound more ∙ from-none all (seen e c) n ∙ ap (λ (t : Bool). pick t [] (seen e c ∷ [])) z)
-        (ap beforeSound more ∙ before-none all (seen e c) n ∙ ap (λ (t : Bool). beforeSound all + pick t 1 0) z)
+        (ap from_sound more ∙ from-none all (seen e c) n ∙ ap (λ (t : Bool). pick t [] (seen e c ∷ [])) z)
+        (ap before_sound more ∙ before-none all (seen e c) n ∙ ap (λ (t : Bool). before_sound all + pick t 1 0) z)
     go (yes n) false z =
         joins (λ _. z)
-        (ap fromSound more ∙ from-none all (seen e c) n ∙ ap (λ (t : Bool). pick t [] (seen e c ∷ [])) z
+        (ap from_sound more ∙ from-none all (seen e c) n ∙ ap (λ (t : Bool). pick t [] (seen e c ∷ [])) z
         ∙ ap (λ (x : List Cell). x ++ seen e c ∷ []) (sym n))
-        (ap beforeSound more ∙ before-none all (seen e c) n ∙ ap (λ (t : Bool). beforeSound all + pick t 1 0) z
+        (ap before_sound more ∙ before-none all (seen e c) n ∙ ap (λ (t : Bool). before_sound all + pick t 1 0) z
         ∙ omega arith)
     go (no n) d z =
-        joins (λ m. absurd (n m)) (ap fromSound more ∙ from-append all (seen e c ∷ []) n)
-        (ap beforeSound more ∙ before-some all (seen e c ∷ []) n)
+        joins (λ m. absurd (n m)) (ap from_sound more ∙ from-append all (seen e c ∷ []) n)
+        (ap before_sound more ∙ before-some all (seen e c ∷ []) n)
 
 -- the table is of no unit exactly if no cell has come
 none-if : {w : List ℕ} {s : Units} {ps : List Cell} → table.Stands w s ps → s.count ≡ 0 → ps ≡ []
@@ -92,31 +92,31 @@ zero-if {ps = x ∷ ps} st z = let y : ◌≡◌ {A = ℕ} 0 1 = cc in absurd (o
 
 -- bad cells
 bad_more : (e pid : ℕ) (cs : List Cell) (c : Cell) (n : ℕ) →
-    beforeSound (all_of e pid (cs ++ c ∷ [])) ≡ beforeSound (all_of e pid cs) + n →
-    badIn e pid (cs ++ c ∷ []) ≡ badIn e pid cs + pick (isBad c.condition) 1 0 + n
-unfolding badIn count
-bad_more e pid cs c n h = let a = count-append (λ (x : Cell). isBad x.condition) cs (c ∷ []) in omega arith
+    before_sound (all_of e pid (cs ++ c ∷ [])) ≡ before_sound (all_of e pid cs) + n →
+    bad_in e pid (cs ++ c ∷ []) ≡ bad_in e pid cs + pick (is_bad c.condition) 1 0 + n
+unfolding bad_in count
+bad_more e pid cs c n h = let a = count-append (λ (x : Cell). is_bad x.condition) cs (c ∷ []) in omega arith
 
-before-few : (xs : List Cell) → beforeSound xs ≤ length xs
-unfolding beforeSound
+before-few : (xs : List Cell) → before_sound xs ≤ length xs
+unfolding before_sound
 before-few [] = omega arith
-before-few (c ∷ cs) = go (isDamaged c.condition) (before-few cs)
+before-few (c ∷ cs) = go (is_damaged c.condition) (before-few cs)
   where
-    go : (t : Bool) → beforeSound cs ≤ length cs → pick t (suc (beforeSound cs)) 0 ≤ suc (length cs)
+    go : (t : Bool) → before_sound cs ≤ length cs → pick t (suc (before_sound cs)) 0 ≤ suc (length cs)
     go true h = omega arith
     go false h = omega arith
 
-bad-few : (e pid : ℕ) (cs : List Cell) → badIn e pid cs ≤ 2 * length cs
-unfolding badIn
+bad-few : (e pid : ℕ) (cs : List Cell) → bad_in e pid cs ≤ 2 * length cs
+unfolding bad_in
 bad-few e pid cs =
-    let a = count-few (λ (x : Cell). isBad x.condition) cs in
+    let a = count-few (λ (x : Cell). is_bad x.condition) cs in
     let b = before-few (all_of e pid cs) in
     let c = all-few e pid cs in
     omega arith
 
 -- one of the identifier is not bad
-not-bad : (pid : ℕ) (c : Cell) → is_of pid c ≡ true → ◌≡◌ {A = ℕ} (pick (isBad c.condition) 1 0) 0
-not-bad pid c h = go (isBad c.condition) (eqb c.identifier pid) h
+not-bad : (pid : ℕ) (c : Cell) → is_of pid c ≡ true → ◌≡◌ {A = ℕ} (pick (is_bad c.condition) 1 0) 0
+not-bad pid c h = go (is_bad c.condition) (eqb c.identifier pid) h
   where
     go : (x y : Bool) → not x && y ≡ true → ◌≡◌ {A = ℕ} (pick x 1 0) 0
     go true y z = absurd (false≢true z)
@@ -131,11 +131,11 @@ module _ (t : Tally) (c : Cell) (b : Bool) (be : b ≡ is_of t.pid c) where
     all-no : all_of e pid (cs ++ c ∷ []) ≡ all_of e pid cs
     all-no = all_more e pid cs c ∙ rw (is-of k, f) (append-nil (all_of e pid cs))
 
-    of-no : ofPid e pid (cs ++ c ∷ []) ≡ ofPid e pid cs
-    of-no = unfold ofPid in ap fromSound all-no
+    of-no : of_pid e pid (cs ++ c ∷ []) ≡ of_pid e pid cs
+    of-no = unfold of_pid in ap from_sound all-no
 
-    nine-no : nineIn e pid (cs ++ c ∷ []) ≡ none
-    nine-no = unfold nineIn in rw of-no (unfold nineIn in k.nine)
+    nine-no : nine_in e pid (cs ++ c ∷ []) ≡ none
+    nine-no = unfold nine_in in rw of-no (unfold nine_in in k.nine)
 
   pub check-other : b ≡ false → (w : List ℕ) (e pid : ℕ) (cs : List Cell) → c.place + 3 < 18446744073709551616 →
       Counts w t e pid cs → Checked t c t e pid cs
@@ -148,20 +148,20 @@ module _ (t : Tally) (c : Cell) (b : Bool) (be : b ≡ is_of t.pid c) where
 
     module _ {g : Bool} (fu : units.Full t.units d g) where
       nine-is : (w : List ℕ) (e pid : ℕ) (cs : List Cell) → Counts w t e pid cs →
-          nineIn e pid (cs ++ c ∷ []) ≡ pick g (fault 9 (c.place + 3)) none
+          nine_in e pid (cs ++ c ∷ []) ≡ pick g (fault 9 (c.place + 3)) none
       nine-is w e pid cs k = go (comes e pid cs c (is-of k ∙ f))
         where
-          told : g ≡ ltb 750 (length (beginnings (ofPid e pid cs ++ seen e c ∷ [])))
-          told = fu w (ofPid e pid cs) k.table
-              ∙ ap (λ (x : Cell). ltb 750 (length (beginnings (ofPid e pid cs ++ x ∷ [])))) (seen-is k)
+          told : g ≡ ltb 750 (length (beginnings (of_pid e pid cs ++ seen e c ∷ [])))
+          told = fu w (of_pid e pid cs) k.table
+              ∙ ap (λ (x : Cell). ltb 750 (length (beginnings (of_pid e pid cs ++ x ∷ [])))) (seen-is k)
 
-          go : Comes e pid cs c → nineIn e pid (cs ++ c ∷ []) ≡ pick g (fault 9 (c.place + 3)) none
+          go : Comes e pid cs c → nine_in e pid (cs ++ c ∷ []) ≡ pick g (fault 9 (c.place + 3)) none
           go (early n z o m) =
               let q : g ≡ false = told ∙ ap (λ (x : List Cell). ltb 750 (length (beginnings (x ++ seen e c ∷ [])))) n
-              ∙ (unfold beginnings arrivals arrivalsAfter only in refl) in
-              rw q (unfold nineIn in rw o (unfold beginnings arrivals only in refl))
-          go (joins n o m) = unfold nineIn in
-              rw o (begins-nine (ofPid e pid cs) (seen e c) (few-nine e pid cs k.nine) ∙ rw (← told))
+              ∙ (unfold beginnings arrivals arrivals_after only in refl) in
+              rw q (unfold nine_in in rw o (unfold beginnings arrivals only in refl))
+          go (joins n o m) = unfold nine_in in
+              rw o (begins-nine (of_pid e pid cs) (seen e c) (few-nine e pid cs k.nine) ∙ rw (← told))
 
       pub check-room : g ≡ false → (w : List ℕ) (e pid : ℕ) (cs : List Cell) → c.place + 3 < 18446744073709551616 →
           Counts w t e pid cs → Checked t c t e pid cs
@@ -175,15 +175,15 @@ module _ (t : Tally) (c : Cell) (b : Bool) (be : b ≡ is_of t.pid c) where
           full (record { some = omega arith; nine = rw (rs, p) (nine-is w e pid cs k ∙ rw n) })
 
     -- it is counted: as a bad cell, where it is damaged before the first unit
-    module _ {y : Bool} (ye : y ≡ eqb t.units.count 0 && isDamaged d.condition) where
-      zero-first : y ≡ true → (t.units.count ≡ 0) × (isDamaged d.condition ≡ true)
-      zero-first z = let x = both (eqb t.units.count 0) (isDamaged d.condition) (sym ye ∙ z) in
+    module _ {y : Bool} (ye : y ≡ eqb t.units.count 0 && is_damaged d.condition) where
+      zero-first : y ≡ true → (t.units.count ≡ 0) × (is_damaged d.condition ≡ true)
+      zero-first z = let x = both (eqb t.units.count 0) (is_damaged d.condition) (sym ye ∙ z) in
           (eqb-true t.units.count 0 x.0, x.1)
 
-      pub account-early : {w : List ℕ} → y ≡ true → Accounts w t c w (withBad t)
+      pub account-early : {w : List ℕ} → y ≡ true → Accounts w t c w (with_bad t)
       account-early {w} z e pid cs l n k = go (comes e pid cs c (is-of k ∙ f))
         where
-          go : Comes e pid cs c → Counts w (withBad t) e pid (cs ++ c ∷ [])
+          go : Comes e pid cs c → Counts w (with_bad t) e pid (cs ++ c ∷ [])
           go (early nothing broken o m) =
               record {
                 status = k.status;
@@ -199,7 +199,7 @@ module _ (t : Tally) (c : Cell) (b : Bool) (be : b ≡ is_of t.pid c) where
                 nine = n;
               }
           go (joins clean o m) =
-              absurd (true≢false (sym (zero-first z).1 ∙ ap (λ (x : Cell). isDamaged x.condition) (seen-is k)
+              absurd (true≢false (sym (zero-first z).1 ∙ ap (λ (x : Cell). is_damaged x.condition) (seen-is k)
               ∙ clean (none-if k.table (zero-first z).0)))
 
       pub account-wanted : {w w' : List ℕ} (r : Tally) → y ≡ false → units.Added w t.units d r.units w' →
@@ -210,9 +210,9 @@ module _ (t : Tally) (c : Cell) (b : Bool) (be : b ≡ is_of t.pid c) where
           go (early nothing broken o m) =
               let y' =
               ye
-              ∙ ap (λ (q : Bool). q && isDamaged d.condition)
+              ∙ ap (λ (q : Bool). q && is_damaged d.condition)
               (eq-eqb t.units.count 0 (zero-if k.table nothing))
-              ∙ ap (λ (x : Cell). isDamaged x.condition) (seen-is k)
+              ∙ ap (λ (x : Cell). is_damaged x.condition) (seen-is k)
               ∙ broken in
               absurd (true≢false (sym y' ∙ z))
           go (joins clean o m) =
@@ -228,19 +228,19 @@ module _ (t : Tally) (c : Cell) (b : Bool) (be : b ≡ is_of t.pid c) where
                     omega arith;
                 table =
                     let added = subst (λ (x : Cell). units.Added w t.units x r.units w') (seen-is k) ad in
-                    rw o (added (ofPid e pid cs) k.table (rw o at q));
+                    rw o (added (of_pid e pid cs) k.table (rw o at q));
                 nine = n;
               }
 
   -- one that is not of the identifier: it is bad, or nothing changes
-  module _ (f : b ≡ false) {g : Bool} (ge : g ≡ isBad c.condition) where
+  module _ (f : b ≡ false) {g : Bool} (ge : g ≡ is_bad c.condition) where
     other-bad : {w : List ℕ} {e pid : ℕ} {cs : List Cell} → Counts w t e pid cs →
-        badIn e pid (cs ++ c ∷ []) ≡ badIn e pid cs + pick g 1 0
+        bad_in e pid (cs ++ c ∷ []) ≡ bad_in e pid cs + pick g 1 0
     other-bad {e = e} {pid = pid} {cs = cs} k =
-        bad_more e pid cs c 0 (ap beforeSound (all-no f e pid cs k) ∙ omega arith)
-        ∙ ap (λ (x : Bool). badIn e pid cs + pick x 1 0 + 0) (sym ge) ∙ omega arith
+        bad_more e pid cs c 0 (ap before_sound (all-no f e pid cs k) ∙ omega arith)
+        ∙ ap (λ (x : Bool). bad_in e pid cs + pick x 1 0 + 0) (sym ge) ∙ omega arith
 
-    pub account-bad : {w : List ℕ} → g ≡ true → Accounts w t c w (withBad t)
+    pub account-bad : {w : List ℕ} → g ≡ true → Accounts w t c w (with_bad t)
     account-bad z e pid cs l n k =
         record {
           status = k.status;
@@ -273,16 +273,16 @@ module _ (t : Tally) (c : Cell) (b : Bool) (be : b ≡ is_of t.pid c) where
 -- of the identifier
 pub account-in : (t : Tally) (c : Cell) (b : Bool) → b ≡ is_of t.pid c → {d : Cell} → d ≡ seen t.edition c →
     b ≡ true → {w w' : List ℕ} {r : Tally} → Included w t d w' r → Accounts w t c w' r
-account-in t c b be de f (as-bad y z s) = rw (z, s) (account-early t c b be de f (sym y) refl)
-account-in t c b be de f {r = r} (as-unit u y ad s) =
+account-in t c b be de f (as_bad y z s) = rw (z, s) (account-early t c b be de f (sym y) refl)
+account-in t c b be de f {r = r} (as_unit u y ad s) =
     rw s (account-wanted t c b be de f (sym y) _ refl ad refl refl refl refl)
 
 -- not of it
 pub account-out : (t : Tally) (c : Cell) (b : Bool) → b ≡ is_of t.pid c → b ≡ false → {w : List ℕ} →
     Accounts w t c w (passed_by t c)
-account-out t c b be f {w} = go (isBad c.condition) refl
+account-out t c b be f {w} = go (is_bad c.condition) refl
   where
-    go : (g : Bool) → g ≡ isBad c.condition → Accounts w t c w (pick g (withBad t) t)
+    go : (g : Bool) → g ≡ is_bad c.condition → Accounts w t c w (pick g (with_bad t) t)
     go true z = account-bad t c b be f z refl
     go false z = account-same t c b be f z refl
 
@@ -318,24 +318,24 @@ counts-none w pid edition h =
       status = refl;
       own = refl;
       edition = refl;
-      bad = unfold badIn count all_of only beforeSound in refl;
-      table = unfold ofPid all_of only fromSound in none_yet w h;
-      nine = unfold nineIn ofPid all_of only fromSound beginnings arrivals in refl;
+      bad = unfold bad_in count all_of only before_sound in refl;
+      table = unfold of_pid all_of only from_sound in none_yet w h;
+      nine = unfold nine_in of_pid all_of only from_sound beginnings arrivals in refl;
     }
 
 -- ---- a run
 
-length-cells : (n time place : ℕ) (s : List ℕ) → length (cellsFrom n time place s) ≡ n
-unfolding cellsFrom
+length-cells : (n time place : ℕ) (s : List ℕ) → length (cells_from n time place s) ≡ n
+unfolding cells_from
 length-cells zero time place s = refl
 length-cells (suc n) time place s = ap suc (length-cells n time (place + 188) (drop 188 s))
 
-cells-split : (a b time place : ℕ) (s : List ℕ) → cellsFrom (a + b) time place s ≡ cellsFrom a time place s
-    ++ cellsFrom b time (place + 188 * a) (drop (188 * a) s)
+cells-split : (a b time place : ℕ) (s : List ℕ) → cells_from (a + b) time place s ≡ cells_from a time place s
+    ++ cells_from b time (place + 188 * a) (drop (188 * a) s)
 cells-split a b time place s =
     sym (from-cells (a + b) time place s)
     ∙ ap (map cell_of) (from-split a b time place s)
-    ∙ map-append cell_of (packetsFrom a time place s) (packetsFrom b time (place + 188 * a) (drop (188 * a) s))
+    ∙ map-append cell_of (packets_from a time place s) (packets_from b time (place + 188 * a) (drop (188 * a) s))
     ∙ rw (from-cells a time place s, from-cells b time (place + 188 * a) (drop (188 * a) s))
 
 -- the first k cells are in
@@ -343,32 +343,32 @@ pub record Going (w : List ℕ) (t : Tally) (ds : List Cell) (w' : List ℕ) (r 
   pub goes : (e pid : ℕ) (cs : List Cell) → length cs + length ds < 4294967296 → Counts w t e pid cs →
       Counts w' r e pid (cs ++ ds)
 
-pub going-none : (w : List ℕ) (t : Tally) (time place : ℕ) (s : List ℕ) → Going w t (cellsFrom 0 time place s) w t
-going-none w t time place s = record { goes = λ e pid cs l k. unfold cellsFrom in rw (append-nil cs) k }
+pub going-none : (w : List ℕ) (t : Tally) (time place : ℕ) (s : List ℕ) → Going w t (cells_from 0 time place s) w t
+going-none w t time place s = record { goes = λ e pid cs l k. unfold cells_from in rw (append-nil cs) k }
 
 pub going-all : {w w' : List ℕ} {t r : Tally} (k n time place : ℕ) (s : List ℕ) → k ≡ n →
-    Going w t (cellsFrom k time place s) w' r → Runs w t (cellsFrom n time place s) w' r
+    Going w t (cells_from k time place s) w' r → Runs w t (cells_from n time place s) w' r
 going-all k n time place s y g e pid cs l c = going (rw y at (g.goes e pid cs (rw y l) c))
 
 module _ {w w' w'' : List ℕ} {t d r : Tally} (k time place₀ at₀ : ℕ) (piece : List ℕ) (at place : ℕ) (c : Cell)
-    (g : Going w t (cellsFrom k time place₀ (drop at₀ piece)) w' d) (ae : at ≡ at₀ + 188 * k)
-    (pe : place ≡ place₀ + 188 * k) (small : place ≤ 268435456) (ce : c ≡ cellIn time place (drop at piece))
+    (g : Going w t (cells_from k time place₀ (drop at₀ piece)) w' d) (ae : at ≡ at₀ + 188 * k)
+    (pe : place ≡ place₀ + 188 * k) (small : place ≤ 268435456) (ce : c ≡ cell_in time place (drop at piece))
     (ta : Takes w' d c w'' r) where
   abbrev ds : List Cell
-  ds = cellsFrom k time place₀ (drop at₀ piece)
+  ds = cells_from k time place₀ (drop at₀ piece)
 
   here : c.place + 3 < 18446744073709551616
-  here = let p : c.place ≡ place = rw ce (unfold cellIn in refl) in omega arith
+  here = let p : c.place ≡ place = rw ce (unfold cell_in in refl) in omega arith
 
-  one_more : cellsFrom (k + 1) time place₀ (drop at₀ piece) ≡ ds ++ c ∷ []
+  one_more : cells_from (k + 1) time place₀ (drop at₀ piece) ≡ ds ++ c ∷ []
   one_more =
-      let e : c ≡ cellIn time (place₀ + 188 * k) (drop (188 * k) (drop at₀ piece)) =
+      let e : c ≡ cell_in time (place₀ + 188 * k) (drop (188 * k) (drop at₀ piece)) =
       ce ∙ rw (pe, ae, drop-drop (188 * k) at₀ piece) in
       cells-more k time place₀ (drop at₀ piece) ∙ rw (← e)
 
   -- one cell more is in, or shows 9
   more : (n : ℕ) → k < n → (e pid : ℕ) (cs : List Cell) →
-      length cs + length (cellsFrom n time place₀ (drop at₀ piece)) < 4294967296 → Counts w t e pid cs →
+      length cs + length (cells_from n time place₀ (drop at₀ piece)) < 4294967296 → Counts w t e pid cs →
       Counted w'' r e pid (cs ++ ds ++ c ∷ [])
   more n h e pid cs l q =
       let a = length-cells n time place₀ (drop at₀ piece) in
@@ -377,24 +377,24 @@ module _ {w w' w'' : List ℕ} {t d r : Tally} (k time place₀ at₀ : ℕ) (pi
       ta e pid (cs ++ ds) here (omega arith) (g.goes e pid cs (omega arith) q)
 
   -- a cell that shows 9 ends it
-  pub going-stops : (n : ℕ) → k < n → (r.status ≡ 0 → ⊥) → Runs w t (cellsFrom n time place₀ (drop at₀ piece)) w'' r
+  pub going-stops : (n : ℕ) → k < n → (r.status ≡ 0 → ⊥) → Runs w t (cells_from n time place₀ (drop at₀ piece)) w'' r
   going-stops n h z e pid cs l q = go (more n h e pid cs l q)
     where
       rest : List Cell
-      rest = cellsFrom (n - (k + 1)) time (place₀ + 188 * (k + 1)) (drop (188 * (k + 1)) (drop at₀ piece))
+      rest = cells_from (n - (k + 1)) time (place₀ + 188 * (k + 1)) (drop (188 * (k + 1)) (drop at₀ piece))
 
-      all : cellsFrom n time place₀ (drop at₀ piece) ≡ ds ++ c ∷ [] ++ rest
+      all : cells_from n time place₀ (drop at₀ piece) ≡ ds ++ c ∷ [] ++ rest
       all =
           let y : n ≡ k + 1 + (n - (k + 1)) = omega arith in
-          ap (λ (x : ℕ). cellsFrom x time place₀ (drop at₀ piece)) y
+          ap (λ (x : ℕ). cells_from x time place₀ (drop at₀ piece)) y
           ∙ cells-split (k + 1) (n - (k + 1)) time place₀ (drop at₀ piece)
           ∙ ap (λ (x : List Cell). x ++ rest) one_more
 
       go : Counted w'' r e pid (cs ++ ds ++ c ∷ []) →
-          Counted w'' r e pid (cs ++ cellsFrom n time place₀ (drop at₀ piece))
+          Counted w'' r e pid (cs ++ cells_from n time place₀ (drop at₀ piece))
       go (going x) = absurd (z x.status)
       go (stopped s) =
-          let y : cs ++ cellsFrom n time place₀ (drop at₀ piece) ≡ cs ++ ds ++ c ∷ [] ++ rest =
+          let y : cs ++ cells_from n time place₀ (drop at₀ piece) ≡ cs ++ ds ++ c ∷ [] ++ rest =
           ap (λ (x : List Cell). cs ++ x) all ∙ simp append_assoc in
           stopped (record {
             some = s.some;
@@ -402,10 +402,10 @@ module _ {w w' w'' : List ℕ} {t d r : Tally} (k time place₀ at₀ : ℕ) (pi
           })
 
   -- one that does not is counted
-  pub going_more : r.status ≡ 0 → Going w t (cellsFrom (k + 1) time place₀ (drop at₀ piece)) w'' r
+  pub going_more : r.status ≡ 0 → Going w t (cells_from (k + 1) time place₀ (drop at₀ piece)) w'' r
   going_more z = record { goes = λ e pid cs l q. go e pid cs (more (k + 1) (omega arith) e pid cs l q) }
     where
       go : (e pid : ℕ) (cs : List Cell) → Counted w'' r e pid (cs ++ ds ++ c ∷ []) →
-          Counts w'' r e pid (cs ++ cellsFrom (k + 1) time place₀ (drop at₀ piece))
+          Counts w'' r e pid (cs ++ cells_from (k + 1) time place₀ (drop at₀ piece))
       go e pid cs (going x) = rw (one_more, ← append_assoc cs ds (c ∷ [])) x
       go e pid cs (stopped s) = let y = s.some in absurd (omega arith)

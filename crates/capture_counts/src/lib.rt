@@ -1,11 +1,11 @@
 // Counts of one identifier, cell by cell: the table of units, bad cells, and refusal 9. The edition decides how a cell
 // is seen.
 ghost use Rattle.std.specs.Prelude.{◌≡◌, ◌+◌, ◌*◌, ◌≤◌, ◌&&◌, length, ◌==◌};
-ghost use Rattle.rules.specs.Packets.{isDamaged};
-ghost use Rattle.capture_units.specs.Units.{asKnown, is_of, seen as seenBy};
+ghost use Rattle.rules.specs.Packets.{is_damaged};
+ghost use Rattle.capture_units.specs.Units.{as_known, is_of, seen as seen_by};
 ghost use Rattle.capture_steps.specs.Contract.{cells_of};
 ghost use Rattle.capture_counts.specs.Counts.{Checks, Accounts, Takes, Runs};
-ghost use Rattle.capture_counts.specs.Counts.{withBad, withNine, Included, passed_by};
+ghost use Rattle.capture_counts.specs.Counts.{with_bad, with_nine, Included, passed_by};
 
 use capture_cells::{Cell, is_bad, is_damaged};
 use capture_steps::Run;
@@ -37,7 +37,7 @@ fn wanted(c: Cell, pid: u64) -> bool
 
 // A condition where damage is known, or is not: then a damaged cell is taken as a good one is.
 fn as_known(known: bool, k: Condition) -> Condition
-    ensures { result ≡ asKnown known k }
+    ensures { result ≡ as_known known k }
 {
     if known {
         return k;
@@ -51,7 +51,7 @@ fn as_known(known: bool, k: Condition) -> Condition
 
 // A cell as the edition sees it: its damage counts only where it is known, its splice mark only where it is heeded.
 fn seen(c: Cell, edition: u64) -> Cell
-    ensures { result ≡ seenBy edition c }
+    ensures { result ≡ seen_by edition c }
 {
     let k = c.condition;
     let condition = as_known(figures::knows_damage(edition), k);
@@ -69,7 +69,7 @@ fn seen(c: Cell, edition: u64) -> Cell
 
 // Whether a cell of the identifier is damaged before the first unit.
 fn is_early(s: Units, c: Cell) -> bool
-    ensures { result ≡ (s.count == 0) && isDamaged c.condition }
+    ensures { result ≡ (s.count == 0) && is_damaged c.condition }
 {
     if s.count == 0 {
         let k = c.condition;
@@ -80,7 +80,7 @@ fn is_early(s: Units, c: Cell) -> bool
 
 // One bad cell more.
 fn with_bad(t: Tally) -> Tally
-    ensures { result ≡ withBad t }
+    ensures { result ≡ with_bad t }
 {
     let mut r = t;
     r.bad = std::num::wrapping_add_u64(t.bad, 1);
@@ -89,7 +89,7 @@ fn with_bad(t: Tally) -> Tally
 
 // Refusal 9, at byte 3 of the cell that starts at `place`.
 fn nine(t: Tally, place: u64) -> Tally
-    ensures { result ≡ withNine t place }
+    ensures { result ≡ with_nine t place }
 {
     let mut r = t;
     r.status = 9;

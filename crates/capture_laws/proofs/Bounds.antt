@@ -9,16 +9,16 @@ use lib.ListN.{length, take, drop, length-append, length-take, length-drop}
 use lib.Dec.{leb, eqb}
 use borrow.Author.Tests.{le-leb, lt-leb}
 use Rattle.rules.specs.declared.Opening.{Opening}
-use Rattle.rules.specs.Bytes.{pick, count, only, endToEnd, All, and, empty}
-use Rattle.rules.specs.Frames.{frameTime, behindHeader, frames, rest}
-use Rattle.rules.specs.Editions.{knowsDamage}
-use Rattle.rules.specs.Packets.{Packet, carries, packetsFrom, packetsOf, packets, skipped, condition, isBad}
-use Rattle.rules.specs.Packets.{identifier, isWanted, wantedOf, badOf}
-use Rattle.rules.specs.Units.{setApart, beforeUnits}
-use Rattle.rules.specs.Capture.{wholeFrames, unfinished, allFrames, wholeWanted, frameCount, skippedCount}
-use Rattle.rules.specs.Capture.{badCount}
+use Rattle.rules.specs.Bytes.{pick, count, only, end_to_end, All, and, empty}
+use Rattle.rules.specs.Frames.{frame_time, behind_header, frames, rest}
+use Rattle.rules.specs.Editions.{knows_damage}
+use Rattle.rules.specs.Packets.{Packet, carries, packets_from, packets_of, packets, skipped, condition, is_bad}
+use Rattle.rules.specs.Packets.{identifier, is_wanted, wanted_of, bad_of}
+use Rattle.rules.specs.Units.{set_apart, before_units}
+use Rattle.rules.specs.Capture.{whole_frames, unfinished, all_frames, whole_wanted, frame_count, skipped_count}
+use Rattle.rules.specs.Capture.{bad_count}
 use Rattle.capture_laws.specs.UnderWay.{count_of}
-use Rattle.rules.proofs.Laws.Lists.{count-few, only-append, endToEnd-append, by-test}
+use Rattle.rules.proofs.Laws.Lists.{count-few, only-append, end_to_end-append, by-test}
 use Rattle.capture_laws.proofs.Frames.{size-least, frames-all}
 use Rattle.capture_laws.proofs.Onward.{Whole, frames-whole, of-from, reaching}
 use Rattle.capture_laws.proofs.Flow.{reached, bad-of, wanted-of}
@@ -34,41 +34,41 @@ module _ {A : Type 0} (test : A → Bool) where
 
 -- ---- frames
 
-frames-few : {fs : List (List ℕ)} → All Whole fs → length fs ≤ length (endToEnd fs)
-unfolding endToEnd
+frames-few : {fs : List (List ℕ)} → All Whole fs → length fs ≤ length (end_to_end fs)
+unfolding end_to_end
 frames-few empty = omega arith
 frames-few (and {x} {xs} w ws) =
     let h = frames-few ws in
-    let l = length-append x (endToEnd xs) in
+    let l = length-append x (end_to_end xs) in
     let k = size-least x in
     omega arith
 
 -- the whole frames' bytes and the others are at most all
-all-bytes : (s : List ℕ) → length (endToEnd (wholeFrames s)) + length (unfinished s) ≤ length s
-unfolding wholeFrames unfinished behindHeader
+all-bytes : (s : List ℕ) → length (end_to_end (whole_frames s)) + length (unfinished s) ≤ length s
+unfolding whole_frames unfinished behind_header
 all-bytes s =
     let e = ap length (frames-all (drop 24 s)) in
-    let l = length-append (endToEnd (frames (drop 24 s))) (rest (drop 24 s)) in
+    let l = length-append (end_to_end (frames (drop 24 s))) (rest (drop 24 s)) in
     let d = length-drop 24 s in
     omega arith
 
-pub frame-count-few : (s : List ℕ) → frameCount s ≤ length s
-unfolding frameCount
+pub frame-count-few : (s : List ℕ) → frame_count s ≤ length s
+unfolding frame_count
 frame-count-few s = let h = frames-few (frames-whole s) in let a = all-bytes s in omega arith
 
-pub skipped-few : (s : List ℕ) → skippedCount s ≤ frameCount s
-unfolding skippedCount frameCount skipped
-skipped-few s = count-few (λ (f : List ℕ). not (carries f)) (wholeFrames s)
+pub skipped-few : (s : List ℕ) → skipped_count s ≤ frame_count s
+unfolding skipped_count frame_count skipped
+skipped-few s = count-few (λ (f : List ℕ). not (carries f)) (whole_frames s)
 
 -- ---- packets
 
-from-few : (m τ q : ℕ) (y : List ℕ) → 188 * length (reaching 188 (packetsFrom m τ q y)) ≤ length y
-unfolding packetsFrom only
+from-few : (m τ q : ℕ) (y : List ℕ) → 188 * length (reaching 188 (packets_from m τ q y)) ≤ length y
+unfolding packets_from only
 from-few zero τ q y = omega arith
 from-few (suc m) τ q y = go (dec_le 188 (length y)) (from-few m τ (q + 188) (drop 188 y))
   where
     more : List Packet
-    more = reaching 188 (packetsFrom m τ (q + 188) (drop 188 y))
+    more = reaching 188 (packets_from m τ (q + 188) (drop 188 y))
 
     go : Dec (188 ≤ length y) → 188 * length more ≤ length (drop 188 y) →
         188 * length (pick (leb 188 (length (take 188 y)))
@@ -80,69 +80,69 @@ from-few (suc m) τ q y = go (dec_le 188 (length y)) (from-few m τ (q + 188) (d
         rw (lt-leb 188 (length (take 188 y)) (simp length-take (omega arith)))
         (let d = length-drop 188 y in omega arith)
 
-of-few : (place : ℕ) (f : List ℕ) → 188 * length (reaching 188 (packetsOf place f)) ≤ length f
+of-few : (place : ℕ) (f : List ℕ) → 188 * length (reaching 188 (packets_of place f)) ≤ length f
 of-few place f =
-    rw (of-from place f) (let h = from-few (count_of f) (frameTime f) (place + 58) (drop 58 f) in
+    rw (of-from place f) (let h = from-few (count_of f) (frame_time f) (place + 58) (drop 58 f) in
     let d = length-drop 58 f in omega arith)
 
-packets-few : (place : ℕ) (fs : List (List ℕ)) → 188 * length (reaching 188 (packets place fs)) ≤ length (endToEnd fs)
-unfolding packets endToEnd
+packets-few : (place : ℕ) (fs : List (List ℕ)) → 188 * length (reaching 188 (packets place fs)) ≤ length (end_to_end fs)
+unfolding packets end_to_end
 packets-few place [] = unfold only in omega arith
 packets-few place (f ∷ fs) =
     let e =
-    only-append (λ (p : Packet). leb 188 (length p.bytes)) (packetsOf place f) (packets (place + length f) fs) in
+    only-append (λ (p : Packet). leb 188 (length p.bytes)) (packets_of place f) (packets (place + length f) fs) in
     rw e
-    (let l = length-append (reaching 188 (packetsOf place f)) (reaching 188 (packets (place + length f) fs)) in
+    (let l = length-append (reaching 188 (packets_of place f)) (reaching 188 (packets (place + length f) fs)) in
     let a = of-few place f in
     let b = packets-few (place + length f) fs in
-    let j = length-append f (endToEnd fs) in
+    let j = length-append f (end_to_end fs) in
     omega arith)
 
 pub reached-few : (s : List ℕ) → 188 * length (reached 188 s) ≤ length s
-unfolding allFrames
+unfolding all_frames
 reached-few s =
-    let h = packets-few 24 (wholeFrames s ++ unfinished s ∷ []) in
-    let j = ap length (endToEnd-append (wholeFrames s) (unfinished s ∷ [])) in
-    let l = length-append (endToEnd (wholeFrames s)) (endToEnd (unfinished s ∷ [])) in
+    let h = packets-few 24 (whole_frames s ++ unfinished s ∷ []) in
+    let j = ap length (end_to_end-append (whole_frames s) (unfinished s ∷ [])) in
+    let l = length-append (end_to_end (whole_frames s)) (end_to_end (unfinished s ∷ [])) in
     let a = all-bytes s in
-    let e : length (endToEnd (unfinished s ∷ [])) ≡ length (unfinished s) =
-    unfold endToEnd in length-append (unfinished s) [] ∙ omega arith in
+    let e : length (end_to_end (unfinished s ∷ [])) ≡ length (unfinished s) =
+    unfold end_to_end in length-append (unfinished s) [] ∙ omega arith in
     omega arith
 
 -- no packet is bad and of PID
-bad-or-wanted : (o : Opening) (ps : List Packet) → badOf ps + length (wantedOf o ps) ≤ length ps
-unfolding badOf count wantedOf only isWanted
+bad-or-wanted : (o : Opening) (ps : List Packet) → bad_of ps + length (wanted_of o ps) ≤ length ps
+unfolding bad_of count wanted_of only is_wanted
 bad-or-wanted o [] = omega arith
 bad-or-wanted o (p ∷ ps) =
-    go (isBad (condition p.bytes)) (eqb (identifier p.bytes) o.pid) (bad-or-wanted o ps)
+    go (is_bad (condition p.bytes)) (eqb (identifier p.bytes) o.pid) (bad-or-wanted o ps)
   where
-    go : (b i : Bool) → badOf ps + length (wantedOf o ps) ≤ length ps →
-        pick b 1 0 + badOf ps + length (pick (not b && i) (p ∷ wantedOf o ps) (wantedOf o ps)) ≤ suc (length ps)
+    go : (b i : Bool) → bad_of ps + length (wanted_of o ps) ≤ length ps →
+        pick b 1 0 + bad_of ps + length (pick (not b && i) (p ∷ wanted_of o ps) (wanted_of o ps)) ≤ suc (length ps)
     go true i h = omega arith
     go false true h = omega arith
     go false false h = omega arith
 
-before-few : (known : Bool) (ps : List Packet) → beforeUnits known ps ≤ length ps
-unfolding beforeUnits
+before-few : (known : Bool) (ps : List Packet) → before_units known ps ≤ length ps
+unfolding before_units
 before-few known [] = omega arith
-before-few known (p ∷ ps) = go (setApart known p) (before-few known ps)
+before-few known (p ∷ ps) = go (set_apart known p) (before-few known ps)
   where
-    go : (t : Bool) → beforeUnits known ps ≤ length ps → pick t (suc (beforeUnits known ps)) 0 ≤ suc (length ps)
+    go : (t : Bool) → before_units known ps ≤ length ps → pick t (suc (before_units known ps)) 0 ≤ suc (length ps)
     go true h = omega arith
     go false h = omega arith
 
-pub bad-few : (o : Opening) (s : List ℕ) → 188 * badCount o s ≤ length s
+pub bad-few : (o : Opening) (s : List ℕ) → 188 * bad_count o s ≤ length s
 bad-few o s =
     rw (bad-of o s)
     (let h = bad-or-wanted o (reached 188 s) in
-    let b = before-few (knowsDamage o.edition) (wantedOf o (reached 188 s)) in
+    let b = before-few (knows_damage o.edition) (wanted_of o (reached 188 s)) in
     let r = reached-few s in
     omega arith)
 
-pub wanted-few : (o : Opening) (s : List ℕ) → 188 * length (wholeWanted o s) ≤ length s
+pub wanted-few : (o : Opening) (s : List ℕ) → 188 * length (whole_wanted o s) ≤ length s
 wanted-few o s =
     rw (wanted-of o s)
-    (let h : length (wantedOf o (reached 188 s)) ≤ length (reached 188 s) = unfold wantedOf in
-    only-few (λ (p : Packet). isWanted o p.bytes) (reached 188 s) in
+    (let h : length (wanted_of o (reached 188 s)) ≤ length (reached 188 s) = unfold wanted_of in
+    only-few (λ (p : Packet). is_wanted o p.bytes) (reached 188 s) in
     let r = reached-few s in
     omega arith)

@@ -14,21 +14,21 @@ use borrow.Author.Tests.{le-leb, lt-leb, lt-ltb, le-ltb}
 use Rattle.rules.proofs.Laws.Lists.{by-test}
 use Rattle.rules.specs.Bytes.{pick, byte, word32}
 use Rattle.rules.specs.Refusals.{Fault, none, fault}
-use Rattle.rules.specs.Frames.{microseconds, storedLength, frameSize, frames, rest, behindHeader}
-use Rattle.rules.specs.Capture.{wholeFrames, unfinished, allFrames, earlier, showing, tooLong, wrongMagic}
-use Rattle.rules.specs.Capture.{wrongLink, wrongFrameHeader, wrongFrame, formatFault}
+use Rattle.rules.specs.Frames.{microseconds, stored_length, frame_size, frames, rest, behind_header}
+use Rattle.rules.specs.Capture.{whole_frames, unfinished, all_frames, earlier, showing, too_long, wrong_magic}
+use Rattle.rules.specs.Capture.{wrong_link, wrong_frame_header, wrong_frame, format_fault}
 use Rattle.capture_laws.proofs.Frames.{size-least, size-append, frames-none, rest-none, frames-one, rest-one}
 use Rattle.capture_laws.proofs.Frames.{frames-onward, rest-onward, by_frames}
 
 -- ---- refusals below a place and refusals from it on
 
 pub data Below (n : ℕ) : Fault → Type 0 where
-  no-fault : Below n none
-  at-fault : {k p : ℕ} → p < n → Below n (fault k p)
+  no_fault : Below n none
+  at_fault : {k p : ℕ} → p < n → Below n (fault k p)
 
 pub data Late (n : ℕ) : Fault → Type 0 where
-  late-none : Late n none
-  late-fault : {k p : ℕ} → n ≤ p → Late n (fault k p)
+  late_none : Late n none
+  late_fault : {k p : ℕ} → n ≤ p → Late n (fault k p)
 
 -- what n bytes show, and what more bytes show
 pub data Grows (n : ℕ) : Fault → Fault → Type 0 where
@@ -40,33 +40,33 @@ grows-kept (same b) e = e
 grows-kept (new l) e = let z : ◌≡◌ {A = ℕ} 0 1 = cc in absurd (omega arith)
 
 earlier-below : {n : ℕ} {f g : Fault} → Below n f → Below n g → Below n (earlier f g)
-earlier-below {n} no-fault b = b
-earlier-below {n} (at-fault h) no-fault = at-fault h
-earlier-below {n} (at-fault {k} {p} h) (at-fault {k = l} {p = q} g) = go (leb p q)
+earlier-below {n} no_fault b = b
+earlier-below {n} (at_fault h) no_fault = at_fault h
+earlier-below {n} (at_fault {k} {p} h) (at_fault {k = l} {p = q} g) = go (leb p q)
   where
     go : (t : Bool) → Below n (pick t (fault k p) (fault l q))
-    go true = at-fault h
-    go false = at-fault g
+    go true = at_fault h
+    go false = at_fault g
 
 earlier-late : {n : ℕ} {f g : Fault} → Late n f → Late n g → Late n (earlier f g)
-earlier-late {n} late-none b = b
-earlier-late {n} (late-fault h) late-none = late-fault h
-earlier-late {n} (late-fault {k} {p} h) (late-fault {k = l} {p = q} g) = go (leb p q)
+earlier-late {n} late_none b = b
+earlier-late {n} (late_fault h) late_none = late_fault h
+earlier-late {n} (late_fault {k} {p} h) (late_fault {k = l} {p = q} g) = go (leb p q)
   where
     go : (t : Bool) → Late n (pick t (fault k p) (fault l q))
-    go true = late-fault h
-    go false = late-fault g
+    go true = late_fault h
+    go false = late_fault g
 
 pub earlier-grows : {n : ℕ} {f f' g g' : Fault} → Grows n f f' → Grows n g g' → Grows n (earlier f g) (earlier f' g')
 earlier-grows (same b) (same c) = same (earlier-below b c)
-earlier-grows (same no-fault) (new l) = new l
-earlier-grows (same (at-fault h)) (new late-none) = same (at-fault h)
-earlier-grows (same (at-fault {p = p} h)) (new (late-fault {p = q} g)) =
-    rw (le-leb p q (omega arith)) (same (at-fault h))
-earlier-grows (new late-none) (same b) = same b
-earlier-grows (new (late-fault h)) (same no-fault) = new (late-fault h)
-earlier-grows (new (late-fault {p = p} h)) (same (at-fault {p = q} g)) =
-    rw (lt-leb p q (omega arith)) (same (at-fault g))
+earlier-grows (same no_fault) (new l) = new l
+earlier-grows (same (at_fault h)) (new late_none) = same (at_fault h)
+earlier-grows (same (at_fault {p = p} h)) (new (late_fault {p = q} g)) =
+    rw (le-leb p q (omega arith)) (same (at_fault h))
+earlier-grows (new late_none) (same b) = same b
+earlier-grows (new (late_fault h)) (same no_fault) = new (late_fault h)
+earlier-grows (new (late_fault {p = p} h)) (same (at_fault {p = q} g)) =
+    rw (lt-leb p q (omega arith)) (same (at_fault g))
 earlier-grows (new l) (new m) = new (earlier-late l m)
 
 -- ---- one field
@@ -75,8 +75,8 @@ module _ (n n' k place : ℕ) (w w' : Bool) where
   pub showing-late : n ≤ place → Late n (showing n' k place w')
   unfolding showing
   showing-late h =
-      by-test (λ (t : Bool). Late n (pick t (fault k place) none)) (ltb place n' && w') (λ e. late-fault h)
-      (λ e. late-none)
+      by-test (λ (t : Bool). Late n (pick t (fault k place) none)) (ltb place n' && w') (λ e. late_fault h)
+      (λ e. late_none)
 
   pub showing-none : n ≤ place → showing n k place w ≡ none
   unfolding showing
@@ -87,8 +87,8 @@ module _ (n n' k place : ℕ) (w w' : Bool) where
   showing-grows h e = go (dec_le n place)
     where
       there : (t : Bool) → place < n → Grows n (pick t (fault k place) none) (pick t (fault k place) none)
-      there true g = same (at-fault g)
-      there false g = same no-fault
+      there true g = same (at_fault g)
+      there false g = same no_fault
 
       go : Dec (n ≤ place) → Grows n (showing n k place w) (showing n' k place w')
       go (yes g) = rw (showing-none g) (new (showing-late g))
@@ -105,18 +105,18 @@ module _ (s t : List ℕ) where
   at_old : (i : ℕ) → i < length s → byte (s ++ t) i ≡ byte s i
   at_old i h = get_or-append s t 0 i h
 
-  pub long-grows : Grows (length s) (tooLong s) (tooLong (s ++ t))
-  unfolding tooLong
+  pub long-grows : Grows (length s) (too_long s) (too_long (s ++ t))
+  unfolding too_long
   long-grows = showing-grows (length s) (length (s ++ t)) 4 268435456 true true grown (λ h. refl)
 
-  pub magic-grows : Grows (length s) (wrongMagic s) (wrongMagic (s ++ t))
-  unfolding wrongMagic
+  pub magic-grows : Grows (length s) (wrong_magic s) (wrong_magic (s ++ t))
+  unfolding wrong_magic
   magic-grows =
       showing-grows (length s) (length (s ++ t)) 5 3 _ _ grown
       (λ h. rw (at_old 0 (omega arith), at_old 1 (omega arith), at_old 2 (omega arith), at_old 3 (omega arith)))
 
-  pub link-grows : Grows (length s) (wrongLink s) (wrongLink (s ++ t))
-  unfolding wrongLink word32
+  pub link-grows : Grows (length s) (wrong_link s) (wrong_link (s ++ t))
+  unfolding wrong_link word32
   link-grows =
       showing-grows (length s) (length (s ++ t)) 6 23 _ _ grown
       (λ h. rw (at_old 20 (omega arith), at_old 21 (omega arith), at_old 22 (omega arith), at_old 23 (omega arith)))
@@ -128,20 +128,20 @@ abbrev pub Agrees : ℕ → ℕ → List ℕ → List ℕ → Type 0
 Agrees n place x f = (i : ℕ) → i < 16 → place + i < n → byte f i ≡ byte x i
 
 module _ (n n' : ℕ) (h : n ≤ n') where
-  header-late : (place : ℕ) (f : List ℕ) → n ≤ place → Late n (wrongFrameHeader n' place f)
-  unfolding wrongFrameHeader
+  header-late : (place : ℕ) (f : List ℕ) → n ≤ place → Late n (wrong_frame_header n' place f)
+  unfolding wrong_frame_header
   header-late place f g =
       earlier-late (showing-late n n' 7 (place + 7) true _ (omega arith))
       (showing-late n n' 8 (place + 11) true _ (omega arith))
 
-  frame-late : (place : ℕ) (fs : List (List ℕ)) → n ≤ place → Late n (wrongFrame n' place fs)
-  unfolding wrongFrame
-  frame-late place [] g = late-none
+  frame-late : (place : ℕ) (fs : List (List ℕ)) → n ≤ place → Late n (wrong_frame n' place fs)
+  unfolding wrong_frame
+  frame-late place [] g = late_none
   frame-late place (f ∷ fs) g = earlier-late (header-late place f g) (frame-late (place + length f) fs (omega arith))
 
   header-grows : (place : ℕ) (x f : List ℕ) → Agrees n place x f →
-      Grows n (wrongFrameHeader n place x) (wrongFrameHeader n' place f)
-  unfolding wrongFrameHeader microseconds storedLength word32
+      Grows n (wrong_frame_header n place x) (wrong_frame_header n' place f)
+  unfolding wrong_frame_header microseconds stored_length word32
   header-grows place x f a =
       earlier-grows
       (showing-grows n n' 7 (place + 7) _ _ h
@@ -168,7 +168,7 @@ module _ (n place : ℕ) (x t : List ℕ) (e : n ≡ place + length x) where
   agrees-cut m h i g k = get_or-take m (x ++ t) i 0 (omega arith) ∙ get_or-append x t 0 i (omega arith)
 
 -- a frame that is not whole is shorter than the frame that it becomes
-cut_short : (x t : List ℕ) → length x < frameSize x → length x ≤ frameSize (x ++ t)
+cut_short : (x t : List ℕ) → length x < frame_size x → length x ≤ frame_size (x ++ t)
 cut_short x t h = elim (dec_le 16 (length x)) [
   | yes g ↦ let e = size-append x t g in omega arith
   | no g ↦ let e = size-least (x ++ t) in omega arith
@@ -179,54 +179,54 @@ abbrev pieces : List ℕ → List (List ℕ)
 pieces x = frames x ++ rest x ∷ []
 
 module _ (n n' : ℕ) (t : List ℕ) (h : n ≤ n') where
-  cut-grows : (x : List ℕ) → length x < frameSize x → (place : ℕ) → n ≡ place + length x →
-      Dec (frameSize (x ++ t) ≤ length (x ++ t)) →
-      Grows n (wrongFrame n place (pieces x)) (wrongFrame n' place (pieces (x ++ t)))
-  unfolding wrongFrame
+  cut-grows : (x : List ℕ) → length x < frame_size x → (place : ℕ) → n ≡ place + length x →
+      Dec (frame_size (x ++ t) ≤ length (x ++ t)) →
+      Grows n (wrong_frame n place (pieces x)) (wrong_frame n' place (pieces (x ++ t)))
+  unfolding wrong_frame
   cut-grows x c place e (yes g) =
       rw (frames-none x c, rest-none x c, frames-one (x ++ t) g)
       (earlier-grows
-      (header-grows n n' h place x (take (frameSize (x ++ t)) (x ++ t))
-      (agrees-cut n place x t e (frameSize (x ++ t)) (size-least (x ++ t))))
+      (header-grows n n' h place x (take (frame_size (x ++ t)) (x ++ t))
+      (agrees-cut n place x t e (frame_size (x ++ t)) (size-least (x ++ t))))
       (new
-      (frame-late n n' h (place + length (take (frameSize (x ++ t)) (x ++ t)))
-      (frames (drop (frameSize (x ++ t)) (x ++ t)) ++ rest (x ++ t) ∷ [])
-      (rw (length-take-le (frameSize (x ++ t)) (x ++ t) g) (omega (arith, cut_short x t c))))))
+      (frame-late n n' h (place + length (take (frame_size (x ++ t)) (x ++ t)))
+      (frames (drop (frame_size (x ++ t)) (x ++ t)) ++ rest (x ++ t) ∷ [])
+      (rw (length-take-le (frame_size (x ++ t)) (x ++ t) g) (omega (arith, cut_short x t c))))))
   cut-grows x c place e (no g) =
       rw (frames-none x c, rest-none x c, frames-none (x ++ t) (lt_of_not-le g), rest-none (x ++ t) (lt_of_not-le g))
-      (earlier-grows (header-grows n n' h place x (x ++ t) (agrees_on n place x t e)) (same no-fault))
+      (earlier-grows (header-grows n n' h place x (x ++ t) (agrees_on n place x t e)) (same no_fault))
 
   pieces-grow : (x : List ℕ) (place : ℕ) → n ≡ place + length x →
-      Grows n (wrongFrame n place (pieces x)) (wrongFrame n' place (pieces (x ++ t)))
-  unfolding wrongFrame
+      Grows n (wrong_frame n place (pieces x)) (wrong_frame n' place (pieces (x ++ t)))
+  unfolding wrong_frame
   pieces-grow =
       by_frames (λ (x : List ℕ). (place : ℕ) → n ≡ place + length x →
-      Grows n (wrongFrame n place (pieces x)) (wrongFrame n' place (pieces (x ++ t))))
-      (λ x c place e. cut-grows x c place e (dec_le (frameSize (x ++ t)) (length (x ++ t))))
+      Grows n (wrong_frame n place (pieces x)) (wrong_frame n' place (pieces (x ++ t))))
+      (λ x c place e. cut-grows x c place e (dec_le (frame_size (x ++ t)) (length (x ++ t))))
       (λ x c ih place e.
       rw (frames-one x c, rest-one x c, frames-onward x t c, rest-onward x t c)
-      (earlier-grows (header-grows n n' h place (take (frameSize x) x) (take (frameSize x) x) (λ i g k. refl))
-      (ih (place + length (take (frameSize x) x)) (rw (length-take-le (frameSize x) x c, length-drop) (omega arith)))))
+      (earlier-grows (header-grows n n' h place (take (frame_size x) x) (take (frame_size x) x) (λ i g k. refl))
+      (ih (place + length (take (frame_size x) x)) (rw (length-take-le (frame_size x) x c, length-drop) (omega arith)))))
 
 -- ---- 7 and 8 of a capture that goes on
 
 module _ (n : ℕ) where
-  header-none : (place : ℕ) (f : List ℕ) → n ≤ place → wrongFrameHeader n place f ≡ none
-  unfolding wrongFrameHeader
+  header-none : (place : ℕ) (f : List ℕ) → n ≤ place → wrong_frame_header n place f ≡ none
+  unfolding wrong_frame_header
   header-none place f g =
       rw (
         showing-none n n 7 (place + 7) (ltb 999999 (microseconds f)) true (omega arith),
-        showing-none n n 8 (place + 11) (ltb 65535 (storedLength f)) true (omega arith),
+        showing-none n n 8 (place + 11) (ltb 65535 (stored_length f)) true (omega arith),
       )
 
-  frame-none : (place : ℕ) (fs : List (List ℕ)) → n ≤ place → wrongFrame n place fs ≡ none
-  unfolding wrongFrame
+  frame-none : (place : ℕ) (fs : List (List ℕ)) → n ≤ place → wrong_frame n place fs ≡ none
+  unfolding wrong_frame
   frame-none place [] g = refl
   frame-none place (f ∷ fs) g = rw (header-none place f g, frame-none (place + length f) fs (omega arith))
 
 pub frames-grow : (s t : List ℕ) →
-    Grows (length s) (wrongFrame (length s) 24 (allFrames s)) (wrongFrame (length (s ++ t)) 24 (allFrames (s ++ t)))
-unfolding allFrames wholeFrames unfinished behindHeader
+    Grows (length s) (wrong_frame (length s) 24 (all_frames s)) (wrong_frame (length (s ++ t)) 24 (all_frames (s ++ t)))
+unfolding all_frames whole_frames unfinished behind_header
 frames-grow s t = elim (dec_le 24 (length s)) [
   | yes g ↦
       rw (drop-append-le 24 s t g)
@@ -239,8 +239,8 @@ frames-grow s t = elim (dec_le 24 (length s)) [
 
 -- ---- 4 to 8 together
 
-pub format-grows : (s t : List ℕ) → Grows (length s) (formatFault s) (formatFault (s ++ t))
-unfolding formatFault
+pub format-grows : (s t : List ℕ) → Grows (length s) (format_fault s) (format_fault (s ++ t))
+unfolding format_fault
 format-grows s t =
     earlier-grows (long-grows s t)
     (earlier-grows (magic-grows s t) (earlier-grows (link-grows s t) (frames-grow s t)))

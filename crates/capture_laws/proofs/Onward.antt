@@ -10,13 +10,13 @@ use lib.ListN.{get_or-append}
 use lib.Seq.{length-take-le, take-append-le, drop-append-le, drop-drop, take_all}
 use lib.Dec.{leb, ltb, eqb}
 use borrow.Author.Tests.{le-leb, lt-leb, leb-true, ltb-true, eqb-true}
-use Rattle.rules.specs.Bytes.{pick, byte, word32, network16, only, endToEnd, All, and, empty}
-use Rattle.rules.specs.Frames.{seconds, microseconds, storedLength, frameTime, body, frameSize, frames, rest}
-use Rattle.rules.specs.Frames.{behindHeader}
-use Rattle.rules.specs.Packets.{Packet, ipLength, udpLength, holdsHeaders, isIpv4, is_plain, isUnfragmented}
-use Rattle.rules.specs.Packets.{isUdp, lengthsAgree, isStoredWhole, holdsPackets, carries, packetsFrom}
-use Rattle.rules.specs.Packets.{packetsIn, packetsOf, packets}
-use Rattle.rules.specs.Capture.{wholeFrames, unfinished, allFrames}
+use Rattle.rules.specs.Bytes.{pick, byte, word32, network16, only, end_to_end, All, and, empty}
+use Rattle.rules.specs.Frames.{seconds, microseconds, stored_length, frame_time, body, frame_size, frames, rest}
+use Rattle.rules.specs.Frames.{behind_header}
+use Rattle.rules.specs.Packets.{Packet, ip_length, udp_length, holds_headers, is_ipv4, is_plain, is_unfragmented}
+use Rattle.rules.specs.Packets.{is_udp, lengths_agree, is_stored_whole, holds_packets, carries, packets_from}
+use Rattle.rules.specs.Packets.{packets_in, packets_of, packets}
+use Rattle.rules.specs.Capture.{whole_frames, unfinished, all_frames}
 use Rattle.capture_laws.specs.UnderWay.{count_of}
 use Rattle.rules.proofs.Laws.Lists.{both, only-append}
 use Rattle.capture_laws.proofs.Frames.{size-least, size-append, frames-none, rest-none, frames-one, rest-one}
@@ -27,66 +27,66 @@ use Rattle.capture_laws.proofs.Capture.{packets-append}
 
 -- the offset at which the frame starts that is not whole yet
 unfoldable pub base : List ℕ → ℕ
-base s = 24 + length (endToEnd (wholeFrames s))
+base s = 24 + length (end_to_end (whole_frames s))
 
 pub base_sum : (s : List ℕ) → 24 ≤ length s → base s + length (unfinished s) ≡ length s
-unfolding base wholeFrames unfinished behindHeader
+unfolding base whole_frames unfinished behind_header
 base_sum s h =
     let e = ap length (frames-all (drop 24 s)) in
-    let l = length-append (endToEnd (frames (drop 24 s))) (rest (drop 24 s)) in
+    let l = length-append (end_to_end (frames (drop 24 s))) (rest (drop 24 s)) in
     let d = length-drop 24 s in
     omega arith
 
-pub unfinished-short : (s : List ℕ) → length (unfinished s) < frameSize (unfinished s)
+pub unfinished-short : (s : List ℕ) → length (unfinished s) < frame_size (unfinished s)
 unfolding unfinished
 unfinished-short s =
-    by_frames (λ (x : List ℕ). length (rest x) < frameSize (rest x)) (λ x h. rw (rest-none x h) h)
-    (λ x h ih. rw (rest-one x h) ih) (behindHeader s)
+    by_frames (λ (x : List ℕ). length (rest x) < frame_size (rest x)) (λ x h. rw (rest-none x h) h)
+    (λ x h ih. rw (rest-one x h) ih) (behind_header s)
 
-frames-exact : (s : List ℕ) → length s ≡ frameSize s → frames s ≡ s ∷ []
+frames-exact : (s : List ℕ) → length s ≡ frame_size s → frames s ≡ s ∷ []
 frames-exact s h =
     frames-one s (omega arith)
     ∙ rw (
-      take_all (frameSize s) s (omega arith),
-      drop_of_length-le s {i = frameSize s} (omega arith),
+      take_all (frame_size s) s (omega arith),
+      drop_of_length-le s {i = frame_size s} (omega arith),
       frames-none [] (omega (arith, size-least [])),
     )
 
-rest-exact : (s : List ℕ) → length s ≡ frameSize s → rest s ≡ []
+rest-exact : (s : List ℕ) → length s ≡ frame_size s → rest s ≡ []
 rest-exact s h =
     rest-one s (omega arith)
-    ∙ rw (drop_of_length-le s {i = frameSize s} (omega arith)) (rest-none [] (omega (arith, size-least [])))
+    ∙ rw (drop_of_length-le s {i = frame_size s} (omega arith)) (rest-none [] (omega (arith, size-least [])))
 
 module _ (s t : List ℕ) (h : 24 ≤ length s) where
-  behind_more : behindHeader (s ++ t) ≡ behindHeader s ++ t
-  unfolding behindHeader
+  behind_more : behind_header (s ++ t) ≡ behind_header s ++ t
+  unfolding behind_header
   behind_more = drop-append-le 24 s t h
 
   -- the frame is not whole yet
-  pub whole_part : length (unfinished s ++ t) < frameSize (unfinished s ++ t) → wholeFrames (s ++ t) ≡ wholeFrames s
-  unfolding wholeFrames unfinished
+  pub whole_part : length (unfinished s ++ t) < frame_size (unfinished s ++ t) → whole_frames (s ++ t) ≡ whole_frames s
+  unfolding whole_frames unfinished
   whole_part k =
-      rw (behind_more, frames-append (behindHeader s) t, frames-none (rest (behindHeader s) ++ t) k)
-      (append-nil (frames (behindHeader s)))
+      rw (behind_more, frames-append (behind_header s) t, frames-none (rest (behind_header s) ++ t) k)
+      (append-nil (frames (behind_header s)))
 
-  pub unfinished-part : length (unfinished s ++ t) < frameSize (unfinished s ++ t) →
+  pub unfinished-part : length (unfinished s ++ t) < frame_size (unfinished s ++ t) →
       unfinished (s ++ t) ≡ unfinished s ++ t
   unfolding unfinished
-  unfinished-part k = rw (behind_more, rest-append (behindHeader s) t) (rest-none (rest (behindHeader s) ++ t) k)
+  unfinished-part k = rw (behind_more, rest-append (behind_header s) t) (rest-none (rest (behind_header s) ++ t) k)
 
   -- the frame is whole now
-  pub whole-full : length (unfinished s ++ t) ≡ frameSize (unfinished s ++ t) →
-      wholeFrames (s ++ t) ≡ wholeFrames s ++ (unfinished s ++ t) ∷ []
-  unfolding wholeFrames unfinished
-  whole-full k = rw (behind_more, frames-append (behindHeader s) t, frames-exact (rest (behindHeader s) ++ t) k)
+  pub whole-full : length (unfinished s ++ t) ≡ frame_size (unfinished s ++ t) →
+      whole_frames (s ++ t) ≡ whole_frames s ++ (unfinished s ++ t) ∷ []
+  unfolding whole_frames unfinished
+  whole-full k = rw (behind_more, frames-append (behind_header s) t, frames-exact (rest (behind_header s) ++ t) k)
 
-  pub unfinished-full : length (unfinished s ++ t) ≡ frameSize (unfinished s ++ t) → unfinished (s ++ t) ≡ []
+  pub unfinished-full : length (unfinished s ++ t) ≡ frame_size (unfinished s ++ t) → unfinished (s ++ t) ≡ []
   unfolding unfinished
-  unfinished-full k = rw (behind_more, rest-append (behindHeader s) t) (rest-exact (rest (behindHeader s) ++ t) k)
+  unfinished-full k = rw (behind_more, rest-append (behind_header s) t) (rest-exact (rest (behind_header s) ++ t) k)
 
 -- a header alone
-pub header-alone : (s : List ℕ) → length s ≤ 24 → (wholeFrames s ≡ []) × (unfinished s ≡ [])
-unfolding wholeFrames unfinished behindHeader
+pub header-alone : (s : List ℕ) → length s ≤ 24 → (whole_frames s ≡ []) × (unfinished s ≡ [])
+unfolding whole_frames unfinished behind_header
 header-alone s h =
     let e = drop_of_length-le s {i = 24} h in
     (rw e (frames-none [] (omega (arith, size-least []))), rw e (rest-none [] (omega (arith, size-least []))))
@@ -94,13 +94,13 @@ header-alone s h =
 -- ---- a frame's packets
 
 pub of-from : (place : ℕ) (f : List ℕ) →
-    packetsOf place f ≡ packetsFrom (count_of f) (frameTime f) (place + 58) (drop 58 f)
-unfolding packetsOf packetsIn count_of body packetsFrom
+    packets_of place f ≡ packets_from (count_of f) (frame_time f) (place + 58) (drop 58 f)
+unfolding packets_of packets_in count_of body packets_from
 of-from place f = go (carries f) (drop-drop 42 16 f)
   where
     go : (b : Bool) → drop 42 (drop 16 f) ≡ drop 58 f →
-        pick b (packetsFrom ((udpLength f - 8) / 188) (frameTime f) (place + 58) (drop 42 (drop 16 f))) []
-        ≡ packetsFrom (pick b ((udpLength f - 8) / 188) 0) (frameTime f) (place + 58) (drop 58 f)
+        pick b (packets_from ((udp_length f - 8) / 188) (frame_time f) (place + 58) (drop 42 (drop 16 f))) []
+        ≡ packets_from (pick b ((udp_length f - 8) / 188) 0) (frame_time f) (place + 58) (drop 58 f)
     go true e = rw e
     go false e = refl
 
@@ -114,16 +114,16 @@ module _ (x t : List ℕ) (h : 58 ≤ length x) where
   unfolding body
   in_body i g = get_or-append (drop 16 x) t 0 i (simp length-drop (omega arith))
 
-  pub udp-more : udpLength (x ++ t) ≡ udpLength x
-  unfolding udpLength network16
+  pub udp-more : udp_length (x ++ t) ≡ udp_length x
+  unfolding udp_length network16
   udp-more = rw (body_more, in_body 38 (omega arith), in_body 39 (omega arith))
 
-  ip-more : ipLength (x ++ t) ≡ ipLength x
-  unfolding ipLength network16
+  ip-more : ip_length (x ++ t) ≡ ip_length x
+  unfolding ip_length network16
   ip-more = rw (body_more, in_body 16 (omega arith), in_body 17 (omega arith))
 
-  stored_more : storedLength (x ++ t) ≡ storedLength x
-  unfolding storedLength word32
+  stored_more : stored_length (x ++ t) ≡ stored_length x
+  unfolding stored_length word32
   stored_more =
       rw (
         get_or-append x t 0 8 (omega arith),
@@ -132,8 +132,8 @@ module _ (x t : List ℕ) (h : 58 ≤ length x) where
         get_or-append x t 0 11 (omega arith),
       )
 
-  pub time-more : frameTime (x ++ t) ≡ frameTime x
-  unfolding frameTime seconds microseconds word32
+  pub time-more : frame_time (x ++ t) ≡ frame_time x
+  unfolding frame_time seconds microseconds word32
   time-more =
       rw (
         get_or-append x t 0 0 (omega arith),
@@ -173,8 +173,8 @@ abbrev pub reaching : ℕ → List Packet → List Packet
 reaching d ps = only (λ p. leb d (length p.bytes)) ps
 
 pub from-split : (k m τ q : ℕ) (b : List ℕ) →
-    packetsFrom (k + m) τ q b ≡ packetsFrom k τ q b ++ packetsFrom m τ (q + 188 * k) (drop (188 * k) b)
-unfolding packetsFrom
+    packets_from (k + m) τ q b ≡ packets_from k τ q b ++ packets_from m τ (q + 188 * k) (drop (188 * k) b)
+unfolding packets_from
 from-split zero m τ q b =
     let e : zero + m ≡ m = omega arith in
     let f : q + 188 * zero ≡ q = omega arith in
@@ -187,8 +187,8 @@ from-split (suc k) m τ q b =
     (ap (λ (r : List Packet). record { time = τ; place = q; bytes = take 188 b } ∷ r)
     (from-split k m τ (q + 188) (drop 188 b) ∙ rw (drop-drop (188 * k) 188 b, f, g)))
 
-pub from-done : (k τ q : ℕ) (b t : List ℕ) → 188 * k ≤ length b → packetsFrom k τ q (b ++ t) ≡ packetsFrom k τ q b
-unfolding packetsFrom
+pub from-done : (k τ q : ℕ) (b t : List ℕ) → 188 * k ≤ length b → packets_from k τ q (b ++ t) ≡ packets_from k τ q b
+unfolding packets_from
 from-done zero τ q b t h = refl
 from-done (suc k) τ q b t h =
     rw (take-append-le 188 b t (omega arith), drop-append-le 188 b t (omega arith))
@@ -197,24 +197,24 @@ from-done (suc k) τ q b t h =
 
 module _ (d : ℕ) (small : d ≤ 188) where
   pub from-whole : (k τ q : ℕ) (b : List ℕ) → 188 * k ≤ length b →
-      reaching d (packetsFrom k τ q b) ≡ packetsFrom k τ q b
-  unfolding packetsFrom only
+      reaching d (packets_from k τ q b) ≡ packets_from k τ q b
+  unfolding packets_from only
   from-whole zero τ q b h = refl
   from-whole (suc k) τ q b h =
       rw (le-leb d (length (take 188 b)) (simp length-take (omega arith)))
       (ap (λ (r : List Packet). record { time = τ; place = q; bytes = take 188 b } ∷ r)
       (from-whole k τ (q + 188) (drop 188 b) (simp length-drop (omega arith))))
 
-  pub from-short : (m τ q : ℕ) (y : List ℕ) → length y < d → reaching d (packetsFrom m τ q y) ≡ []
-  unfolding packetsFrom only
+  pub from-short : (m τ q : ℕ) (y : List ℕ) → length y < d → reaching d (packets_from m τ q y) ≡ []
+  unfolding packets_from only
   from-short zero τ q y h = refl
   from-short (suc m) τ q y h =
       rw (lt-leb d (length (take 188 y)) (simp length-take (omega arith)))
       (from-short m τ (q + 188) (drop 188 y) (simp length-drop (omega arith)))
 
   pub from_first : (m τ q : ℕ) (y : List ℕ) → 0 < d → d ≤ length y → length y ≤ 188 →
-      reaching d (packetsFrom (suc m) τ q y) ≡ record { time = τ; place = q; bytes = y } ∷ []
-  unfolding packetsFrom only
+      reaching d (packets_from (suc m) τ q y) ≡ record { time = τ; place = q; bytes = y } ∷ []
+  unfolding packets_from only
   from_first m τ q y p h k =
       rw (
         take_all 188 y k,
@@ -226,40 +226,40 @@ module _ (d : ℕ) (small : d ≤ 188) where
 -- ---- whole frames have whole packets
 
 -- a frame that carries has room for its packets
-pub roomy : (f : List ℕ) → 0 < count_of f → 58 + 188 * count_of f ≤ frameSize f
-unfolding count_of frameSize
+pub roomy : (f : List ℕ) → 0 < count_of f → 58 + 188 * count_of f ≤ frame_size f
+unfolding count_of frame_size
 roomy f = go (carries f) refl
   where
-    go : (b : Bool) → carries f ≡ b → 0 < pick b ((udpLength f - 8) / 188) 0 →
-        58 + 188 * pick b ((udpLength f - 8) / 188) 0 ≤ 16 + storedLength f
+    go : (b : Bool) → carries f ≡ b → 0 < pick b ((udp_length f - 8) / 188) 0 →
+        58 + 188 * pick b ((udp_length f - 8) / 188) 0 ≤ 16 + stored_length f
     go false e h = absurd (omega arith)
     go true e h = unfold carries in
-        let front = holdsHeaders f && isIpv4 f && is_plain f && isUnfragmented f && isUdp f in
-        let p = both (front && lengthsAgree f && isStoredWhole f) (holdsPackets f) e in
-        let q = both (front && lengthsAgree f) (isStoredWhole f) p.0 in
-        let r = both front (lengthsAgree f) q.0 in
-        let u = both (ltb 8 (udpLength f)) (eqb ((udpLength f - 8) % 188) 0) p.1 in
-        let stored = leb-true (14 + ipLength f) (storedLength f) q.1 in
-        let agree = eqb-true (ipLength f) (udpLength f + 20) r.1 in
-        let some = ltb-true 8 (udpLength f) u.0 in
+        let front = holds_headers f && is_ipv4 f && is_plain f && is_unfragmented f && is_udp f in
+        let p = both (front && lengths_agree f && is_stored_whole f) (holds_packets f) e in
+        let q = both (front && lengths_agree f) (is_stored_whole f) p.0 in
+        let r = both front (lengths_agree f) q.0 in
+        let u = both (ltb 8 (udp_length f)) (eqb ((udp_length f - 8) % 188) 0) p.1 in
+        let stored = leb-true (14 + ip_length f) (stored_length f) q.1 in
+        let agree = eqb-true (ip_length f) (udp_length f + 20) r.1 in
+        let some = ltb-true 8 (udp_length f) u.0 in
         omega arith
 
 -- the frame is as long as its header says
 abbrev pub Whole : List ℕ → Type 0
-Whole f = length f ≡ frameSize f
+Whole f = length f ≡ frame_size f
 
-size-take : (s : List ℕ) (n : ℕ) → 16 ≤ n → n ≤ length s → frameSize (take n s) ≡ frameSize s
+size-take : (s : List ℕ) (n : ℕ) → 16 ≤ n → n ≤ length s → frame_size (take n s) ≡ frame_size s
 size-take s n h k =
-    sym (size-append (take n s) (drop n s) (rw (length-take-le n s k) h)) ∙ ap frameSize (take-append-drop n s)
+    sym (size-append (take n s) (drop n s) (rw (length-take-le n s k) h)) ∙ ap frame_size (take-append-drop n s)
 
-pub frames-whole : (s : List ℕ) → All Whole (wholeFrames s)
-unfolding wholeFrames
+pub frames-whole : (s : List ℕ) → All Whole (whole_frames s)
+unfolding whole_frames
 frames-whole s =
     by_frames (λ (x : List ℕ). All Whole (frames x))
     (λ x h. rw (frames-none x h) empty)
     (λ x h ih.
-    rw (frames-one x h) (and (length-take-le (frameSize x) x h ∙ sym (size-take x (frameSize x) (size-least x) h)) ih))
-    (behindHeader s)
+    rw (frames-one x h) (and (length-take-le (frame_size x) x h ∙ sym (size-take x (frame_size x) (size-least x) h)) ih))
+    (behind_header s)
 
 whole_room : (f : List ℕ) → Whole f → 188 * count_of f ≤ length (drop 58 f)
 whole_room f w = elim (dec_le (count_of f) 0) [
@@ -268,60 +268,60 @@ whole_room f w = elim (dec_le (count_of f) 0) [
 ]
 
 module _ (d : ℕ) (some : 0 < d) (small : d ≤ 188) where
-  of-whole : (place : ℕ) (f : List ℕ) → Whole f → reaching d (packetsOf place f) ≡ packetsOf place f
+  of-whole : (place : ℕ) (f : List ℕ) → Whole f → reaching d (packets_of place f) ≡ packets_of place f
   of-whole place f w =
-      rw (of-from place f) (from-whole d small (count_of f) (frameTime f) (place + 58) (drop 58 f) (whole_room f w))
+      rw (of-from place f) (from-whole d small (count_of f) (frame_time f) (place + 58) (drop 58 f) (whole_room f w))
 
   packets-whole : (place : ℕ) {fs : List (List ℕ)} → All Whole fs → reaching d (packets place fs) ≡ packets place fs
   unfolding packets
   packets-whole place empty = unfold only in refl
   packets-whole place (and {x} {xs} w ws) =
-      only-append (λ (p : Packet). leb d (length p.bytes)) (packetsOf place x) (packets (place + length x) xs)
+      only-append (λ (p : Packet). leb d (length p.bytes)) (packets_of place x) (packets (place + length x) xs)
       ∙ rw (of-whole place x w, packets-whole (place + length x) ws)
 
-  pub of_none : (place : ℕ) (f : List ℕ) → length f < 58 + d → reaching d (packetsOf place f) ≡ []
+  pub of_none : (place : ℕ) (f : List ℕ) → length f < 58 + d → reaching d (packets_of place f) ≡ []
   of_none place f h =
       rw (of-from place f)
-      (from-short d small (count_of f) (frameTime f) (place + 58) (drop 58 f) (simp length-drop (omega arith)))
+      (from-short d small (count_of f) (frame_time f) (place + 58) (drop 58 f) (simp length-drop (omega arith)))
 
   -- ---- the packets of a capture: those of the whole frames, and those of the frame that is not whole yet
 
-  single : (place : ℕ) (x : List ℕ) → packets place (x ∷ []) ≡ packetsOf place x
+  single : (place : ℕ) (x : List ℕ) → packets place (x ∷ []) ≡ packets_of place x
   unfolding packets
-  single place x = append-nil (packetsOf place x)
+  single place x = append-nil (packets_of place x)
 
-  pub layout : (s : List ℕ) → reaching d (packets 24 (allFrames s))
-      ≡ packets 24 (wholeFrames s) ++ reaching d (packetsOf (base s) (unfinished s))
-  unfolding allFrames base
+  pub layout : (s : List ℕ) → reaching d (packets 24 (all_frames s))
+      ≡ packets 24 (whole_frames s) ++ reaching d (packets_of (base s) (unfinished s))
+  unfolding all_frames base
   layout s =
       rw (
-        packets-append 24 (wholeFrames s) (unfinished s ∷ []),
-        single (24 + length (endToEnd (wholeFrames s))) (unfinished s),
+        packets-append 24 (whole_frames s) (unfinished s ∷ []),
+        single (24 + length (end_to_end (whole_frames s))) (unfinished s),
       )
-      (only-append (λ (p : Packet). leb d (length p.bytes)) (packets 24 (wholeFrames s))
-      (packetsOf (24 + length (endToEnd (wholeFrames s))) (unfinished s))
+      (only-append (λ (p : Packet). leb d (length p.bytes)) (packets 24 (whole_frames s))
+      (packets_of (24 + length (end_to_end (whole_frames s))) (unfinished s))
       ∙ rw (packets-whole 24 (frames-whole s)))
 
   -- bytes more that do not pass the frame's end
-  pub layout-more : (s t : List ℕ) → 24 ≤ length s → length (unfinished s ++ t) ≤ frameSize (unfinished s ++ t) →
-      reaching d (packets 24 (allFrames (s ++ t)))
-      ≡ packets 24 (wholeFrames s) ++ reaching d (packetsOf (base s) (unfinished s ++ t))
-  layout-more s t h k = layout (s ++ t) ∙ go (dec_le (frameSize (unfinished s ++ t)) (length (unfinished s ++ t)))
+  pub layout-more : (s t : List ℕ) → 24 ≤ length s → length (unfinished s ++ t) ≤ frame_size (unfinished s ++ t) →
+      reaching d (packets 24 (all_frames (s ++ t)))
+      ≡ packets 24 (whole_frames s) ++ reaching d (packets_of (base s) (unfinished s ++ t))
+  layout-more s t h k = layout (s ++ t) ∙ go (dec_le (frame_size (unfinished s ++ t)) (length (unfinished s ++ t)))
     where
-      go : Dec (frameSize (unfinished s ++ t) ≤ length (unfinished s ++ t)) →
-          packets 24 (wholeFrames (s ++ t)) ++ reaching d (packetsOf (base (s ++ t)) (unfinished (s ++ t)))
-          ≡ packets 24 (wholeFrames s) ++ reaching d (packetsOf (base s) (unfinished s ++ t))
+      go : Dec (frame_size (unfinished s ++ t) ≤ length (unfinished s ++ t)) →
+          packets 24 (whole_frames (s ++ t)) ++ reaching d (packets_of (base (s ++ t)) (unfinished (s ++ t)))
+          ≡ packets 24 (whole_frames s) ++ reaching d (packets_of (base s) (unfinished s ++ t))
       go (no g) = unfold base in rw (whole_part s t h (omega arith), unfinished-part s t h (omega arith))
       go (yes g) =
-          let e : length (unfinished s ++ t) ≡ frameSize (unfinished s ++ t) = omega arith in
+          let e : length (unfinished s ++ t) ≡ frame_size (unfinished s ++ t) = omega arith in
           rw (
             unfinished-full s t h e,
             of_none (base (s ++ t)) [] (omega arith),
             whole-full s t h e,
             of-whole (base s) (unfinished s ++ t) e,
           )
-          (append-nil (packets 24 (wholeFrames s ++ (unfinished s ++ t) ∷ []))
+          (append-nil (packets 24 (whole_frames s ++ (unfinished s ++ t) ∷ []))
           ∙ unfold base in rw (
-            packets-append 24 (wholeFrames s) ((unfinished s ++ t) ∷ []),
-            single (24 + length (endToEnd (wholeFrames s))) (unfinished s ++ t),
+            packets-append 24 (whole_frames s) ((unfinished s ++ t) ∷ []),
+            single (24 + length (end_to_end (whole_frames s))) (unfinished s ++ t),
           ))

@@ -11,11 +11,11 @@ use borrow.Author.Tests.{ltb-true, ltb-false, eqb-false}
 use Rattle.rules.proofs.Laws.Lists.{by-test}
 use Rattle.rules.specs.declared.SurveyAnswer.TheVariants.{Most, Refused}
 use Rattle.rules.specs.Bytes.{pick}
-use Rattle.rules.specs.Refusals.{Fault, none, fault, ◌orElse◌}
-use Rattle.rules.specs.Capture.{formatFault}
-use Rattle.rules.specs.Seal.{captureUnfinished}
-use Rattle.rules.specs.Survey.{goodPackets, identifiers, withMost, HasMost, noGood, surveyFault, orMost}
-use Rattle.rules.specs.Survey.{surveyAnswer, MostIn}
+use Rattle.rules.specs.Refusals.{Fault, none, fault, ◌or_else◌}
+use Rattle.rules.specs.Capture.{format_fault}
+use Rattle.rules.specs.Seal.{capture_unfinished}
+use Rattle.rules.specs.Survey.{good_packets, identifiers, with_most, HasMost, no_good, survey_fault, or_most}
+use Rattle.rules.specs.Survey.{survey_answer, MostIn}
 
 -- ---- one identifier more
 
@@ -44,14 +44,14 @@ most-old f n id m h =
 
 -- ---- the rule's identifier has most
 
-pub with-most : (f : ℕ → ℕ) (n : ℕ) → n ≤ identifiers → HasMost f n (withMost f n)
-unfolding withMost
+pub with-most : (f : ℕ → ℕ) (n : ℕ) → n ≤ identifiers → HasMost f n (with_most f n)
+unfolding with_most
 with-most f zero h = most-none f
 with-most f (suc n) h =
     let m = with-most f n (omega arith) in
-    by-test (λ (b : Bool). HasMost f (suc n) (pick b n (withMost f n))) (ltb (f (withMost f n)) (f n))
-    (λ e. rw (add-one n) at (most-new f n (withMost f n) (omega arith) m (ltb-true (f (withMost f n)) (f n) e)))
-    (λ e. rw (add-one n) at (most-old f n (withMost f n) m (ltb-false (f (withMost f n)) (f n) e)))
+    by-test (λ (b : Bool). HasMost f (suc n) (pick b n (with_most f n))) (ltb (f (with_most f n)) (f n))
+    (λ e. rw (add-one n) at (most-new f n (with_most f n) (omega arith) m (ltb-true (f (with_most f n)) (f n) e)))
+    (λ e. rw (add-one n) at (most-old f n (with_most f n) m (ltb-false (f (with_most f n)) (f n) e)))
 
 -- ---- and no other has
 
@@ -63,8 +63,8 @@ one-most f a b p q = go (dec_le a b) (dec_le b a)
     go (yes x) (no y) = absurd (let l = q.lowest a (omega arith) in let m = p.most b q.below in omega arith)
     go (no x) d = absurd (let l = p.lowest b (omega arith) in let m = q.most a p.below in omega arith)
 
-pub with-most-is : (f : ℕ → ℕ) (id : ℕ) → HasMost f identifiers id → id ≡ withMost f identifiers
-with-most-is f id m = one-most f id (withMost f identifiers) m (with-most f identifiers (omega arith))
+pub with-most-is : (f : ℕ → ℕ) (id : ℕ) → HasMost f identifiers id → id ≡ with_most f identifiers
+with-most-is f id m = one-most f id (with_most f identifiers) m (with-most f identifiers (omega arith))
 
 -- counts that are alike
 pub most-alike : (f g : ℕ → ℕ) (id : ℕ) → ((j : ℕ) → j < identifiers → f j ≡ g j) → HasMost f identifiers id →
@@ -89,18 +89,18 @@ refused-most e = let z : ◌≡◌ {A = ℕ} 0 1 = cc in omega arith
 most-inj : {a b c d : ℕ} → Most a b ≡ Most c d → (a ≡ c) × (b ≡ d)
 most-inj e = (cc, cc)
 
-pub most-found : (capture : List ℕ) (id n : ℕ) → surveyAnswer capture ≡ Most id n → MostIn capture id n
-unfolding surveyAnswer surveyFault noGood
-most-found capture id n = go (formatFault capture) (captureUnfinished capture) (eqb (f best) 0) refl
+pub most-found : (capture : List ℕ) (id n : ℕ) → survey_answer capture ≡ Most id n → MostIn capture id n
+unfolding survey_answer survey_fault no_good
+most-found capture id n = go (format_fault capture) (capture_unfinished capture) (eqb (f best) 0) refl
   where
     f : ℕ → ℕ
-    f = goodPackets capture
+    f = good_packets capture
 
     best : ℕ
-    best = withMost f identifiers
+    best = with_most f identifiers
 
     go : (x y : Fault) (b : Bool) → eqb (f best) 0 ≡ b →
-        orMost (x or_else y or_else pick b (fault 21 0) none) best (f best) ≡ Most id n → MostIn capture id n
+        or_most (x or_else y or_else pick b (fault 21 0) none) best (f best) ≡ Most id n → MostIn capture id n
     go none none false e a =
         let i = (most-inj a).0 in
         let c = (most-inj a).1 in

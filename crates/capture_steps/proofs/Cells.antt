@@ -7,22 +7,22 @@ use lib.ListN.{get_or-append}
 use lib.Seq.{drop-append-le}
 use Rattle.rules.specs.Bytes.{byte}
 use Rattle.rules.specs.Refusals.{none}
-use Rattle.rules.specs.Frames.{storedLength, frameSize, frameTime}
-use Rattle.rules.specs.Packets.{Packet, packetsFrom, packetsOf, packets}
-use Rattle.rules.specs.Capture.{wholeFrames, unfinished}
+use Rattle.rules.specs.Frames.{stored_length, frame_size, frame_time}
+use Rattle.rules.specs.Packets.{Packet, packets_from, packets_of, packets}
+use Rattle.rules.specs.Capture.{whole_frames, unfinished}
 use Rattle.capture_laws.specs.UnderWay.{Split, current, Fine}
 use Rattle.rules.proofs.Laws.Lists.{only-append}
 use Rattle.capture_laws.proofs.Frames.{size-append}
 use Rattle.capture_laws.proofs.Onward.{base, base_sum, unfinished-short, count-more, time-more, roomy}
 use Rattle.capture_laws.proofs.Onward.{of-from, from-split, from-done, from-whole, from-short, layout-more}
-use Rattle.capture_laws.proofs.Flow.{reached, passed, packetAt, now_short, more-short, now-done}
+use Rattle.capture_laws.proofs.Flow.{reached, passed, packet_at, now_short, more-short, now-done}
 use Rattle.capture_laws.proofs.Flow.{more-done, now-first, more-first}
 use Rattle.capture_cells.specs.declared.Cell.{Cell}
-use Rattle.capture_cells.specs.Cells.{Agree, head, headIn, cellIn, cell_of}
+use Rattle.capture_cells.specs.Cells.{Agree, head, head_in, cell_in, cell_of}
 use Rattle.capture_cells.proofs.Agree.{agree-more, time-agree, head-agree, cell_agree}
 use Rattle.capture_steps.specs.declared.types.Walk.{Walk}
 use Rattle.capture_steps.specs.declared.types.Event.TheVariants.{Nothing, Shown, Whole, Cells}
-use Rattle.capture_steps.specs.Format.{formatFault, head_of, cellsFrom}
+use Rattle.capture_steps.specs.Format.{format_fault, head_of, cells_from}
 use Rattle.capture_steps.specs.State.{Under, Core, Stands}
 use Rattle.capture_steps.specs.Contract.{Collects, Taken, Settles, Gains, Level, Passed}
 use Rattle.capture_laws.proofs.Format.{Sound, sound-of, fine-now, next-none}
@@ -57,14 +57,14 @@ gathered {k} {k'} {piece} {got} {from} {n} l h c =
 -- ---- m cells that are there at once, behind k others
 
 module _ (d : ℕ) (some : 0 < d) (small : d ≤ 188) (s t : List ℕ) (h : 24 ≤ length s)
-    (fits : length (unfinished s ++ t) ≤ frameSize (unfinished s ++ t))
+    (fits : length (unfinished s ++ t) ≤ frame_size (unfinished s ++ t))
     (k m l : ℕ) (p : Split (unfinished s) k (m + l)) (at : length (unfinished s) ≡ 58 + 188 * k)
     (many : length t ≡ 188 * m) where
   abbrev r : List ℕ
   r = unfinished s
 
   abbrev τ : ℕ
-  τ = frameTime r
+  τ = frame_time r
 
   abbrev pl : ℕ
   pl = base s + 58
@@ -77,8 +77,8 @@ module _ (d : ℕ) (some : 0 < d) (small : d ≤ 188) (s t : List ℕ) (h : 24 �
       let e : length (drop 58 r) ≤ 188 * k = simp length-drop (omega arith) in
       drop-append-le (188 * k) (drop 58 r) t front ∙ rw (drop_of_length-le (drop 58 r) {i = 188 * k} e)
 
-  all : packetsOf (base s) (r ++ t) ≡ packetsFrom k τ pl (drop 58 r)
-      ++ (packetsFrom m τ (pl + 188 * k) t ++ packetsFrom l τ (pl + 188 * k + 188 * m) [])
+  all : packets_of (base s) (r ++ t) ≡ packets_from k τ pl (drop 58 r)
+      ++ (packets_from m τ (pl + 188 * k) t ++ packets_from l τ (pl + 188 * k + 188 * m) [])
   all =
       rw (
         of-from (base s) (r ++ t),
@@ -93,25 +93,25 @@ module _ (d : ℕ) (some : 0 < d) (small : d ≤ 188) (s t : List ℕ) (h : 24 �
         drop_of_length-le t {i = 188 * m} (omega arith),
       )
 
-  pub run-reached : reached d (s ++ t) ≡ passed s k ++ packetsFrom m τ (pl + 188 * k) t
+  pub run-reached : reached d (s ++ t) ≡ passed s k ++ packets_from m τ (pl + 188 * k) t
   unfolding passed
   run-reached =
       layout-more d some small s t h fits
       ∙ rw (
         all,
-        only-append (λ (x : Packet). leb d (length x.bytes)) (packetsFrom k τ pl (drop 58 r))
-            (packetsFrom m τ (pl + 188 * k) t ++ packetsFrom l τ (pl + 188 * k + 188 * m) []),
-        only-append (λ (x : Packet). leb d (length x.bytes)) (packetsFrom m τ (pl + 188 * k) t)
-            (packetsFrom l τ (pl + 188 * k + 188 * m) []),
+        only-append (λ (x : Packet). leb d (length x.bytes)) (packets_from k τ pl (drop 58 r))
+            (packets_from m τ (pl + 188 * k) t ++ packets_from l τ (pl + 188 * k + 188 * m) []),
+        only-append (λ (x : Packet). leb d (length x.bytes)) (packets_from m τ (pl + 188 * k) t)
+            (packets_from l τ (pl + 188 * k + 188 * m) []),
         from-whole d small k τ pl (drop 58 r) front,
         from-whole d small m τ (pl + 188 * k) t (omega arith),
         from-short d small l τ (pl + 188 * k + 188 * m) [] (omega arith),
-        append-nil (packetsFrom m τ (pl + 188 * k) t),
-        append_assoc (packets 24 (wholeFrames s)) (packetsFrom k τ pl (drop 58 r)) (packetsFrom m τ (pl + 188 * k) t),
+        append-nil (packets_from m τ (pl + 188 * k) t),
+        append_assoc (packets 24 (whole_frames s)) (packets_from k τ pl (drop 58 r)) (packets_from m τ (pl + 188 * k) t),
       )
 
 module _ {k : List ℕ} {s : Walk} {joined : List ℕ} (start : 24 ≤ length joined)
-    (u : Core k s (wholeFrames joined) (unfinished joined) joined) (far : 58 ≤ s.at)
+    (u : Core k s (whole_frames joined) (unfinished joined) joined) (far : 58 ≤ s.at)
     (v : Under k s (unfinished joined)) where
   there : 58 ≤ length (unfinished joined)
   there = let m = u.many in omega arith
@@ -128,7 +128,7 @@ module _ {k : List ℕ} {s : Walk} {joined : List ℕ} (start : 24 ≤ length jo
   abbrev cur : List ℕ
   cur = current (unfinished joined) b
 
-  pub known : (s.size ≡ storedLength (unfinished joined)) × (s.size ≤ 65535) × (s.at < 16 + s.size)
+  pub known : (s.size ≡ stored_length (unfinished joined)) × (s.size ≤ 65535) × (s.at < 16 + s.size)
   known =
       let m = u.many in
       let e = u.size (omega arith) in
@@ -138,7 +138,7 @@ module _ {k : List ℕ} {s : Walk} {joined : List ℕ} (start : 24 ≤ length jo
       (e, omega arith, omega arith)
 
   -- the cells that are left end within the frame
-  inside : 0 < s.left → 58 + 188 * (b + s.left) ≤ frameSize (unfinished joined)
+  inside : 0 < s.left → 58 + 188 * (b + s.left) ≤ frame_size (unfinished joined)
   inside h =
       let c = v.split.count in
       let r = roomy (unfinished joined) (omega arith) in
@@ -159,15 +159,15 @@ module _ {k : List ℕ} {s : Walk} {joined : List ℕ} (start : 24 ≤ length jo
   -- ---- bytes more, of which none is collected among the first 58
 
   module _ (t k' : List ℕ) (r : Walk) (room : s.fed + length t ≤ 268435456)
-      (fits : length (unfinished joined) + length t ≤ frameSize (unfinished joined))
+      (fits : length (unfinished joined) + length t ≤ frame_size (unfinished joined))
       (size : length k' ≡ length k) (same : (i : ℕ) → i < 58 → get_or k' i 0 ≡ get_or k i 0) where
-    fits-now : length (unfinished joined ++ t) ≤ frameSize (unfinished joined ++ t)
+    fits-now : length (unfinished joined ++ t) ≤ frame_size (unfinished joined ++ t)
     fits-now = fits-skip (unfinished joined) t (omega (arith, there)) fits
 
     fine_more : Fine (unfinished joined ++ t)
     fine_more = fine-skip (unfinished joined) t (omega (arith, there)) fine
 
-    clear-more : formatFault (joined ++ t) ≡ none
+    clear-more : format_fault (joined ++ t) ≡ none
     clear-more = next-none joined t start fits-now (let l = length-append joined t in let m = u.fed in omega arith)
         sound fine_more
 
@@ -187,7 +187,7 @@ module _ {k : List ℕ} {s : Walk} {joined : List ℕ} (start : 24 ≤ length jo
     held : Held k' (unfinished joined)
     held = record { held = λ i h x. same i x ∙ u.bytes i h x }
 
-    time-held : frameTime k' ≡ frameTime (unfinished joined)
+    time-held : frame_time k' ≡ frame_time (unfinished joined)
     time-held = time-agree (held-agree 58 held there (omega arith)) (omega arith)
 
     taken : r.status ≡ s.status → r.fed ≡ s.fed + length t → r.at ≡ s.at + length t → r.size ≡ s.size →
@@ -218,7 +218,7 @@ module _ {k : List ℕ} {s : Walk} {joined : List ℕ} (start : 24 ≤ length jo
   -- ---- bytes behind the cells
 
   module _ (t : List ℕ) (r : Walk) (room : s.fed + length t ≤ 268435456)
-      (fits : length (unfinished joined) + length t ≤ frameSize (unfinished joined)) (z : s.left ≡ 0) where
+      (fits : length (unfinished joined) + length t ≤ frame_size (unfinished joined)) (z : s.left ≡ 0) where
     split_done : Split (unfinished joined) b 0
     split_done = record { there = there; count = let e = v.split.count in omega arith; past = v.split.past }
 
@@ -254,7 +254,7 @@ module _ {k : List ℕ} {s : Walk} {joined : List ℕ} (start : 24 ≤ length jo
 
   module _ (t : List ℕ) (r : Walk) (m : ℕ) (room : s.fed + length t ≤ 268435456) (none_yet : s.got ≡ 0)
       (some : 0 < m) (most : m ≤ s.left) (long : length t ≡ 188 * m) where
-    fits-run : length (unfinished joined) + length t ≤ frameSize (unfinished joined)
+    fits-run : length (unfinished joined) + length t ≤ frame_size (unfinished joined)
     fits-run = let i = inside (omega arith) in let g = v.going (omega arith) in omega arith
 
     split-run : Split (unfinished joined) b (m + (s.left - m))
@@ -267,21 +267,21 @@ module _ {k : List ℕ} {s : Walk} {joined : List ℕ} (start : 24 ≤ length jo
     before d p q = now_short d p q joined start b s.left v.split (omega (arith, cur-length (omega arith)))
 
     abbrev new : List Packet
-    new = packetsFrom m (frameTime (unfinished joined)) (base joined + 58 + 188 * b) t
+    new = packets_from m (frame_time (unfinished joined)) (base joined + 58 + 188 * b) t
 
     after : (d : ℕ) → 0 < d → d ≤ 188 → reached d (joined ++ t) ≡ passed joined b ++ new
     after d p q = run-reached d p q joined t start (fits-now t k r room fits-run refl (λ i x. refl)) b m
         (s.left - m) split-run at-cell long
 
-    run-gains : (x : List ℕ) (time place : ℕ) → time ≡ frameTime k → place ≡ s.fed →
-        cellsFrom m (frameTime (unfinished joined)) s.fed t
-        ≡ cellsFrom m (frameTime (unfinished joined)) s.fed x →
-        Gains joined (joined ++ t) (map head (cellsFrom m time place x)) (cellsFrom m time place x)
+    run-gains : (x : List ℕ) (time place : ℕ) → time ≡ frame_time k → place ≡ s.fed →
+        cells_from m (frame_time (unfinished joined)) s.fed t
+        ≡ cells_from m (frame_time (unfinished joined)) s.fed x →
+        Gains joined (joined ++ t) (map head (cells_from m time place x)) (cells_from m time place x)
     run-gains x time place e f g =
         let h = time-held t k r room fits-run refl (λ i y. refl) in
         let p : base joined + 58 + 188 * b ≡ s.fed = omega (arith, place-now, at-cell) in
-        gains-many (clear-more t k r room fits-run refl (λ i y. refl)) (passed joined b) new (cellsFrom m time place x)
-        (from-cells m (frameTime (unfinished joined)) (base joined + 58 + 188 * b) t ∙ rw (p, e, f, h) g)
+        gains-many (clear-more t k r room fits-run refl (λ i y. refl)) (passed joined b) new (cells_from m time place x)
+        (from-cells m (frame_time (unfinished joined)) (base joined + 58 + 188 * b) t ∙ rw (p, e, f, h) g)
         (before 4 (omega arith) (omega arith))
         (before 188 (omega arith) (omega arith))
         (after 4 (omega arith) (omega arith))
@@ -309,7 +309,7 @@ module _ {k : List ℕ} {s : Walk} {joined : List ℕ} (start : 24 ≤ length jo
         })
 
     pub run-stood : {time : ℕ} (n : ℕ) (piece : List ℕ) (i : ℕ) (w : Walk) → Settles k r w →
-        t ≡ take (188 * m) (drop i piece) → i + 188 * m ≤ length piece → time ≡ frameTime k →
+        t ≡ take (188 * m) (drop i piece) → i + 188 * m ≤ length piece → time ≡ frame_time k →
         r.status ≡ s.status → r.fed ≡ s.fed + length t → r.at ≡ s.at + length t → r.size ≡ s.size →
         r.got ≡ s.got → r.left ≡ s.left - m → r.frames ≡ s.frames →
         r.skipped ≡ s.skipped →
@@ -323,7 +323,7 @@ module _ {k : List ℕ} {s : Walk} {joined : List ℕ} (start : 24 ≤ length jo
           stands = st joined t (run-taken rs rf ra rz rg rl rn rk);
           tells = (
             run-gains (drop i piece) time s.fed ti refl
-                (rw te (cells_cut m (frameTime (unfinished joined)) s.fed (drop i piece)
+                (rw te (cells_cut m (frame_time (unfinished joined)) s.fed (drop i piece)
                 (simp length-drop (omega arith)))),
             run-level,
           );
@@ -334,16 +334,16 @@ module _ {k : List ℕ} {s : Walk} {joined : List ℕ} (start : 24 ≤ length jo
 
   module _ (k' : List ℕ) (r : Walk) (t : List ℕ) (ga : Gathered k s.got t k') (room : s.fed + length t ≤ 268435456)
       (some : 0 < s.left) (within : s.got + length t ≤ 188) where
-    fits-t : length (unfinished joined) + length t ≤ frameSize (unfinished joined)
+    fits-t : length (unfinished joined) + length t ≤ frame_size (unfinished joined)
     fits-t = let i = inside some in let g = v.going some in omega arith
 
     same : (i : ℕ) → i < 58 → get_or k' i 0 ≡ get_or k i 0
     same i h = ga.below i (omega arith)
 
-    fits_on : length (unfinished joined ++ t) ≤ frameSize (unfinished joined ++ t)
+    fits_on : length (unfinished joined ++ t) ≤ frame_size (unfinished joined ++ t)
     fits_on = fits-now t k' r room fits-t ga.size same
 
-    clear-t : formatFault (joined ++ t) ≡ none
+    clear-t : format_fault (joined ++ t) ≡ none
     clear-t = clear-more t k' r room fits-t ga.size same
 
     cur-t : length (cur ++ t) ≡ s.got + length t
@@ -385,11 +385,11 @@ module _ {k : List ℕ} {s : Walk} {joined : List ℕ} (start : 24 ≤ length jo
     place-cell : base joined + 58 + 188 * b + s.got ≡ s.fed
     place-cell = let g = v.going some in let p = place-now in omega arith
 
-    time-t : frameTime k' ≡ frameTime (unfinished joined)
+    time-t : frame_time k' ≡ frame_time (unfinished joined)
     time-t = time-held t k' r room fits-t ga.size same
 
     abbrev q : Packet
-    q = packetAt joined b (cur ++ t)
+    q = packet_at joined b (cur ++ t)
 
     -- of which fewer than four were there
     module _ (early : s.got < 4) (less : s.got + length t < 188) where
@@ -414,7 +414,7 @@ module _ {k : List ℕ} {s : Walk} {joined : List ℕ} (start : 24 ≤ length jo
           }
 
       pub cell-shown : (n : ℕ) (piece : List ℕ) (c : Cell) → 4 ≤ s.got + length t →
-          c ≡ headIn (frameTime k') (s.fed - s.got) (drop 58 k') → r.status ≡ s.status →
+          c ≡ head_in (frame_time k') (s.fed - s.got) (drop 58 k') → r.status ≡ s.status →
           r.fed ≡ s.fed + length t → r.at ≡ s.at + length t → r.size ≡ s.size → r.got ≡ s.got + length t →
           r.left ≡ s.left → r.frames ≡ s.frames →
           r.skipped ≡ s.skipped →
@@ -442,7 +442,7 @@ module _ {k : List ℕ} {s : Walk} {joined : List ℕ} (start : 24 ≤ length jo
           is-q =
               let p : s.fed - s.got ≡ base joined + 58 + 188 * b = omega (arith, place-cell) in
               ce ∙ rw (time-t, p)
-              (head-agree (agree-cell 4 (omega arith) (omega arith)) (omega arith) (frameTime (unfinished joined))
+              (head-agree (agree-cell 4 (omega arith) (omega arith)) (omega arith) (frame_time (unfinished joined))
               (base joined + 58 + 188 * b))
 
     -- behind them
@@ -452,15 +452,15 @@ module _ {k : List ℕ} {s : Walk} {joined : List ℕ} (start : 24 ≤ length jo
           more-first 4 (omega arith) (omega arith) joined start b (s.left - 1) (as-suc some v.split) t fits_on
           (omega (arith, cur-t)) (omega (arith, cur-t))
 
-      shown-old : reached 4 joined ≡ passed joined b ++ packetAt joined b cur ∷ []
+      shown-old : reached 4 joined ≡ passed joined b ++ packet_at joined b cur ∷ []
       shown-old =
           now-first 4 (omega arith) (omega arith) joined start b (s.left - 1) (as-suc some v.split)
           (omega (arith, cur-length some)) (omega (arith, cur-length some, v.part some))
 
-      head-same : head_of q ≡ head_of (packetAt joined b cur)
+      head-same : head_of q ≡ head_of (packet_at joined b cur)
       head-same =
           head-agree (agree-more 4 cur t (omega (arith, cur-length some))) (omega arith)
-          (frameTime (unfinished joined)) (base joined + 58 + 188 * b)
+          (frame_time (unfinished joined)) (base joined + 58 + 188 * b)
 
       passed-now : reached 188 joined ≡ passed joined b
       passed-now = now_short 188 (omega arith) (omega arith) joined start b s.left v.split
@@ -475,7 +475,7 @@ module _ {k : List ℕ} {s : Walk} {joined : List ℕ} (start : 24 ≤ length jo
           record {
             stands = goes-t less rs rf ra rz rg rl rn rk;
             tells =
-                gains-same clear-t (passed joined b) (packetAt joined b cur) q head-same shown-old shown-t
+                gains-same clear-t (passed joined b) (packet_at joined b cur) q head-same shown-old shown-t
                 (more-short 188 (omega arith) (omega arith) joined start b s.left v.split t fits_on
                 (omega (arith, cur-t)) ∙ sym passed-now);
             calm = tt;
@@ -488,11 +488,11 @@ module _ {k : List ℕ} {s : Walk} {joined : List ℕ} (start : 24 ≤ length jo
             more-first 188 (omega arith) (omega arith) joined start b (s.left - 1) (as-suc some v.split) t fits_on
             (omega (arith, cur-t)) (omega (arith, cur-t))
 
-        cell-gains : (c : Cell) (time place : ℕ) → c ≡ cellIn time place (drop 58 k') → time ≡ frameTime k' →
+        cell-gains : (c : Cell) (time place : ℕ) → c ≡ cell_in time place (drop 58 k') → time ≡ frame_time k' →
             place + 188 ≡ s.fed + length t →
             Gains joined (joined ++ t) [] (c ∷ []) × Level (joined ++ t)
         cell-gains c time place ce te pe = (
-          rw is-q (gains-whole clear-t (passed joined b) (packetAt joined b cur)
+          rw is-q (gains-whole clear-t (passed joined b) (packet_at joined b cur)
               q head-same shown-old shown-t passed-now whole-now),
           level (joined ++ t) (passed joined b ++ q ∷ []) shown-t whole-now,
         )
@@ -502,7 +502,7 @@ module _ {k : List ℕ} {s : Walk} {joined : List ℕ} (start : 24 ≤ length jo
                 let p : place ≡ base joined + 58 + 188 * b = omega (arith, place-cell) in
                 ce ∙ rw (te, time-t, p)
                 (cell_agree (agree-cell 6 (omega arith) (omega arith)) (omega arith)
-                (frameTime (unfinished joined)) (base joined + 58 + 188 * b))
+                (frame_time (unfinished joined)) (base joined + 58 + 188 * b))
 
         cell-taken : r.status ≡ s.status → r.fed ≡ s.fed + length t → r.at ≡ s.at + length t →
             r.size ≡ s.size → r.got ≡ 0 → r.left ≡ s.left - 1 →
@@ -522,7 +522,7 @@ module _ {k : List ℕ} {s : Walk} {joined : List ℕ} (start : 24 ≤ length jo
             })
 
         pub cell-whole : (n : ℕ) (piece : List ℕ) (w : Walk) (c : Cell) (time place : ℕ) → Settles k' r w →
-            c ≡ cellIn time place (drop 58 k') → time ≡ frameTime k' →
+            c ≡ cell_in time place (drop 58 k') → time ≡ frame_time k' →
             place + 188 ≡ s.fed + length t → r.status ≡ s.status → r.fed ≡ s.fed + length t →
             r.at ≡ s.at + length t → r.size ≡ s.size → r.got ≡ 0 →
             r.left ≡ s.left - 1 → r.frames ≡ s.frames → r.skipped ≡ s.skipped →

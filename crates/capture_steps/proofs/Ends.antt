@@ -3,9 +3,9 @@ use Rattle.std.proofs.Common.{◌≡◌, ℕ, ◌+◌, ◌%◌, ◌^◌, ◌<◌
 use native.Mathlib.Decide.{dec_le}
 use borrow.Author.Tests.{lt-leb}
 use Rattle.rules.specs.Bytes.{pick}
-use Rattle.rules.specs.Frames.{storedLength, frameSize}
+use Rattle.rules.specs.Frames.{stored_length, frame_size}
 use Rattle.rules.specs.Packets.{carries, skipped}
-use Rattle.rules.specs.Capture.{wholeFrames, unfinished, frameCount, skippedCount}
+use Rattle.rules.specs.Capture.{whole_frames, unfinished, frame_count, skipped_count}
 use Rattle.capture_laws.proofs.Frames.{size-least}
 use Rattle.capture_laws.proofs.Onward.{whole_part, unfinished-part, whole-full, unfinished-full}
 use Rattle.capture_laws.proofs.Flow.{skipped-more}
@@ -19,28 +19,28 @@ use Rattle.capture_steps.proofs.Fits.{size_is}
 use Rattle.capture_steps.proofs.Front.{Held, held-agree}
 
 -- a frame too short for the three headers does not carry
-carries-short : (f : List ℕ) → storedLength f < 42 → carries f ≡ false
+carries-short : (f : List ℕ) → stored_length f < 42 → carries f ≡ false
 unfolding carries
-carries-short f h = rw (lt-leb 42 (storedLength f) h)
+carries-short f h = rw (lt-leb 42 (stored_length f) h)
 
 pub one_at_most : (b : Bool) → pick b 0 1 ≤ 1
 one_at_most true = omega arith
 one_at_most false = omega arith
 
 -- no more frames than bytes
-pub counts-few : (joined : List ℕ) → length joined ≤ 268435456 → (length (wholeFrames joined) ≤ 268435456)
-    × (skipped (wholeFrames joined) ≤ 268435456)
+pub counts-few : (joined : List ℕ) → length joined ≤ 268435456 → (length (whole_frames joined) ≤ 268435456)
+    × (skipped (whole_frames joined) ≤ 268435456)
 counts-few joined h =
-    let a : length (wholeFrames joined) ≤ length joined = unfold frameCount in frame-count-few joined in
-    let b : skipped (wholeFrames joined) ≤ length (wholeFrames joined) =
-    unfold frameCount skippedCount in skipped-few joined in
+    let a : length (whole_frames joined) ≤ length joined = unfold frame_count in frame-count-few joined in
+    let b : skipped (whole_frames joined) ≤ length (whole_frames joined) =
+    unfold frame_count skipped_count in skipped-few joined in
     (omega arith, omega arith)
 
 module _ {k : List ℕ} {s : Walk} {joined chunk : List ℕ} (v : Taken k s joined chunk) where
   onward : 24 ≤ length (joined ++ chunk)
   onward = let l = length-append joined chunk in let h = v.start in omega arith
 
-  pub goes_on : length (unfinished joined ++ chunk) < frameSize (unfinished joined ++ chunk) →
+  pub goes_on : length (unfinished joined ++ chunk) < frame_size (unfinished joined ++ chunk) →
       Stands k s (joined ++ chunk)
   goes_on h = live onward
       (rw (whole_part joined chunk v.start h, unfinished-part joined chunk v.start h) v.core)
@@ -48,7 +48,7 @@ module _ {k : List ℕ} {s : Walk} {joined chunk : List ℕ} (v : Taken k s join
   pub in-header : s.at < 16 → Stands k s (joined ++ chunk)
   in-header h = goes_on (let m = v.core.many in let l = size-least (unfinished joined ++ chunk) in omega arith)
 
-  size-known : 16 ≤ s.at → (s.size ≡ storedLength (unfinished joined ++ chunk)) × (s.size ≤ 65535)
+  size-known : 16 ≤ s.at → (s.size ≡ stored_length (unfinished joined ++ chunk)) × (s.size ≤ 65535)
   size-known h =
       let m = v.core.many in
       let g : 12 ≤ length (unfinished joined ++ chunk) = omega arith in
@@ -66,7 +66,7 @@ module _ {k : List ℕ} {s : Walk} {joined chunk : List ℕ} (v : Taken k s join
       goes_on (omega arith)
 
   module _ (h : 16 ≤ s.at) (g : (16 + s.size) % 2 ^ 64 ≤ s.at) where
-    all : length (unfinished joined ++ chunk) ≡ frameSize (unfinished joined ++ chunk)
+    all : length (unfinished joined ++ chunk) ≡ frame_size (unfinished joined ++ chunk)
     all =
         let z = size-known h in
         let e = z.0 in
@@ -91,7 +91,7 @@ module _ {k : List ℕ} {s : Walk} {joined chunk : List ℕ} (v : Taken k s join
           carries-short k (omega arith) ∙ sym (carries-short (unfinished joined ++ chunk) (omega arith))
     ]
 
-    counts : (length (wholeFrames joined) ≤ 268435456) × (skipped (wholeFrames joined) ≤ 268435456)
+    counts : (length (whole_frames joined) ≤ 268435456) × (skipped (whole_frames joined) ≤ 268435456)
     counts =
         let f = long_of (joined ++ chunk) (sound-of (joined ++ chunk) v.core.clear).long in
         let l = length-append joined chunk in
@@ -109,12 +109,12 @@ module _ {k : List ℕ} {s : Walk} {joined chunk : List ℕ} (v : Taken k s join
           clear = v.core.clear;
           fed = rf ∙ v.core.fed;
           frames =
-              let l = length-append (wholeFrames joined) ((unfinished joined ++ chunk) ∷ []) in
+              let l = length-append (whole_frames joined) ((unfinished joined ++ chunk) ∷ []) in
               let f = v.core.frames in
               let c = counts.0 in
               omega arith;
           skipped =
-              let l = skipped-more (wholeFrames joined) (unfinished joined ++ chunk) in
+              let l = skipped-more (whole_frames joined) (unfinished joined ++ chunk) in
               let f = v.core.skipped in
               let c = counts.1 in
               let q : r.skipped ≡ (s.skipped + pick (carries (unfinished joined ++ chunk)) 0 1) % 2 ^ 64 =

@@ -5,14 +5,14 @@ use native.Mathlib.Decide.{dec_lt}
 use Rattle.rules.specs.Bytes.{word32, count}
 use Rattle.rules.specs.Refusals.{none}
 use Rattle.rules.specs.Packets.{skipped}
-use Rattle.rules.specs.Capture.{earlier, isMagic, wrongMagic, wrongLink}
+use Rattle.rules.specs.Capture.{earlier, is_magic, wrong_magic, wrong_link}
 use Rattle.capture_laws.proofs.Onward.{header-alone}
 use Rattle.capture_laws.proofs.Flow.{reached}
 use Rattle.capture_laws.proofs.Format.{magic-more, magic-early, link-early, magic-shown, link-shown, reached-none}
 use Rattle.capture_cells.proofs.Agree.{magic-agree, link-agree}
 use Rattle.capture_steps.specs.declared.types.Walk.{Walk}
 use Rattle.capture_steps.specs.declared.types.Event.TheVariants.{Nothing, Refused}
-use Rattle.capture_steps.specs.Format.{formatFault}
+use Rattle.capture_steps.specs.Format.{format_fault}
 use Rattle.capture_steps.specs.State.{Head, head, live}
 use Rattle.capture_steps.specs.Contract.{Passed}
 use Rattle.capture_laws.proofs.Format.{Sound, sound-of, header-shows}
@@ -44,14 +44,14 @@ module _ {k : List ℕ} {s : Walk} {joined : List ℕ} (u : Head k s joined) (k'
   stood : length k' ≡ 64
   stood = pl.size ∙ u.room
 
-  shows : formatFault a ≡ earlier (wrongMagic a) (wrongLink a)
+  shows : format_fault a ≡ earlier (wrong_magic a) (wrong_link a)
   shows = header-shows a (omega (arith, size))
 
-  magic-kept : 4 ≤ s.fed → wrongMagic a ≡ none
+  magic-kept : 4 ≤ s.fed → wrong_magic a ≡ none
   unfolding a
   magic-kept h = magic-more joined t (omega (arith, u.fed)) ∙ sound.magic
 
-  no-link : s.fed + length t < 24 → wrongLink a ≡ none
+  no-link : s.fed + length t < 24 → wrong_link a ≡ none
   no-link h = link-early a (omega (arith, size))
 
   nothing : (d : ℕ) → 0 < d → d ≤ 188 → reached d a ≡ reached d joined
@@ -60,7 +60,7 @@ module _ {k : List ℕ} {s : Walk} {joined : List ℕ} (u : Head k s joined) (k'
 
   module _ (rs : r.status ≡ s.status) (rf : r.fed ≡ s.fed + length t) (ra : r.at ≡ s.at)
       (rn : r.frames ≡ s.frames) (rk : r.skipped ≡ s.skipped) where
-    head-on : formatFault a ≡ none → s.fed + length t < 24 →
+    head-on : format_fault a ≡ none → s.fed + length t < 24 →
         Passed k' (record { taken = n; walk = r; event = Nothing }) piece joined a
     head-on c l =
         record {
@@ -82,7 +82,7 @@ module _ {k : List ℕ} {s : Walk} {joined : List ℕ} (u : Head k s joined) (k'
         }
 
     -- the header is whole
-    head_done : formatFault a ≡ none → s.fed + length t ≡ 24 →
+    head_done : format_fault a ≡ none → s.fed + length t ≡ 24 →
         Passed k' (record { taken = n; walk = r; event = Nothing }) piece joined a
     head_done c l =
         record {
@@ -117,11 +117,11 @@ module _ {k : List ℕ} {s : Walk} {joined : List ℕ} (u : Head k s joined) (k'
         go (yes d) = let f = upto d in head-on (shows ∙ rw (magic-early a (omega (arith, size, x)), no-link l)) l
         go (no d) = head-on (shows ∙ rw (magic-kept (omega arith), no-link l)) l
 
-    pub file-magic : {b : Bool} → s.fed + length t ≡ 4 → b ≡ isMagic k' → b ≡ true →
+    pub file-magic : {b : Bool} → s.fed + length t ≡ 4 → b ≡ is_magic k' → b ≡ true →
         Passed k' (record { taken = n; walk = r; event = Nothing }) piece joined (joined ++ t)
     unfolding a
     file-magic l e f =
-        let m : isMagic a ≡ true =
+        let m : is_magic a ≡ true =
         sym (magic-agree (held-agree 4 held (omega (arith, size)) (omega arith)) (omega arith)) ∙ sym e ∙ f in
         head-on (shows ∙ rw (magic-shown a (omega (arith, size)), m, no-link (omega arith))) (omega arith)
 
@@ -139,11 +139,11 @@ module _ {k : List ℕ} {s : Walk} {joined : List ℕ} (u : Head k s joined) (k'
           | no d ↦ omega arith
         ]
 
-  pub file-bad-magic : {b : Bool} → s.fed + length t ≡ 4 → b ≡ isMagic k' → b ≡ false → r.status ≡ 5 → r.place ≡ 3 →
+  pub file-bad-magic : {b : Bool} → s.fed + length t ≡ 4 → b ≡ is_magic k' → b ≡ false → r.status ≡ 5 → r.place ≡ 3 →
       Passed k' (record { taken = n; walk = r; event = Refused }) piece joined (joined ++ t)
   unfolding a
   file-bad-magic l e f rs rp =
-      let m : isMagic a ≡ false =
+      let m : is_magic a ≡ false =
       sym (magic-agree (held-agree 4 held (omega (arith, size)) (omega arith)) (omega arith)) ∙ sym e ∙ f in
       refuse-now n 5 3 stood (shows ∙ rw (magic-shown a (omega (arith, size)), m, no-link (omega arith)))
       (omega arith) rs rp (shown-same joined a (nothing 4 (omega arith) (omega arith)))

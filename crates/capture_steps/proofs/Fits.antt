@@ -3,7 +3,7 @@ use Rattle.std.proofs.Common.{◌≡◌, ℕ, ◌+◌, ◌<◌, ◌≤◌, List,
 use native.Mathlib.Decide.{dec_le}
 use lib.ListN.{get_or-append}
 use Rattle.rules.specs.Bytes.{word32}
-use Rattle.rules.specs.Frames.{microseconds, storedLength, frameSize}
+use Rattle.rules.specs.Frames.{microseconds, stored_length, frame_size}
 use Rattle.capture_laws.specs.UnderWay.{Fine}
 use Rattle.capture_laws.proofs.Frames.{size-least, size-append}
 use Rattle.capture_steps.specs.Contract.{Within}
@@ -11,15 +11,15 @@ use Rattle.capture_steps.specs.Contract.{Within}
 pub longer : (r : List ℕ) (b : ℕ) → length (r ++ b ∷ []) ≡ length r + 1
 longer r b = length-append r (b ∷ [])
 
-pub fits-skip : (r t : List ℕ) → 16 ≤ length r → length r + length t ≤ frameSize r →
-    length (r ++ t) ≤ frameSize (r ++ t)
+pub fits-skip : (r t : List ℕ) → 16 ≤ length r → length r + length t ≤ frame_size r →
+    length (r ++ t) ≤ frame_size (r ++ t)
 fits-skip r t h k =
     let e = size-append r t h in
     let l = length-append r t in
     omega arith
 
-pub size_is : (r : List ℕ) → frameSize r ≡ 16 + storedLength r
-unfolding frameSize
+pub size_is : (r : List ℕ) → frame_size r ≡ 16 + stored_length r
+unfolding frame_size
 size_is r = omega arith
 
 module _ (r t : List ℕ) where
@@ -33,8 +33,8 @@ module _ (r t : List ℕ) where
         get_or-append r t 0 7 (omega arith),
       )
 
-  pub stored_more : 12 ≤ length r → storedLength (r ++ t) ≡ storedLength r
-  unfolding storedLength word32
+  pub stored_more : 12 ≤ length r → stored_length (r ++ t) ≡ stored_length r
+  unfolding stored_length word32
   stored_more h =
       rw (
         get_or-append r t 0 8 (omega arith),
@@ -55,8 +55,8 @@ module _ (r t : List ℕ) (size : ℕ) (f : Fine r) (v : Within (length r) size 
   total : length (r ++ t) ≡ length r + length t
   total = length-append r t
 
-  pub fits-run : length r < frameSize r → (12 ≤ length r → size ≡ storedLength r) →
-      length (r ++ t) ≤ frameSize (r ++ t)
+  pub fits-run : length r < frame_size r → (12 ≤ length r → size ≡ stored_length r) →
+      length (r ++ t) ≤ frame_size (r ++ t)
   fits-run short known = elim (dec_le 16 (length r)) [
     | yes h ↦
         let e = size-append r t h in

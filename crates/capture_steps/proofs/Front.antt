@@ -4,8 +4,8 @@ use Rattle.std.proofs.Common.{◌≡◌, ℕ, ◌+◌, ◌-◌, ◌<◌, ◌≤�
 use native.Mathlib.Decide.{dec_lt}
 use lib.ListN.{get_or-append}
 use Rattle.rules.specs.Bytes.{byte}
-use Rattle.rules.specs.Frames.{microseconds, storedLength, frameSize}
-use Rattle.rules.specs.Capture.{wholeFrames, unfinished}
+use Rattle.rules.specs.Frames.{microseconds, stored_length, frame_size}
+use Rattle.rules.specs.Capture.{whole_frames, unfinished}
 use Rattle.capture_laws.specs.UnderWay.{count_of, Fine}
 use Rattle.capture_laws.proofs.Onward.{base, base_sum, unfinished-short}
 use Rattle.capture_laws.proofs.Flow.{reached, early}
@@ -13,7 +13,7 @@ use Rattle.capture_cells.specs.Cells.{Agree}
 use Rattle.capture_cells.proofs.Agree.{micro-agree, stored-agree, count-agree}
 use Rattle.capture_steps.specs.declared.types.Walk.{Walk}
 use Rattle.capture_steps.specs.declared.types.Event.TheVariants.{Nothing, Refused}
-use Rattle.capture_steps.specs.Format.{shownCells}
+use Rattle.capture_steps.specs.Format.{shown_cells}
 use Rattle.capture_steps.specs.State.{Under, Core}
 use Rattle.capture_steps.specs.Contract.{Carried, Within, Taken, Settles, Passed}
 use Rattle.capture_laws.proofs.Format.{Sound, sound-of, fine-now, next-none, next-seven, next-eight}
@@ -60,7 +60,7 @@ held_more {k} {k'} {r} {t} h p = record { held = λ i x y. go i x y (dec_lt i (l
         rw (← e) (p.new j (omega arith) ∙ sym g)
 
 module _ {k : List ℕ} {s : Walk} {joined : List ℕ} (start : 24 ≤ length joined)
-    (u : Core k s (wholeFrames joined) (unfinished joined) joined)
+    (u : Core k s (whole_frames joined) (unfinished joined) joined)
     (k' : List ℕ) (r : Walk) (t : List ℕ) (pl : Placed k s.at t k')
     (v : Within s.at s.size (length t))
     (room : s.fed + length t ≤ 268435456) where
@@ -79,7 +79,7 @@ module _ {k : List ℕ} {s : Walk} {joined : List ℕ} (start : 24 ≤ length jo
   field : Within (length (unfinished joined)) s.size (length t)
   field = rw (← u.many) v
 
-  fits : length (unfinished joined ++ t) ≤ frameSize (unfinished joined ++ t)
+  fits : length (unfinished joined ++ t) ≤ frame_size (unfinished joined ++ t)
   fits = fits-run (unfinished joined) t s.size fine field (unfinished-short joined) u.size
 
   held : Held k' (unfinished joined ++ t)
@@ -98,7 +98,7 @@ module _ {k : List ℕ} {s : Walk} {joined : List ℕ} (start : 24 ≤ length jo
   module _ (n : ℕ) (piece : List ℕ) (w : Walk) (st : Settles k' r w) (rs : r.status ≡ s.status)
       (rf : r.fed ≡ s.fed + length t) (ra : r.at ≡ s.at + length t) (rn : r.frames ≡ s.frames)
       (rk : r.skipped ≡ s.skipped) where
-    taken : Fine (unfinished joined ++ t) → (12 ≤ s.at + length t → r.size ≡ storedLength (unfinished joined ++ t)) →
+    taken : Fine (unfinished joined ++ t) → (12 ≤ s.at + length t → r.size ≡ stored_length (unfinished joined ++ t)) →
         (58 ≤ s.at + length t → Under k' r (unfinished joined ++ t)) → Taken k' r joined t
     taken f z un =
         record {
@@ -134,7 +134,7 @@ module _ {k : List ℕ} {s : Walk} {joined : List ℕ} (start : 24 ≤ length jo
 
     -- of the header
     pub header-on : s.at + length t ≤ 16 → (8 ≤ s.at + length t → microseconds k' ≤ 999999) →
-        (12 ≤ s.at + length t → (storedLength k' ≤ 65535) × (r.size ≡ storedLength k')) → Here
+        (12 ≤ s.at + length t → (stored_length k' ≤ 65535) × (r.size ≡ stored_length k')) → Here
     header-on e m z =
         done (taken
         (record {
@@ -158,7 +158,7 @@ module _ {k : List ℕ} {s : Walk} {joined : List ℕ} (start : 24 ≤ length jo
       fine-on : Fine (unfinished joined ++ t)
       fine-on = fine-skip (unfinished joined) t known fine
 
-      size-on : r.size ≡ storedLength (unfinished joined ++ t)
+      size-on : r.size ≡ stored_length (unfinished joined ++ t)
       size-on = e ∙ u.size known ∙ sym (stored_more (unfinished joined) t known)
 
       pub front-plain : (s.at + length t ≡ 58 → ⊥) → Here
@@ -183,7 +183,7 @@ module _ {k : List ℕ} {s : Walk} {joined : List ℕ} (start : 24 ≤ length jo
           }))
 
   -- 7 and 8
-  hushed : shownCells (joined ++ t) ≡ shownCells joined
+  hushed : shown_cells (joined ++ t) ≡ shown_cells joined
   hushed = shown-same joined (joined ++ t) (quiet 4 (omega arith) (omega arith))
 
   pub front-bad-time : (n : ℕ) (piece : List ℕ) → 8 ≤ s.at + length t → 999999 < microseconds k' → r.status ≡ 7 →
@@ -197,7 +197,7 @@ module _ {k : List ℕ} {s : Walk} {joined : List ℕ} (start : 24 ≤ length jo
       (omega arith) rs (rp ∙ omega (arith, place-now, u.many)) hushed
 
   pub front-bad-size : (n : ℕ) (piece : List ℕ) → 12 ≤ s.at + length t → microseconds k' ≤ 999999 →
-      65535 < storedLength k' → r.status ≡ 8 → r.place ≡ s.fed + 11 - s.at →
+      65535 < stored_length k' → r.status ≡ 8 → r.place ≡ s.fed + 11 - s.at →
       Passed k' (record { taken = n; walk = r; event = Refused }) piece joined (joined ++ t)
   front-bad-size n piece e m h rs rp =
       let f = micro-agree (held-agree 8 held (omega (arith, many)) (omega arith)) (omega arith) in

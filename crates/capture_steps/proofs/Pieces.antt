@@ -2,17 +2,17 @@
 use Rattle.std.proofs.Common.{◌≡◌, ℕ, ◌+◌, ◌<◌, ◌≤◌, List, [], ◌∷◌, length, take, drop, ap, arith, length-drop, length-take-le, take_all}
 use lib.Seq.{sets, sets-eq}
 use Rattle.rules.specs.Refusals.{fault}
-use Rattle.rules.specs.Capture.{wholeFrames, unfinished}
+use Rattle.rules.specs.Capture.{whole_frames, unfinished}
 use Rattle.capture_steps.specs.declared.types.Walk.{Walk}
 use Rattle.capture_steps.specs.declared.types.Event.TheVariants.{Refused}
-use Rattle.capture_steps.specs.Format.{formatFault, shownCells}
+use Rattle.capture_steps.specs.Format.{format_fault, shown_cells}
 use Rattle.capture_steps.specs.State.{loaded, Core, Head, Stands, refused, head, live}
 use Rattle.capture_steps.specs.Contract.{silent, Passed}
 
 -- ---- a state that has refused nothing
 
 pub at-live : {k : List ℕ} {s : Walk} {joined : List ℕ} → s.status ≡ 0 → 24 ≤ s.fed → Stands k s joined →
-    (24 ≤ length joined) × Core k s (wholeFrames joined) (unfinished joined) joined
+    (24 ≤ length joined) × Core k s (whole_frames joined) (unfinished joined) joined
 at-live h k (refused l e p) = absurd (omega arith)
 at-live h k (head v) = absurd (omega (arith, v.fed, v.short))
 at-live h k (live g v) = (g, v)
@@ -25,8 +25,8 @@ at_head h k (live g v) = absurd (omega (arith, v.fed))
 
 -- a refusal that a turn's bytes show: they show no cell
 pub refuse-now : {kept : List ℕ} {r : Walk} {piece joined a : List ℕ} (n k p : ℕ) → length kept ≡ 64 →
-    formatFault a ≡ fault k p → 0 < k → r.status ≡ k → r.place ≡ p →
-    shownCells a ≡ shownCells joined → Passed kept (record { taken = n; walk = r; event = Refused }) piece joined a
+    format_fault a ≡ fault k p → 0 < k → r.status ≡ k → r.place ≡ p →
+    shown_cells a ≡ shown_cells joined → Passed kept (record { taken = n; walk = r; event = Refused }) piece joined a
 refuse-now n k p l e h a b g =
     record { stands = refused l (rw (e, a, b)) (omega arith); tells = (rw (e, a, b), silent g); calm = g }
 

@@ -5,10 +5,10 @@ use native.Mathlib.Decide.{dec_le}
 use lib.Seq.{drop-append-le}
 use Rattle.rules.specs.Bytes.{pick}
 use Rattle.rules.specs.Refusals.{none}
-use Rattle.rules.specs.Frames.{microseconds, storedLength, frameSize, frameTime}
-use Rattle.rules.specs.Packets.{Packet, carries, holdsHeaders, isIpv4, is_plain, isUnfragmented, isUdp, lengthsAgree}
-use Rattle.rules.specs.Packets.{isStoredWhole, holdsPackets, udpLength, packetsFrom, packets, skipped}
-use Rattle.rules.specs.Capture.{wholeFrames, unfinished}
+use Rattle.rules.specs.Frames.{microseconds, stored_length, frame_size, frame_time}
+use Rattle.rules.specs.Packets.{Packet, carries, holds_headers, is_ipv4, is_plain, is_unfragmented, is_udp, lengths_agree}
+use Rattle.rules.specs.Packets.{is_stored_whole, holds_packets, udp_length, packets_from, packets, skipped}
+use Rattle.rules.specs.Capture.{whole_frames, unfinished}
 use Rattle.capture_laws.specs.UnderWay.{count_of, Fine}
 use Rattle.rules.proofs.Laws.Lists.{both}
 use Rattle.capture_laws.proofs.Onward.{base, base_sum, whole-full, unfinished-full, of-from, time-more}
@@ -18,7 +18,7 @@ use Rattle.capture_laws.proofs.Format.{Sound, sound-of, next-none}
 use Rattle.capture_cells.specs.Cells.{cell_of}
 use Rattle.capture_steps.specs.declared.types.Walk.{Walk}
 use Rattle.capture_steps.specs.declared.types.Event.TheVariants.{Nothing, Cells}
-use Rattle.capture_steps.specs.Format.{formatFault, cellsFrom}
+use Rattle.capture_steps.specs.Format.{format_fault, cells_from}
 use Rattle.capture_steps.specs.State.{Core, Stands, live}
 use Rattle.capture_steps.specs.Contract.{Ahead, Passed}
 use Rattle.capture_steps.proofs.Lists.{from-cells, gains-none, gains-many, level}
@@ -34,7 +34,7 @@ carries-some : (f : List ℕ) → 0 < count_of f → carries f ≡ true
 unfolding count_of
 carries-some f = go (carries f)
   where
-    go : (b : Bool) → 0 < pick b ((udpLength f - 8) / 188) 0 → b ≡ true
+    go : (b : Bool) → 0 < pick b ((udp_length f - 8) / 188) 0 → b ≡ true
     go true h = refl
     go false h = absurd (omega arith)
 
@@ -42,19 +42,19 @@ carries-none : (f : List ℕ) → count_of f ≡ 0 → carries f ≡ false
 unfolding count_of
 carries-none f = go (carries f) refl
   where
-    go : (b : Bool) → carries f ≡ b → pick b ((udpLength f - 8) / 188) 0 ≡ 0 → b ≡ false
+    go : (b : Bool) → carries f ≡ b → pick b ((udp_length f - 8) / 188) 0 ≡ 0 → b ≡ false
     go false e h = refl
     go true e h = unfold carries in
-        let front = holdsHeaders f && isIpv4 f && is_plain f && isUnfragmented f && isUdp f && lengthsAgree f
-        && isStoredWhole f in
-        let p = both front (holdsPackets f) e in
-        let u = both (ltb 8 (udpLength f)) (eqb ((udpLength f - 8) % 188) 0) p.1 in
-        let some = ltb-true 8 (udpLength f) u.0 in
-        let fits = eqb-true ((udpLength f - 8) % 188) 0 u.1 in
+        let front = holds_headers f && is_ipv4 f && is_plain f && is_unfragmented f && is_udp f && lengths_agree f
+        && is_stored_whole f in
+        let p = both front (holds_packets f) e in
+        let u = both (ltb 8 (udp_length f)) (eqb ((udp_length f - 8) % 188) 0) p.1 in
+        let some = ltb-true 8 (udp_length f) u.0 in
+        let fits = eqb-true ((udp_length f - 8) % 188) 0 u.1 in
         absurd (omega arith)
 
 module _ {k : List ℕ} {s : Walk} {joined : List ℕ} (start : 24 ≤ length joined)
-    (u : Core k s (wholeFrames joined) (unfinished joined) joined)
+    (u : Core k s (whole_frames joined) (unfinished joined) joined)
     (x : List ℕ) (n : ℕ) (a : Ahead s x n) where
   abbrev f : List ℕ
   f = take n x
@@ -68,8 +68,8 @@ module _ {k : List ℕ} {s : Walk} {joined : List ℕ} (start : 24 ≤ length jo
   far : 58 ≤ length f
   far = rw long a.long
 
-  stored : storedLength f ≡ storedLength x
-  stored = sym (stored_more f (drop n x) (omega (arith, far))) ∙ ap storedLength (take-append-drop n x)
+  stored : stored_length f ≡ stored_length x
+  stored = sym (stored_more f (drop n x) (omega (arith, far))) ∙ ap stored_length (take-append-drop n x)
 
   micro : microseconds f ≡ microseconds x
   micro = sym (micro-more f (drop n x) (omega (arith, far))) ∙ ap microseconds (take-append-drop n x)
@@ -77,19 +77,19 @@ module _ {k : List ℕ} {s : Walk} {joined : List ℕ} (start : 24 ≤ length jo
   count-is : count_of x ≡ count_of f
   count-is = ap count_of (sym (take-append-drop n x)) ∙ count-more f (drop n x) far
 
-  time-is : frameTime x ≡ frameTime f
-  time-is = ap frameTime (sym (take-append-drop n x)) ∙ time-more f (drop n x) far
+  time-is : frame_time x ≡ frame_time f
+  time-is = ap frame_time (sym (take-append-drop n x)) ∙ time-more f (drop n x) far
 
-  size : frameSize f ≡ n
+  size : frame_size f ≡ n
   size = size_is f ∙ rw stored (sym a.size)
 
   joined-f : unfinished joined ++ f ≡ f
   joined-f = rw empty refl
 
-  all : length (unfinished joined ++ f) ≡ frameSize (unfinished joined ++ f)
+  all : length (unfinished joined ++ f) ≡ frame_size (unfinished joined ++ f)
   all = rw joined-f (long ∙ sym size)
 
-  fits : length (unfinished joined ++ f) ≤ frameSize (unfinished joined ++ f)
+  fits : length (unfinished joined ++ f) ≤ frame_size (unfinished joined ++ f)
   fits = let e = all in omega arith
 
   fine : Fine (unfinished joined ++ f)
@@ -101,15 +101,15 @@ module _ {k : List ℕ} {s : Walk} {joined : List ℕ} (start : 24 ≤ length jo
   sound : Sound joined
   sound = sound-of joined u.clear
 
-  clear : formatFault (joined ++ f) ≡ none
+  clear : format_fault (joined ++ f) ≡ none
   clear = next-none joined f start fits few sound fine
 
   -- the cells so far, and the frame's
   abbrev old : List Packet
-  old = packets 24 (wholeFrames joined)
+  old = packets 24 (whole_frames joined)
 
   abbrev new : List Packet
-  new = packetsFrom (count_of f) (frameTime f) (base joined + 58) (drop 58 f)
+  new = packets_from (count_of f) (frame_time f) (base joined + 58) (drop 58 f)
 
   room : 0 < count_of f → 58 + 188 * count_of f ≤ n
   room h = let r = roomy f h in let e = size in omega arith
@@ -130,20 +130,20 @@ module _ {k : List ℕ} {s : Walk} {joined : List ℕ} (start : 24 ≤ length jo
       ∙ rw (
         joined-f,
         of-from (base joined) f,
-        from-whole d small (count_of f) (frameTime f) (base joined + 58) (drop 58 f) whole,
+        from-whole d small (count_of f) (frame_time f) (base joined + 58) (drop 58 f) whole,
       )
 
   -- they are taken as they stand in the piece
-  as-they-stand : packetsFrom (count_of x) (frameTime x) (base joined + 58) (drop 58 x) ≡ new
+  as-they-stand : packets_from (count_of x) (frame_time x) (base joined + 58) (drop 58 x) ≡ new
   as-they-stand =
       let e : drop 58 x ≡ drop 58 f ++ drop n x =
       ap (drop 58) (sym (take-append-drop n x)) ∙ drop-append-le 58 f (drop n x) far in
-      rw (count-is, time-is, e) (from-done (count_of f) (frameTime f) (base joined + 58) (drop 58 f) (drop n x) whole)
+      rw (count-is, time-is, e) (from-done (count_of f) (frame_time f) (base joined + 58) (drop 58 f) (drop n x) whole)
 
   place : base joined ≡ s.fed
   place = let e = base_sum joined start in let g = u.many in let h = u.fed in let z = a.next in omega arith
 
-  numbers : (length (wholeFrames joined) ≤ 268435456) × (skipped (wholeFrames joined) ≤ 268435456)
+  numbers : (length (whole_frames joined) ≤ 268435456) × (skipped (whole_frames joined) ≤ 268435456)
   numbers = let l = length-append joined f in let g = few in counts-few joined (omega arith)
 
   -- behind the frame
@@ -159,12 +159,12 @@ module _ {k : List ℕ} {s : Walk} {joined : List ℕ} (start : 24 ≤ length jo
         clear = clear;
         fed = let l = length-append joined f in let m = u.fed in let g = long in omega arith;
         frames =
-            let l = length-append (wholeFrames joined) (f ∷ []) in
+            let l = length-append (whole_frames joined) (f ∷ []) in
             let m = u.frames in
             let g = numbers.0 in
             omega arith;
         skipped =
-            let l = skipped-more (wholeFrames joined) f in
+            let l = skipped-more (whole_frames joined) f in
             let m = u.skipped in
             let g = numbers.1 in
             let p = one_at_most (carries f) in
@@ -180,7 +180,7 @@ module _ {k : List ℕ} {s : Walk} {joined : List ℕ} (start : 24 ≤ length jo
       r.fed ≡ s.fed + n → r.at ≡ s.at →
       r.frames ≡ (s.frames + 1) % 2 ^ 64 → r.skipped ≡ (s.skipped + 1) % 2 ^ 64 →
       Passed k (record { taken = m; walk = r; event = Nothing }) piece joined (joined ++ f)
-  unfolding packetsFrom
+  unfolding packets_from
   frame-skipped m piece r e z rs rf ra rn rk =
       let c : count_of f ≡ 0 = sym count-is ∙ sym e ∙ z in
       let d : carries f ≡ false = carries-none f c in
@@ -196,7 +196,7 @@ module _ {k : List ℕ} {s : Walk} {joined : List ℕ} (start : 24 ≤ length jo
 
   -- it has some
   pub frame-counted : {c τ : ℕ} (m : ℕ) (piece : List ℕ) (i : ℕ) (r : Walk) → x ≡ drop i piece → c ≡ count_of x →
-      (c ≡ 0 → ⊥) → τ ≡ frameTime x →
+      (c ≡ 0 → ⊥) → τ ≡ frame_time x →
       r.status ≡ s.status → r.fed ≡ s.fed + n → r.at ≡ s.at → r.frames ≡ (s.frames + 1) % 2 ^ 64 →
       r.skipped ≡ s.skipped →
       Passed k (record {
@@ -208,8 +208,8 @@ module _ {k : List ℕ} {s : Walk} {joined : List ℕ} (start : 24 ≤ length jo
       let some : 0 < count_of f = omega (arith, count-is, e, z) in
       let y : carries f ≡ true = carries-some f some in
       let d : drop (i + 58) piece ≡ drop 58 x = sym (rw xe (drop-drop 58 i piece)) in
-      let cs : map cell_of new ≡ cellsFrom c τ (s.fed + 58) (drop (i + 58) piece) =
-      ap (map cell_of) (sym as-they-stand) ∙ from-cells (count_of x) (frameTime x) (base joined + 58) (drop 58 x)
+      let cs : map cell_of new ≡ cells_from c τ (s.fed + 58) (drop (i + 58) piece) =
+      ap (map cell_of) (sym as-they-stand) ∙ from-cells (count_of x) (frame_time x) (base joined + 58) (drop 58 x)
       ∙ rw (place, e, te, d) in
       record {
         stands =
@@ -219,7 +219,7 @@ module _ {k : List ℕ} {s : Walk} {joined : List ℕ} (start : 24 ≤ length jo
             let h = u.skipped in
             omega arith);
         tells = (
-          gains-many clear old new (cellsFrom c τ (s.fed + 58) (drop (i + 58) piece)) cs
+          gains-many clear old new (cells_from c τ (s.fed + 58) (drop (i + 58) piece)) cs
               (reached-old 4 (omega arith) (omega arith)) (reached-old 188 (omega arith) (omega arith))
               (reached-new 4 (omega arith) (omega arith)) (reached-new 188 (omega arith) (omega arith)),
           level joined old (reached-old 4 (omega arith) (omega arith)) (reached-old 188 (omega arith) (omega arith)),

@@ -2,8 +2,8 @@
 use Prim.{Unit}
 use Rattle.std.specs.Prelude.{◌≡◌, ℕ, ◌+◌, ◌*◌, ◌<◌, ◌≤◌, List, [], ◌∷◌, ◌++◌, map, length, take, drop, slice_index}
 use Rattle.rules.specs.Refusals.{none, fault}
-use Rattle.rules.specs.Frames.{microseconds, storedLength, frameSize}
-use Rattle.rules.specs.Capture.{wholeFrames, unfinished}
+use Rattle.rules.specs.Frames.{microseconds, stored_length, frame_size}
+use Rattle.rules.specs.Capture.{whole_frames, unfinished}
 use Rattle.capture_laws.specs.UnderWay.{Fine}
 use Rattle.capture_cells.specs.declared.Cell.{Cell}
 use Rattle.capture_cells.specs.Cells.{head}
@@ -12,30 +12,30 @@ use Rattle.capture_steps.specs.declared.types.Run.{Run}
 use Rattle.capture_steps.specs.declared.types.Event.{Event}
 use Rattle.capture_steps.specs.declared.types.Event.TheVariants.{Nothing, Shown, Whole, Cells, Refused}
 use Rattle.capture_steps.specs.declared.types.Step.{Step}
-use Rattle.capture_steps.specs.Format.{formatFault, shownCells, wholeCells, cellsFrom}
+use Rattle.capture_steps.specs.Format.{format_fault, shown_cells, whole_cells, cells_from}
 use Rattle.capture_steps.specs.State.{loaded, Core, Stands}
 
 -- ---- a step
 
 -- from the joined bytes to those with more behind them: no refusal, these cells are shown, these are whole
 pub record Gains (before after : List ℕ) (news fulls : List Cell) : Type 0 where
-  pub clear : formatFault after ≡ none
-  pub shown : shownCells after ≡ shownCells before ++ news
-  pub whole : wholeCells after ≡ wholeCells before ++ fulls
+  pub clear : format_fault after ≡ none
+  pub shown : shown_cells after ≡ shown_cells before ++ news
+  pub whole : whole_cells after ≡ whole_cells before ++ fulls
 
 -- every cell that is shown is whole: none is under way
 abbrev pub Level : List ℕ → Type 0
-Level joined = shownCells joined ≡ map head (wholeCells joined)
+Level joined = shown_cells joined ≡ map head (whole_cells joined)
 
 abbrev pub cells_of : Run → List ℕ → List Cell
-cells_of r piece = cellsFrom r.many r.time r.place (drop r.at piece)
+cells_of r piece = cells_from r.many r.time r.place (drop r.at piece)
 
 -- why no cell is shown before the place of a refusal: it stands already; or it is the first of these
 -- bytes; or they show no cell
 pub data Halts (s : Walk) (before after : List ℕ) : Type 0 where
-  again : formatFault before ≡ fault s.status s.place → Halts s before after
+  again : format_fault before ≡ fault s.status s.place → Halts s before after
   surplus : s.place ≡ length before → Halts s before after
-  silent : shownCells after ≡ shownCells before → Halts s before after
+  silent : shown_cells after ≡ shown_cells before → Halts s before after
 
 -- what an event tells, of the joined bytes before and after
 abbrev pub Tells : Event → Walk → List ℕ → List ℕ → List ℕ → Type 0
@@ -43,7 +43,7 @@ Tells Nothing s piece before after = Gains before after [] []
 Tells (Shown c) s piece before after = Gains before after (c ∷ []) [] × Level before
 Tells (Whole c) s piece before after = Gains before after [] (c ∷ []) × Level after
 Tells (Cells r) s piece before after = Gains before after (map head (cells_of r piece)) (cells_of r piece) × Level before
-Tells Refused s piece before after = (formatFault after ≡ fault s.status s.place) × Halts s before after
+Tells Refused s piece before after = (format_fault after ≡ fault s.status s.place) × Halts s before after
 
 -- the whole cells that an event brings
 abbrev pub whole_of : Event → List ℕ → List Cell
@@ -67,7 +67,7 @@ Calm Nothing before after = Unit {0}
 Calm (Shown c) before after = Unit {0}
 Calm (Whole c) before after = Unit {0}
 Calm (Cells r) before after = Unit {0}
-Calm Refused before after = shownCells after ≡ shownCells before
+Calm Refused before after = shown_cells after ≡ shown_cells before
 
 -- the walk behind the bytes of a turn, and what they brought
 pub record Passed (kept : List ℕ) (r : Step) (piece before after : List ℕ) : Type 0 where
@@ -120,9 +120,9 @@ pub record Ahead (s : Walk) (x : List ℕ) (n : ℕ) : Type 0 where
   pub behind : 24 ≤ s.fed
   pub limit : s.fed + n ≤ 268435456
   pub there : n ≤ length x
-  pub size : n ≡ 16 + storedLength x
+  pub size : n ≡ 16 + stored_length x
   pub long : 58 ≤ n
-  pub stored : storedLength x ≤ 65535
+  pub stored : stored_length x ≤ 65535
   pub time : microseconds x ≤ 999999
 
 -- m cells are next and all there in `left` bytes
@@ -135,16 +135,16 @@ pub record Runs (s : Walk) (left m : ℕ) : Type 0 where
 -- bytes of a frame that are taken in, and do not pass its end
 pub record Taken (kept : List ℕ) (s : Walk) (joined chunk : List ℕ) : Type 0 where
   pub start : 24 ≤ length joined
-  pub fits : length (unfinished joined ++ chunk) ≤ frameSize (unfinished joined ++ chunk)
+  pub fits : length (unfinished joined ++ chunk) ≤ frame_size (unfinished joined ++ chunk)
   pub fine : Fine (unfinished joined ++ chunk)
-  pub core : Core kept s (wholeFrames joined) (unfinished joined ++ chunk) (joined ++ chunk)
+  pub core : Core kept s (whole_frames joined) (unfinished joined ++ chunk) (joined ++ chunk)
 
 abbrev pub Settles : List ℕ → Walk → Walk → Type 0
 Settles kept s r = (joined chunk : List ℕ) → Taken kept s joined chunk → Stands kept r (joined ++ chunk)
 
 -- s, refused
-abbrev pub refusedAs : Walk → ℕ → ℕ → Walk
-refusedAs s k p =
+abbrev pub refused_as : Walk → ℕ → ℕ → Walk
+refused_as s k p =
     record {
       status = k;
       place = p;

@@ -3,12 +3,12 @@
 use Rattle.std.specs.Prelude.{◌≡◌, ℕ, ◌+◌, ◌*◌, ◌<◌, ◌≤◌, List, length, slice_index}
 use Rattle.rules.specs.Bytes.{byte}
 use Rattle.rules.specs.Refusals.{none, fault}
-use Rattle.rules.specs.Frames.{storedLength}
+use Rattle.rules.specs.Frames.{stored_length}
 use Rattle.rules.specs.Packets.{skipped}
-use Rattle.rules.specs.Capture.{wholeFrames, unfinished}
+use Rattle.rules.specs.Capture.{whole_frames, unfinished}
 use Rattle.capture_laws.specs.UnderWay.{Split, current}
 use Rattle.capture_steps.specs.declared.types.Walk.{Walk}
-use Rattle.capture_steps.specs.Format.{formatFault}
+use Rattle.capture_steps.specs.Format.{format_fault}
 
 abbrev pub loaded : List ℕ → Walk
 loaded w =
@@ -37,12 +37,12 @@ pub record Under (kept : List ℕ) (s : Walk) (r : List ℕ) : Type 0 where
 pub record Core (kept : List ℕ) (s : Walk) (fs : List (List ℕ)) (r joined : List ℕ) : Type 0 where
   pub room : length kept ≡ 64
   pub status : s.status ≡ 0
-  pub clear : formatFault joined ≡ none
+  pub clear : format_fault joined ≡ none
   pub fed : s.fed ≡ length joined
   pub frames : s.frames ≡ length fs
   pub skipped : s.skipped ≡ skipped fs
   pub many : s.at ≡ length r
-  pub size : 12 ≤ length r → s.size ≡ storedLength r
+  pub size : 12 ≤ length r → s.size ≡ stored_length r
   pub bytes : (i : ℕ) → i < length r → i < 58 → slice_index kept i ≡ byte r i
   pub under : 58 ≤ length r → Under kept s r
 
@@ -50,7 +50,7 @@ pub record Core (kept : List ℕ) (s : Walk) (fs : List (List ℕ)) (r joined : 
 pub record Head (kept : List ℕ) (s : Walk) (joined : List ℕ) : Type 0 where
   pub room : length kept ≡ 64
   pub status : s.status ≡ 0
-  pub clear : formatFault joined ≡ none
+  pub clear : format_fault joined ≡ none
   pub fed : s.fed ≡ length joined
   pub short : length joined < 24
   pub frames : s.frames ≡ 0
@@ -61,9 +61,9 @@ pub record Head (kept : List ℕ) (s : Walk) (joined : List ℕ) : Type 0 where
 -- the collected bytes and the numbers stand for the joined bytes: a refusal stands; or the file header is not whole;
 -- or the frames are under way
 pub data Stands (kept : List ℕ) (s : Walk) (joined : List ℕ) : Type 0 where
-  refused : length kept ≡ 64 → formatFault joined ≡ fault s.status s.place → 0 < s.status → Stands kept s joined
+  refused : length kept ≡ 64 → format_fault joined ≡ fault s.status s.place → 0 < s.status → Stands kept s joined
   head : Head kept s joined → Stands kept s joined
-  live : 24 ≤ length joined → Core kept s (wholeFrames joined) (unfinished joined) joined → Stands kept s joined
+  live : 24 ≤ length joined → Core kept s (whole_frames joined) (unfinished joined) joined → Stands kept s joined
 
 -- as they lie in the lent arrays between calls
 pub record Means (words kept joined : List ℕ) : Type 0 where

@@ -1,7 +1,7 @@
 // The walk's numbers: in the lent words, refused, and in a step.
 ghost use Rattle.std.specs.Prelude.{◌≡◌};
 ghost use Rattle.capture_steps.specs.State.{loaded};
-ghost use Rattle.capture_steps.specs.Contract.{refusedAs, Stored};
+ghost use Rattle.capture_steps.specs.Contract.{refused_as, Stored};
 
 use crate::types::{Event, Step, Walk, WalkWords};
 
@@ -36,7 +36,7 @@ pub fn store(words: &mut WalkWords, s: Walk)
 }
 
 pub fn refused(s: Walk, number: u64, place: u64) -> Walk
-    ensures { result ≡ refusedAs s number place }
+    ensures { result ≡ refused_as s number place }
 {
     let mut r = s;
     r.status = number;

@@ -1,7 +1,7 @@
 -- The table of units: what a unit's words are after they are set, and THE FRAME: every other unit is as it was.
 use Rattle.std.proofs.Common.{◌≡◌, ℕ, ◌+◌, ◌*◌, ◌<◌, ◌≤◌, List, length, get_or, set, ◌∙◌, arith, length-set, get_or-set_other, get_or-set_same}
 use Rattle.capture_units.specs.declared.Unit.{Unit}
-use Rattle.capture_units.specs.State.{unit_at, unitSet}
+use Rattle.capture_units.specs.State.{unit_at, unit_set}
 
 -- five words at a
 abbrev five : List ℕ → ℕ → Unit → List ℕ
@@ -15,26 +15,26 @@ five-other : (w : List ℕ) (a : ℕ) (u : Unit) (i : ℕ) →
 five-other w a u i h h₁ h₂ h₃ h₄ = rw (get_or-set_other, get_or-set_other, get_or-set_other, get_or-set_other, get_or-set_other)
 
 -- THE FRAME
-pub unit-other : (w : List ℕ) (u : Unit) (j k : ℕ) → (k ≡ j → ⊥) → unit_at (unitSet w j u) k ≡ unit_at w k
+pub unit-other : (w : List ℕ) (u : Unit) (j k : ℕ) → (k ≡ j → ⊥) → unit_at (unit_set w j u) k ≡ unit_at w k
 unit-other w u j k ne = rw (first, at 1 (omega arith), at 2 (omega arith), at 3 (omega arith), at 4 (omega arith))
   where
-    first : get_or (unitSet w j u) (5 * k) 0 ≡ get_or w (5 * k) 0
+    first : get_or (unit_set w j u) (5 * k) 0 ≡ get_or w (5 * k) 0
     first =
         five-other w (5 * j) u (5 * k)
         (λ e. ne (omega arith)) (λ e. ne (omega arith)) (λ e. ne (omega arith)) (λ e. ne (omega arith))
         (λ e. ne (omega arith))
 
-    at : (i : ℕ) → i < 5 → get_or (unitSet w j u) (5 * k + i) 0 ≡ get_or w (5 * k + i) 0
+    at : (i : ℕ) → i < 5 → get_or (unit_set w j u) (5 * k + i) 0 ≡ get_or w (5 * k + i) 0
     at i h =
         five-other w (5 * j) u (5 * k + i)
         (λ e. ne (omega arith)) (λ e. ne (omega arith)) (λ e. ne (omega arith)) (λ e. ne (omega arith))
         (λ e. ne (omega arith))
 
-pub set-size : (w : List ℕ) (u : Unit) (j : ℕ) → length (unitSet w j u) ≡ length w
+pub set-size : (w : List ℕ) (u : Unit) (j : ℕ) → length (unit_set w j u) ≡ length w
 set-size w u j = simp length-set
 
 -- the unit that was set
-pub unit-set : (w : List ℕ) (u : Unit) (j : ℕ) → 5 * j + 5 ≤ length w → unit_at (unitSet w j u) j ≡ u
+pub unit-set : (w : List ℕ) (u : Unit) (j : ℕ) → 5 * j + 5 ≤ length w → unit_at (unit_set w j u) j ≡ u
 unit-set w u j h = rw (first, second, third, fourth, fifth)
   where
     a : ℕ

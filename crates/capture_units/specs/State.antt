@@ -3,7 +3,7 @@ use Rattle.std.specs.Prelude.{◌≡◌, ℕ, ◌+◌, ◌*◌, ◌%◌, ◌^◌
 use Rattle.rules.specs.declared.UnitRow.{UnitRow}
 use Rattle.rules.specs.Bytes.{total}
 use Rattle.capture_cells.specs.declared.Cell.{Cell}
-use Rattle.capture_units.specs.Units.{unitsOf, lastCounter}
+use Rattle.capture_units.specs.Units.{units_of, last_counter}
 use Rattle.capture_units.specs.declared.Unit.{Unit}
 use Rattle.capture_units.specs.declared.Units.{Units}
 
@@ -18,8 +18,8 @@ unit_at w j =
       damaged = slice_index w (5 * j + 4);
     }
 
-abbrev pub unitSet : List ℕ → ℕ → Unit → List ℕ
-unitSet w j u =
+abbrev pub unit_set : List ℕ → ℕ → Unit → List ℕ
+unit_set w j u =
     set (set (slice_set (slice_set (slice_set w (5 * j) u.least) (5 * j + 1) u.greatest) (5 * j + 2) u.packets) (5 * j + 3)
     u.lost) (5 * j + 4) u.damaged
 
@@ -34,15 +34,15 @@ held u =
       damaged = u.damaged % 2 ^ 64;
     }
 
-abbrev pub noUnit : UnitRow
-noUnit = record { least = 0; greatest = 0; size = 0; packets = 0; lost = 0; damaged = 0 }
+abbrev pub no_unit : UnitRow
+no_unit = record { least = 0; greatest = 0; size = 0; packets = 0; lost = 0; damaged = 0 }
 
 -- the table w and the state s stand for the cells cs of PID, from the first on that is not damaged
 pub record Stands (w : List ℕ) (s : Units) (cs : List Cell) : Type 0 where
   pub size : length w ≡ 3750
-  pub few : length (unitsOf cs) ≤ 750
-  pub count : s.count ≡ length (unitsOf cs)
-  pub previous : s.previous ≡ lastCounter cs
-  pub packets : s.packets ≡ total (map (λ u. u.packets) (unitsOf cs)) % 2 ^ 64
-  pub lost : s.lost ≡ total (map (λ u. u.lost) (unitsOf cs)) % 2 ^ 64
-  pub rows : (j : ℕ) → j < length (unitsOf cs) → unit_at w j ≡ held (slice_index_or (unitsOf cs) j noUnit)
+  pub few : length (units_of cs) ≤ 750
+  pub count : s.count ≡ length (units_of cs)
+  pub previous : s.previous ≡ last_counter cs
+  pub packets : s.packets ≡ total (map (λ u. u.packets) (units_of cs)) % 2 ^ 64
+  pub lost : s.lost ≡ total (map (λ u. u.lost) (units_of cs)) % 2 ^ 64
+  pub rows : (j : ℕ) → j < length (units_of cs) → unit_at w j ≡ held (slice_index_or (units_of cs) j no_unit)

@@ -2,8 +2,8 @@
 // Cells come one by one. Every function is safe on any table and any `Units`.
 ghost use Rattle.std.specs.Prelude.{◌≡◌, ◌<◌};
 ghost use Rattle.rules.specs.Bytes.{smaller, larger};
-ghost use Rattle.capture_units.specs.State.{unit_at, unitSet};
-ghost use Rattle.capture_units.specs.Contract.{lossOf, begunBy, joinedBy, markedBy, takenInto, Begun, Joined};
+ghost use Rattle.capture_units.specs.State.{unit_at, unit_set};
+ghost use Rattle.capture_units.specs.Contract.{loss_of, begun_by, joined_by, marked_by, taken_into, Begun, Joined};
 ghost use Rattle.capture_units.specs.Contract.{Marked};
 ghost use Rattle.capture_units.specs.Contract.{Added, Full, Row};
 
@@ -55,7 +55,7 @@ fn unit_at(table: &Table, j: usize) -> Unit
 
 fn put_unit(table: &mut Table, j: usize, u: Unit)
     requires { j < 750 }
-    ensures { table.new ≡ unitSet table.old j u }
+    ensures { table.new ≡ unit_set table.old j u }
 {
     let at = UNIT_WORDS * j;
     table[at] = u.least;
@@ -85,7 +85,7 @@ fn greater(a: u64, b: u64) -> u64
 
 // What a cell shows as lost: the first one shows nothing, and so does one with a splice mark.
 fn loss(s: Units, c: Cell) -> u64
-    ensures { result ≡ lossOf s c }
+    ensures { result ≡ loss_of s c }
 {
     if s.count == 0 {
         return 0; // no cell stands before the first
@@ -97,7 +97,7 @@ fn loss(s: Units, c: Cell) -> u64
 }
 
 fn begun(time: u64, lost: u64) -> Unit
-    ensures { result ≡ begunBy time lost }
+    ensures { result ≡ begun_by time lost }
 {
     Unit {
         least: time,
@@ -109,7 +109,7 @@ fn begun(time: u64, lost: u64) -> Unit
 }
 
 fn joined(u: Unit, time: u64, lost: u64) -> Unit
-    ensures { result ≡ joinedBy u time lost }
+    ensures { result ≡ joined_by u time lost }
 {
     let packets = std::num::wrapping_add_u64(u.packets, 1);
     let sum = std::num::wrapping_add_u64(u.lost, lost);
@@ -124,7 +124,7 @@ fn joined(u: Unit, time: u64, lost: u64) -> Unit
 
 // A unit with one damaged cell more.
 fn marked(u: Unit) -> Unit
-    ensures { result ≡ markedBy u }
+    ensures { result ≡ marked_by u }
 {
     let mut r = u;
     r.damaged = std::num::wrapping_add_u64(u.damaged, 1);
@@ -133,7 +133,7 @@ fn marked(u: Unit) -> Unit
 
 // What is kept once the cell is in one of `count` units.
 fn taken(s: Units, count: u64, counter: u64, lost: u64) -> Units
-    ensures { result ≡ takenInto s count counter lost }
+    ensures { result ≡ taken_into s count counter lost }
 {
     let packets = std::num::wrapping_add_u64(s.packets, 1);
     let sum = std::num::wrapping_add_u64(s.lost, lost);

@@ -8,13 +8,13 @@ use mathlib.Core.Bool.{true}
 use lib.Dec.{ltb}
 use borrow.Author.Tests.{lt-ltb, le-ltb}
 use Rattle.rules.specs.Refusals.{fault}
-use Rattle.rules.specs.Capture.{captureInside}
+use Rattle.rules.specs.Capture.{capture_inside}
 use Rattle.capture_laws.proofs.Format.{magic-early, link-early, long_of, format-kept, sound-of, four}
 use Rattle.capture_laws.proofs.Format.{header-shows}
 use Rattle.capture_steps.specs.declared.types.Walk.{Walk}
 use Rattle.capture_steps.specs.declared.types.Step.{Step}
 use Rattle.capture_steps.specs.declared.types.Event.TheVariants.{Refused}
-use Rattle.capture_steps.specs.Format.{formatFault}
+use Rattle.capture_steps.specs.Format.{format_fault}
 use Rattle.capture_steps.specs.State.{loaded, Stands, refused, head, live}
 use Rattle.capture_steps.specs.Contract.{Halts, again, surplus, Goes}
 use Rattle.capture_walk.specs.Contract.{Opened, Stood, Turned}
@@ -49,7 +49,7 @@ opens w kept l k e =
 
 -- a refusal that the bytes show now
 pub refuse : {kept : List ℕ} {r : Walk} {piece joined a : List ℕ} (n k p : ℕ) → length kept ≡ 64 →
-    formatFault a ≡ fault k p → 0 < k → r.status ≡ k → r.place ≡ p →
+    format_fault a ≡ fault k p → 0 < k → r.status ≡ k → r.place ≡ p →
     Halts r joined a → Stood kept (record { taken = n; walk = r; event = Refused }) piece joined a
 refuse n k p l e h a b g = record { stands = refused l (rw (e, a, b)) (omega arith); tells = (rw (e, a, b), g) }
 
@@ -78,13 +78,13 @@ limit {kept} {s} {piece} {joined} n r t h k some rs rp st =
 
 -- 11
 pub inside-head : {kept : List ℕ} {s : Walk} {joined : List ℕ} → s.fed < 24 → s.status ≡ 0 → Stands kept s joined →
-    true ≡ captureInside joined
-unfolding captureInside
+    true ≡ capture_inside joined
+unfolding capture_inside
 inside-head {kept} {s} {joined} h k st = let v = at_head k h st in rw (lt-ltb (length joined) 24 v.short)
 
 pub inside-live : {kept : List ℕ} {s : Walk} {joined : List ℕ} → 24 ≤ s.fed → s.status ≡ 0 → Stands kept s joined →
-    ltb 0 s.at ≡ captureInside joined
-unfolding captureInside
+    ltb 0 s.at ≡ capture_inside joined
+unfolding capture_inside
 inside-live {kept} {s} {joined} h k st = let v = at-live k h st in rw (le-ltb (length joined) 24 v.0, v.1.many)
 
 -- ---- a turn

@@ -14,7 +14,7 @@ use Rattle.capture_steps.specs.declared.types.Walk.{Walk}
 use Rattle.capture_steps.specs.declared.types.Event.{Event}
 use Rattle.capture_steps.specs.declared.types.Event.TheVariants.{Nothing, Shown, Whole, Cells, Refused}
 use Rattle.capture_steps.specs.declared.types.Step.{Step}
-use Rattle.capture_steps.specs.Format.{formatFault, shownCells, wholeCells}
+use Rattle.capture_steps.specs.Format.{format_fault, shown_cells, whole_cells}
 use Rattle.capture_steps.specs.State.{Stands}
 use Rattle.capture_steps.specs.Contract.{Gains, Level, silent, Tells, Calm}
 use Rattle.capture_walk.specs.Contract.{Stood, Turned, Stepped}
@@ -25,9 +25,9 @@ use Rattle.capture_walk.proofs.Standing.{refuse-again, limit}
 -- kept and w stand for the bytes mid, which show no more than those before; from byte i to byte at of a piece
 pub record Quiet (kept : List ℕ) (w : Walk) (i at : ℕ) (before mid : List ℕ) : Type 0 where
   pub stands : Stands kept w mid
-  pub clear : i < at → formatFault mid ≡ none
-  pub shown : shownCells mid ≡ shownCells before
-  pub whole : wholeCells mid ≡ wholeCells before
+  pub clear : i < at → format_fault mid ≡ none
+  pub shown : shown_cells mid ≡ shown_cells before
+  pub whole : whole_cells mid ≡ whole_cells before
 
 abbrev pub up_to : List ℕ → List ℕ → ℕ → ℕ → List ℕ
 up_to joined piece i at = joined ++ take (at - i) (drop i piece)
@@ -57,8 +57,8 @@ further joined piece i at n h =
 
 -- ---- what is told from mid on is told from before it on
 
-module _ (before mid after : List ℕ) (sh : shownCells mid ≡ shownCells before)
-    (wh : wholeCells mid ≡ wholeCells before) where
+module _ (before mid after : List ℕ) (sh : shown_cells mid ≡ shown_cells before)
+    (wh : whole_cells mid ≡ whole_cells before) where
   gains-on : {news fulls : List Cell} → Gains mid after news fulls → Gains before after news fulls
   gains-on {news} {fulls} g =
       record {
@@ -110,8 +110,8 @@ module _ {k k' : List ℕ} {s w : Walk} {piece : List ℕ} {i at : ℕ} (q : Sti
           (record {
             stands = p.stands;
             clear = λ h. g.clear;
-            shown = g.shown ∙ append-nil (shownCells mid) ∙ u.shown;
-            whole = g.whole ∙ append-nil (wholeCells mid) ∙ u.whole;
+            shown = g.shown ∙ append-nil (shown_cells mid) ∙ u.shown;
+            whole = g.whole ∙ append-nil (whole_cells mid) ∙ u.whole;
           })
 
   -- one that brings something, or nothing
@@ -146,8 +146,8 @@ module _ {k k' : List ℕ} {s w : Walk} {piece : List ℕ} {i at : ℕ} (q : Sti
               stands = u.stands;
               tells = record {
                 clear = u.clear h;
-                shown = u.shown ∙ sym (append-nil (shownCells joined));
-                whole = u.whole ∙ sym (append-nil (wholeCells joined));
+                shown = u.shown ∙ sym (append-nil (shown_cells joined));
+                whole = u.whole ∙ sym (append-nil (whole_cells joined));
               };
             };
       }

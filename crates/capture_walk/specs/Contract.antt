@@ -1,6 +1,6 @@
 -- What each call promises.
 use Rattle.std.specs.Prelude.{ℕ, ◌+◌, ◌≤◌, ◌<◌, ◌≡◌, List, [], ◌++◌, Bool, length, take, drop}
-use Rattle.rules.specs.Capture.{captureInside}
+use Rattle.rules.specs.Capture.{capture_inside}
 use Rattle.capture_steps.specs.declared.types.Walk.{Walk}
 use Rattle.capture_steps.specs.declared.types.Step.{Step}
 use Rattle.capture_steps.specs.State.{Stands, Means}
@@ -12,7 +12,7 @@ Opened words kept = Means words kept []
 
 -- `inside`: the capture ends inside its header or a frame
 abbrev pub Asks : Walk → Bool → Type 0
-Asks s r = (kept joined : List ℕ) → s.status ≡ 0 → Stands kept s joined → r ≡ captureInside joined
+Asks s r = (kept joined : List ℕ) → s.status ≡ 0 → Stands kept s joined → r ≡ capture_inside joined
 
 -- the walk behind the bytes, and what they brought
 pub record Stood (kept : List ℕ) (r : Step) (piece before after : List ℕ) : Type 0 where

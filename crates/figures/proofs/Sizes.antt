@@ -7,18 +7,18 @@ use mathlib.Core.Path.{◌≡◌, refl, ◌∙◌}
 use lib.Pow.{shl_exact}
 use borrow.Author.Tests.{le-leb, lt-leb}
 use Rattle.rules.specs.declared.Opening.{Opening}
-use Rattle.rules.specs.Opening.{levelUpTo, level, side, area, columns, lines}
-use Rattle.rules.specs.Pictures.{pictureSize}
-use Rattle.figures.specs.Opening.{sizesOf}
+use Rattle.rules.specs.Opening.{level_up_to, level, side, area, columns, lines}
+use Rattle.rules.specs.Pictures.{picture_size}
+use Rattle.figures.specs.Opening.{sizes_of}
 
 -- ---- the level
 
-pub level-most : (n h : ℕ) → levelUpTo n h ≤ n
-unfolding levelUpTo
+pub level-most : (n h : ℕ) → level_up_to n h ≤ n
+unfolding level_up_to
 level-most zero h = omega arith
 level-most (suc n) h = go (dec_le 30 (h / 2 ^ suc n)) (level-most n h)
   where
-    go : Dec (30 ≤ h / 2 ^ suc n) → levelUpTo n h ≤ n → levelUpTo (suc n) h ≤ suc n
+    go : Dec (30 ≤ h / 2 ^ suc n) → level_up_to n h ≤ n → level_up_to (suc n) h ≤ suc n
     go (yes y) below = rw (le-leb 30 (h / 2 ^ suc n) y) (le_refl (suc n))
     go (no y) below = rw (lt-leb 30 (h / 2 ^ suc n) (lt_of_not-le y)) (omega arith)
 
@@ -39,6 +39,6 @@ pub sizes-are : (o : Opening) (k s : ℕ) → k ≡ level o → s ≡ side o →
       columns = o.width / s;
       lines = o.height / s;
       picture = o.width * o.height;
-    } ≡ sizesOf o
-unfolding side area columns lines pictureSize
+    } ≡ sizes_of o
+unfolding side area columns lines picture_size
 sizes-are o k s p q = rw (p, q, squared (level o))

@@ -1,31 +1,31 @@
 // Editions: which there are, and what each changes. An engine asks here, once at a place.
 ghost use Rattle.std.specs.Prelude.{◌≡◌};
-ghost use Rattle.rules.specs.Editions.{isEdition, heedsSplices, roundsToNearest, knowsDamage};
+ghost use Rattle.rules.specs.Editions.{is_edition, heeds_splices, rounds_to_nearest, knows_damage};
 
 // An edition that there is: 20 and 17 let it pass.
 pub fn is_edition(edition: u32) -> bool
-    ensures { result ≡ isEdition edition }
+    ensures { result ≡ is_edition edition }
 {
     (1 <= edition) & (edition <= 4)
 }
 
 // A cell with a splice mark adds no loss by its own gap: 2 and later.
 pub fn heeds_splices(edition: u64) -> bool
-    ensures { result ≡ heedsSplices edition }
+    ensures { result ≡ heeds_splices edition }
 {
     2 <= edition
 }
 
 // A change is rounded to the nearest, where it is cut off otherwise: 3 and later.
 pub fn rounds_to_nearest(edition: u32) -> bool
-    ensures { result ≡ roundsToNearest edition }
+    ensures { result ≡ rounds_to_nearest edition }
 {
     3 <= edition
 }
 
 // A damaged cell of PID is set apart, and counted in word 28 of its unit: 4 and later.
 pub fn knows_damage(edition: u64) -> bool
-    ensures { result ≡ knowsDamage edition }
+    ensures { result ≡ knows_damage edition }
 {
     4 <= edition
 }

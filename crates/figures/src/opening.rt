@@ -1,14 +1,14 @@
 // Opening: the refusal that it meets, and the sizes that follow from it.
 ghost use Rattle.std.specs.Prelude.{◌≡◌};
-ghost use Rattle.rules.specs.Opening.{goodSize, goodTime, goodPid, levelUpTo};
-ghost use Rattle.figures.specs.Opening.{OpeningFault, sizesOf};
+ghost use Rattle.rules.specs.Opening.{good_size, good_time, good_pid, level_up_to};
+ghost use Rattle.figures.specs.Opening.{OpeningFault, sizes_of};
 
 use crate::editions::is_edition;
 use rules::Opening;
 
 // Not refused by 1.
 pub fn good_size(width: u32, height: u32) -> bool
-    ensures { result ≡ goodSize width height }
+    ensures { result ≡ good_size width height }
 {
     let w = width as u64;
     let h = height as u64;
@@ -17,14 +17,14 @@ pub fn good_size(width: u32, height: u32) -> bool
 
 // Not refused by 2.
 pub fn good_time(time: u32) -> bool
-    ensures { result ≡ goodTime time }
+    ensures { result ≡ good_time time }
 {
     (10000 <= time) & (time <= 200000)
 }
 
 // Not refused by 3.
 pub fn good_pid(pid: u32) -> bool
-    ensures { result ≡ goodPid pid }
+    ensures { result ≡ good_pid pid }
 {
     pid <= 8191
 }
@@ -62,7 +62,7 @@ pub struct Sizes {
 
 // The greatest k with H / 2^k at least 30, 5 at most.
 fn level(height: u64) -> u64
-    ensures { result ≡ levelUpTo 5 height }
+    ensures { result ≡ level_up_to 5 height }
 {
     if 30 <= height / 32 {
         5
@@ -80,7 +80,7 @@ fn level(height: u64) -> u64
 }
 
 pub fn sizes_of(o: Opening) -> Sizes
-    ensures { result ≡ sizesOf o }
+    ensures { result ≡ sizes_of o }
 {
     let width = o.width as u64;
     let height = o.height as u64;

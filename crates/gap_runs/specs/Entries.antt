@@ -1,15 +1,15 @@
 -- The entries that the code keeps: what one gap more makes of them.
 use Rattle.std.specs.Prelude.{ℕ, ◌-◌, ◌^◌, ◌≤◌, ◌<◌, List, ◌∷◌, ◌++◌, map, length, get_or, drop, replicate, leb}
 use Rattle.rules.specs.Bytes.{pick, total, table}
-use Rattle.rules.specs.GapRuns.{gapLost, gaps}
+use Rattle.rules.specs.GapRuns.{gap_lost, gaps}
 
 -- the entry of what is left of l, if that much is left
-abbrev pub entryAt : List ℕ → ℕ → ℕ → ℕ
-entryAt xs l lost = pick (leb lost l) (get_or xs (l - lost) 0) 0
+abbrev pub entry_at : List ℕ → ℕ → ℕ → ℕ
+entry_at xs l lost = pick (leb lost l) (get_or xs (l - lost) 0) 0
 
 -- entry l with one gap more: over the gaps, the entries of what each leaves of l
-unfoldable pub oneMore : List ℕ → ℕ → ℕ
-oneMore xs l = total (map (λ g. entryAt xs l (gapLost g)) gaps)
+unfoldable pub one_more : List ℕ → ℕ → ℕ
+one_more xs l = total (map (λ g. entry_at xs l (gap_lost g)) gaps)
 
 -- the first entries are small enough that sixteen of them fit 64 bits
 pub record Small (size : ℕ) (xs : List ℕ) : Type 0 where
@@ -22,4 +22,4 @@ started size xs = (1 ∷ replicate (size - 1) 0) ++ drop size xs
 
 -- each of the first entries with one gap more
 abbrev pub grown : ℕ → List ℕ → List ℕ
-grown size xs = table size 0 (oneMore xs) ++ drop size xs
+grown size xs = table size 0 (one_more xs) ++ drop size xs

@@ -1,14 +1,14 @@
 // What a lost count can hide (R-10): how many runs of n gaps have one lost total.
 ghost use Rattle.std.specs.Prelude.{◌≡◌, ◌+◌, ◌<◌, ◌≤◌, length};
-ghost use Rattle.rules.specs.GapRuns.{gapLost, TableGiven};
-ghost use Rattle.gap_runs.specs.Entries.{entryAt, oneMore, Small, started, grown};
+ghost use Rattle.rules.specs.GapRuns.{gap_lost, TableGiven};
+ghost use Rattle.gap_runs.specs.Entries.{entry_at, one_more, Small, started, grown};
 
 use rules::Answer;
 
 // What a gap loses.
 fn gap_lost(g: usize) -> usize
     requires { g < 16 }
-    ensures { result ≡ gapLost g }
+    ensures { result ≡ gap_lost g }
 {
     if 1 < g { g - 1 } else { 0 }
 }
@@ -16,7 +16,7 @@ fn gap_lost(g: usize) -> usize
 // The entry of what is left of l, or 0 if less than that is left.
 fn entry_at(table: &[u64], l: usize, lost: usize) -> u64
     requires { l < length table.now }
-    ensures { result ≡ entryAt table.now l lost }
+    ensures { result ≡ entry_at table.now l lost }
 {
     if lost <= l { table[l - lost] } else { 0 }
 }
@@ -24,7 +24,7 @@ fn entry_at(table: &[u64], l: usize, lost: usize) -> u64
 // Entry l with one gap more, which may be any of 16.
 fn one_more(table: &[u64], l: usize) -> u64
     requires { Small (l + 1) table.now }
-    ensures { result ≡ oneMore table.now l }
+    ensures { result ≡ one_more table.now l }
 {
     let mut sum = 0;
     let mut g = 0;

@@ -17,7 +17,7 @@ use lib.Ieee.Back.{round_whole}
 use lib.Ieee.Positive.{through, first_pos}
 use lib.Ieee.Bits.{cond_no}
 use Rattle.rules.proofs.Laws.Lists.{by-test}
-use Rattle.rules.specs.Index.{float, icOf, ipOf, value_of, index_of}
+use Rattle.rules.specs.Index.{float, ic_of, ip_of, value_of, index_of}
 use Rattle.index.specs.Counts.{ExactCounts, NoNan}
 
 pub exact : {n : ℕ} → n ≤ 2 ^ 53 → T (in_float binary64 (pos n))
@@ -31,7 +31,7 @@ pub data Is : Float → ℕ → ℕ → Type 0 where
   is : {m : ℕ} {e : ℤ} {a c : ℕ} → m * up e * c ≡ a * down e → Is (fin false m e) a c
 
 pub data AtMost : Float → ℕ → Type 0 where
-  at-most : {m : ℕ} {e : ℤ} {n : ℕ} → m * up e ≤ n * down e → AtMost (fin false m e) n
+  at_most : {m : ℕ} {e : ℤ} {n : ℕ} → m * up e ≤ n * down e → AtMost (fin false m e) n
 
 -- not negative and no NaN
 pub data Plain : Float → Type 0 where
@@ -73,7 +73,7 @@ pub under : {x y : Float} {n : ℕ} → Plain x → Is y n 1 → T (le x y) → 
 unfolding le
 under infinite (is q) h = absurd h
 under {n = n} (finite {m} {e}) (is {m = k} {e = d} q) h =
-    at-most (rw mul-one at (through (m * up e) (k * up d) n (down e) (down d) 1 (down_pos d)
+    at_most (rw mul-one at (through (m * up e) (k * up d) n (down e) (down d) 1 (down_pos d)
     (lt-or-eq (m * up e * down d) (k * up d * down e) h) (le_of_eq q)))
 
 pub round-at-most : (a b n : ℕ) → 0 < b → n ≤ 2 ^ 53 → a ≤ n * b → AtMost (round binary64 false a b) n
@@ -91,7 +91,7 @@ sum-le x y i j c d p q =
 pub add-at-most : {x y : Float} {i j : ℕ} → AtMost x i → AtMost y j → i + j ≤ 2 ^ 53 →
     AtMost (add binary64 x y) (i + j)
 unfolding add
-add-at-most {i = i} {j = j} (at-most {m = m} {e = e} p) (at-most {m = k} {e = d} q) N =
+add-at-most {i = i} {j = j} (at_most {m = m} {e = e} p) (at_most {m = k} {e = d} q) N =
     round-at-most (m * up e * down d + k * up d * down e) (down e * down d) (i + j)
     (mul-pos (down_pos e) (down_pos d)) N
     (sum-le (m * up e) (k * up d) i j (down e) (down d) p q)
@@ -99,7 +99,7 @@ add-at-most {i = i} {j = j} (at-most {m = m} {e = e} p) (at-most {m = k} {e = d}
 pub mul-at-most : {x y : Float} {i j : ℕ} → AtMost x i → AtMost y j → i * j ≤ 2 ^ 53 →
     AtMost (mul binary64 x y) (i * j)
 unfolding mul
-mul-at-most {i = i} {j = j} (at-most {m = m} {e = e} p) (at-most {m = k} {e = d} q) N =
+mul-at-most {i = i} {j = j} (at_most {m = m} {e = e} p) (at_most {m = k} {e = d} q) N =
     round-at-most (m * up e * (k * up d)) (down e * down d) (i * j) (mul-pos (down_pos e) (down_pos d)) N
     (le_trans (mul-le-mul p q) (le_of_eq (mul-mul-mul_comm i (down e) j (down d))))
 
@@ -133,7 +133,7 @@ div-at-most {a = a} {b = b} (is {m = m} {e = e} p) (is {m = k} {e = d} q) B h =
 -- ---- the index
 
 pub small : {x : Float} {n : ℕ} → Is x n 1 → AtMost x n
-small (is p) = at-most (le_of_eq (rw mul-one at p))
+small (is p) = at_most (le_of_eq (rw mul-one at p))
 
 -- a count over one that is no smaller
 ratio : (a b : ℕ) → 0 < b → a ≤ b → b ≤ 2 ^ 53 → AtMost (div binary64 (float a) (float b)) 1
@@ -142,33 +142,33 @@ ratio a b B h N = div-at-most (whole a (le_trans h N)) (whole b N) B h
 
 pub upper : {x : Float} (n : ℕ) → n ≤ 2 ^ 53 → AtMost x n → T (le x (float n))
 unfolding of_int
-upper n N (at-most {m = m} {e = e} p) =
+upper n N (at_most {m = m} {e = e} p) =
     le_of_values (fin false m e) (float n) (m * up e) (down e) n 1 (down_pos e) (zero-lt-suc 0) (refl, refl)
     (round_whole binary64 false n N) (rw mul-one p)
 
 lower : {y : Float} {n : ℕ} → AtMost y n → T (le (float 1) (add binary64 (float 1) y))
 unfolding of_int add
-lower (at-most {m = k} {e = d} q) = round_mono binary64 1 1 (1 * 1 * down d + k * up d * 1) (1 * down d)
+lower (at_most {m = k} {e = d} q) = round_mono binary64 1 1 (1 * 1 * down d + k * up d * 1) (1 * down d)
     (zero-lt-suc 0) (omega (arith, down_pos d)) (omega arith)
 
 real : {x : Float} {n : ℕ} → AtMost x n → T (not (is_nan x))
 unfolding is_nan
-real (at-most p) = tt
+real (at_most p) = tt
 
 module _ {unrepeated pictures packets lost : ℕ} (h : ExactCounts unrepeated pictures packets lost) where
-  pub ic-at-most : AtMost (icOf unrepeated pictures) 4
-  unfolding icOf of_int
+  pub ic-at-most : AtMost (ic_of unrepeated pictures) 4
+  unfolding ic_of of_int
   ic-at-most = mul-at-most (small (whole 4 (lit≤ tt)))
-      (ratio unrepeated pictures h.some-pictures h.of-them (omega arith)) (lit≤ tt)
+      (ratio unrepeated pictures h.some_pictures h.of_them (omega arith)) (lit≤ tt)
 
-  pub ip-at-most : AtMost (ipOf packets lost) 1
-  unfolding ipOf
+  pub ip-at-most : AtMost (ip_of packets lost) 1
+  unfolding ip_of
   ip-at-most = ratio packets (packets + lost) (omega arith) (omega arith) (omega arith)
 
-  pub gain-at-most : AtMost (mul binary64 (icOf unrepeated pictures) (ipOf packets lost)) 4
+  pub gain-at-most : AtMost (mul binary64 (ic_of unrepeated pictures) (ip_of packets lost)) 4
   gain-at-most = mul-at-most ic-at-most ip-at-most (lit≤ tt)
 
-  pub value-at-most : AtMost (value_of (icOf unrepeated pictures) (ipOf packets lost)) 5
+  pub value-at-most : AtMost (value_of (ic_of unrepeated pictures) (ip_of packets lost)) 5
   unfolding value_of of_int
   value-at-most = add-at-most (small (whole 1 (lit≤ tt))) gain-at-most (lit≤ tt)
 

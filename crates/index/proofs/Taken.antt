@@ -7,36 +7,36 @@ use lib.Ieee.{is_nan, of_int}
 use borrow.Author.Tests.{le-leb, lt-leb}
 use Rattle.rules.specs.declared.Index.{Index}
 use Rattle.rules.specs.Index.{float, index_of}
-use Rattle.index.specs.Counts.{Counts, noIndex, NoNan, IndexFrom}
+use Rattle.index.specs.Counts.{Counts, no_index, NoNan, IndexFrom}
 use Rattle.index.proofs.Bound.{no_nan}
 
 zero_number : T (not (is_nan (float 0)))
 unfolding of_int is_nan
 zero_number = tt
 
-numbered : (i : Index) → i ≡ noIndex → NoNan i
+numbered : (i : Index) → i ≡ no_index → NoNan i
 numbered i e = subst⁻¹ NoNan e (record { ic = zero_number; ip = zero_number; value = zero_number })
 
 module _ (u n p l : ℕ) (i : Index) where
-  pub no-picture : n < 1 → i ≡ noIndex → IndexFrom u n p l i
+  pub no-picture : n < 1 → i ≡ no_index → IndexFrom u n p l i
   no-picture h e = record { is = rw (lt-leb 1 n h) e; numbers = numbered i e }
 
   module _ (h₁ : 1 ≤ n) where
-    pub too_many : n < u → i ≡ noIndex → IndexFrom u n p l i
+    pub too_many : n < u → i ≡ no_index → IndexFrom u n p l i
     too_many h e = record { is = rw (le-leb 1 n h₁, lt-leb u n h) e; numbers = numbered i e }
 
     module _ (h₂ : u ≤ n) where
-      pub no-packet : p < 1 → i ≡ noIndex → IndexFrom u n p l i
+      pub no-packet : p < 1 → i ≡ no_index → IndexFrom u n p l i
       no-packet h e = record { is = rw (le-leb 1 n h₁, le-leb u n h₂, lt-leb 1 p h) e; numbers = numbered i e }
 
       pub taken : Counts u n p l → i ≡ index_of u n p l → IndexFrom u n p l i
       taken k e =
           record {
-            is = rw (le-leb 1 n h₁, le-leb u n h₂, le-leb 1 p k.some-packets) e;
+            is = rw (le-leb 1 n h₁, le-leb u n h₂, le-leb 1 p k.some_packets) e;
             numbers = subst⁻¹ NoNan e (no_nan k);
           }
 
 -- of counts that a sample can have it is the rule's
 pub index_is : {u n p l : ℕ} {i : Index} → Counts u n p l → IndexFrom u n p l i → i ≡ index_of u n p l
 index_is {u} {n} {p} {l} k h =
-    rw (le-leb 1 n k.some-pictures, le-leb u n k.of-them, le-leb 1 p k.some-packets) at h.is
+    rw (le-leb 1 n k.some_pictures, le-leb u n k.of_them, le-leb 1 p k.some_packets) at h.is

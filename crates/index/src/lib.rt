@@ -2,14 +2,14 @@
 ghost use Rattle.std.specs.Prelude.{◌<◌, ◌^◌, ◌≡◌, not, T};
 ghost use mathlib.Core.Sigma.{_×_};
 ghost use Rattle.std.specs.Float.Ieee.{is_nan};
-ghost use Rattle.rules.specs.Index.{index_of, indexBits};
-ghost use Rattle.index.specs.Counts.{noIndex, IndexFrom};
+ghost use Rattle.rules.specs.Index.{index_of, index_bits};
+ghost use Rattle.index.specs.Counts.{no_index, IndexFrom};
 
 use rules::Index;
 
 // Zeros, where there is no index.
 fn no_index() -> Index
-    ensures { result ≡ noIndex }
+    ensures { result ≡ no_index }
 {
     Index {
         ic: 0.0,
@@ -60,7 +60,7 @@ pub fn index_from(unrepeated: u32, pictures: u32, packets: u32, lost: u32) -> In
 // The index's 64 bits.
 pub fn index_bits(i: Index) -> u64
     requires { T (not (is_nan i.value)) }
-    ensures { result ≡ indexBits i }
+    ensures { result ≡ index_bits i }
 {
     f64::to_bits(i.value)
 }

@@ -13,8 +13,8 @@ use borrow.Author.Tests.{eqb-true}
 use Rattle.rules.specs.Bytes.{within}
 use Rattle.rules.specs.declared.Answer.TheVariants.{Done}
 use Rattle.rules.proofs.Laws.Lists.{inside, both as ands}
-use Rattle.rules.specs.EffectiveLoss.{zero64, Lists, both, unitLosses, isProbability}
-use Rattle.rules.specs.EffectiveLoss.{areProbabilities, effectiveLoss, goodLengths, lossFault, lossAnswer, filled}
+use Rattle.rules.specs.EffectiveLoss.{zero64, Lists, both, unit_losses, is_probability}
+use Rattle.rules.specs.EffectiveLoss.{are_probabilities, effective_loss, good_lengths, loss_fault, loss_answer, filled}
 
 pub zero_is : of_bits binary64 0 ≡ zero64
 unfolding of_bits of_int
@@ -28,20 +28,20 @@ cleared-all ys j h = rw (drop_of_length-le ys {i = j} (omega arith), append-nil,
 
 -- ---- probabilities
 
-pub probable-more : (ps : List Float) (j : ℕ) (b : Bool) → j < length ps → b ≡ isProbability (get_or ps j nan) →
-    areProbabilities (drop j ps) ≡ (b && areProbabilities (drop (j + 1) ps))
-unfolding areProbabilities
+pub probable-more : (ps : List Float) (j : ℕ) (b : Bool) → j < length ps → b ≡ is_probability (get_or ps j nan) →
+    are_probabilities (drop j ps) ≡ (b && are_probabilities (drop (j + 1) ps))
+unfolding are_probabilities
 probable-more ps j b h e = rw (drop-cons ps j nan h, e, add-one)
 
-pub probable-all : (ps : List Float) (j : ℕ) → length ps ≤ j → areProbabilities (drop j ps) ≡ true
-unfolding areProbabilities
+pub probable-all : (ps : List Float) (j : ℕ) → length ps ≤ j → are_probabilities (drop j ps) ≡ true
+unfolding are_probabilities
 probable-all ps j h = rw (drop_of_length-le ps {i = j} h)
 
 -- ---- a whole call
 
 -- lengths that are not refused
-pub lengths-are : (n a b c d : ℕ) → goodLengths n a b c d ≡ true → (a ≡ n) × (b ≡ n) × (c ≡ n) × (d ≡ n) × (n ≤ 750)
-unfolding goodLengths
+pub lengths-are : (n a b c d : ℕ) → good_lengths n a b c d ≡ true → (a ≡ n) × (b ≡ n) × (c ≡ n) × (d ≡ n) × (n ≤ 750)
+unfolding good_lengths
 lengths-are n a b c d h =
     let x = ands (within 1 750 n && eqb a n && eqb b n && eqb c n) (eqb d n) h in
     let y = ands (within 1 750 n && eqb a n && eqb b n) (eqb c n) x.0 in
@@ -50,16 +50,16 @@ lengths-are n a b c d h =
     (eqb-true a n w.1, eqb-true b n z.1, eqb-true c n y.1, eqb-true d n x.1, (inside 1 750 n w.0).1)
 
 module _ (n : ℕ) (ns : List ℕ) (ps : List Float) (before : Lists)
-    (good : goodLengths n (length ns) (length ps) (length before.keyFrame) (length before.plain) ≡ true)
-    (probable : areProbabilities ps ≡ true) where
-  pub done-answer : Done n ≡ lossAnswer n ns ps before
-  unfolding lossAnswer lossFault
+    (good : good_lengths n (length ns) (length ps) (length before.key_frame) (length before.plain) ≡ true)
+    (probable : are_probabilities ps ≡ true) where
+  pub done-answer : Done n ≡ loss_answer n ns ps before
+  unfolding loss_answer loss_fault
   done-answer = rw (good, probable)
 
-  pub done-lists : (after : Lists) (k q : List Float) → after ≡ unitLosses 0 ns ps (both k q) →
-      k ≡ replicate (length before.keyFrame) zero64 → q ≡ replicate (length before.plain) zero64 →
+  pub done-lists : (after : Lists) (k q : List Float) → after ≡ unit_losses 0 ns ps (both k q) →
+      k ≡ replicate (length before.key_frame) zero64 → q ≡ replicate (length before.plain) zero64 →
       after ≡ filled n ns ps before
-  unfolding filled lossFault effectiveLoss
+  unfolding filled loss_fault effective_loss
   done-lists after k q e x y =
-      let long = lengths-are n (length ns) (length ps) (length before.keyFrame) (length before.plain) good in
+      let long = lengths-are n (length ns) (length ps) (length before.key_frame) (length before.plain) good in
       rw (good, probable, e, x, y, long.2, long.3)

@@ -14,49 +14,49 @@ use lib.Ieee.Fits.{down_pos}
 use lib.Ieee.Scale.{round_same}
 use borrow.Author.Tests.{le-ltb}
 use Rattle.rules.specs.Bytes.{pick, All, empty, and}
-use Rattle.rules.specs.Refusals.{unless, ◌orElse◌, answer}
+use Rattle.rules.specs.Refusals.{unless, ◌or_else◌, answer}
 use Rattle.rules.specs.declared.Answer.TheVariants.{Done}
 use Rattle.rules.specs.Index.{float}
 use Rattle.rules.proofs.Laws.Lists.{all_drop, all_take, both as ands, all_append}
-use Rattle.index.proofs.Bound.{AtMost, at-most, Is, is, finite, whole, under, small, upper, round-at-most}
+use Rattle.index.proofs.Bound.{AtMost, at_most, Is, is, finite, whole, under, small, upper, round-at-most}
 use Rattle.index.proofs.Bound.{add-at-most, mul-at-most}
 use Rattle.rules.specs.declared.Loss.TheVariants.{KeyFrame, Plain}
-use Rattle.rules.specs.EffectiveLoss.{zero64, one64, hundredth, half, KeyFrameAt, keyFrames, Part, shares, Lists}
-use Rattle.rules.specs.EffectiveLoss.{both, addedAt, lossOf, put, spreadLoss, unitLoss, unitLosses, isProbability}
-use Rattle.rules.specs.EffectiveLoss.{areProbabilities, effectiveLoss, goodLengths, lossFault, lossAnswer, filled}
+use Rattle.rules.specs.EffectiveLoss.{zero64, one64, hundredth, half, KeyFrameAt, key_frames, Part, shares, Lists}
+use Rattle.rules.specs.EffectiveLoss.{both, added_at, loss_of, put, spread_loss, unit_loss, unit_losses, is_probability}
+use Rattle.rules.specs.EffectiveLoss.{are_probabilities, effective_loss, good_lengths, loss_fault, loss_answer, filled}
 use Rattle.rules.specs.EffectiveLoss.{Sound, AlwaysSound, CallsSound, WithoutLoss, reaching, ToTheEnd}
 use Rattle.loss.proofs.Steps.{lengths-are}
 
 -- ---- without a loss
 
 nothing : (i : ℕ) (ns : List ℕ) (ps : List Float) (l : Lists) → All (λ (loss : ℕ). loss ≡ 0) ns →
-    unitLosses i ns ps l ≡ l
-unfolding unitLosses unitLoss
+    unit_losses i ns ps l ≡ l
+unfolding unit_losses unit_loss
 nothing i [] ps l h = refl
 nothing i (n ∷ ns) [] l h = refl
 nothing i (n ∷ ns) (p ∷ ps) l (and z hs) = rw z (nothing (suc i) ns ps l hs)
 
 pub without-loss : WithoutLoss
-unfolding effectiveLoss
+unfolding effective_loss
 without-loss n ns ps h = nothing 0 ns ps _ h
 
 -- ---- operations
 
 weaker : {x : Float} {i j : ℕ} → i ≤ j → AtMost x i → AtMost x j
-weaker h (at-most {e = e} p) = at-most (le_trans p (mul-le-mul_right (down e) h))
+weaker h (at_most {e = e} p) = at_most (le_trans p (mul-le-mul_right (down e) h))
 
 sound : {x : Float} → AtMost x (750 * 750 * 2 ^ 32) → Sound x
 unfolding is_nan lt of_int
-sound (at-most {m = m} {e = e} p) =
+sound (at_most {m = m} {e = e} p) =
     record {
       real = tt;
       not_negative = rw (le-ltb (m * up e * 1) (0 * down e) (omega arith)) tt;
-      bounded = upper (750 * 750 * 2 ^ 32) (lit≤ tt) (at-most p);
+      bounded = upper (750 * 750 * 2 ^ 32) (lit≤ tt) (at_most p);
     }
 
 one_less : {p : Float} → AtMost p 1 → AtMost (sub binary64 one64 p) 1
 unfolding sub neg add sum of_int
-one_less (at-most {m = m} {e = e} h) =
+one_less (at_most {m = m} {e = e} h) =
     rw (le-ltb (1 * 1 * down e) (m * up e * 1) (omega arith))
     (round-at-most (1 * 1 * down e - m * up e * 1) (1 * down e) 1 (omega (arith, down_pos e)) (lit≤ tt) (omega arith))
 
@@ -66,8 +66,8 @@ holds : (b : Bool) → b ≡ true → T b
 holds true e = tt
 holds false e = absurd (true≢false (sym e))
 
-likely : (p : Float) → isProbability p ≡ true → lt hundredth p ≡ true → AtMost p 1
-unfolding isProbability lt le eq hundredth round of_int
+likely : (p : Float) → is_probability p ≡ true → lt hundredth p ≡ true → AtMost p 1
+unfolding is_probability lt le eq hundredth round of_int
 likely nan h t = absurd (true≢false (sym t))
 likely (inf true) h t = absurd (true≢false (sym t))
 likely (inf false) h t = absurd (true≢false (sym h))
@@ -80,15 +80,15 @@ likely (fin false m e) h t =
 abbrev Likely : List KeyFrameAt → Type 0
 Likely = All (λ (key : KeyFrameAt). AtMost key.probability 1)
 
-likely-keys : (k : ℕ) (ps : List Float) → areProbabilities ps ≡ true → Likely (keyFrames k ps)
-unfolding keyFrames areProbabilities of_int
+likely-keys : (k : ℕ) (ps : List Float) → are_probabilities ps ≡ true → Likely (key_frames k ps)
+unfolding key_frames are_probabilities of_int
 likely-keys k [] h = and (small (whole 1 (lit≤ tt))) empty
 likely-keys k (p ∷ ps) h =
-    let each = ands (isProbability p) (areProbabilities ps) h in
+    let each = ands (is_probability p) (are_probabilities ps) h in
     go (lt hundredth p) (λ t. likely p each.0 t) (likely-keys (suc k) ps each.1)
   where
-    go : (b : Bool) → (b ≡ true → AtMost p 1) → Likely (keyFrames (suc k) ps) →
-        Likely (pick b (record { place = k; probability = p } ∷ keyFrames (suc k) ps) (keyFrames (suc k) ps))
+    go : (b : Bool) → (b ≡ true → AtMost p 1) → Likely (key_frames (suc k) ps) →
+        Likely (pick b (record { place = k; probability = p } ∷ key_frames (suc k) ps) (key_frames (suc k) ps))
     go true t more = and (t refl) more
     go false t more = more
 
@@ -106,13 +106,13 @@ small-parts rest r (and {x = k} {xs = ks} p more) =
     go true h = empty
     go false h = h
 
-few-keys : (k : ℕ) (ps : List Float) → length (keyFrames k ps) ≤ suc (length ps)
-unfolding keyFrames
+few-keys : (k : ℕ) (ps : List Float) → length (key_frames k ps) ≤ suc (length ps)
+unfolding key_frames
 few-keys k [] = omega arith
 few-keys k (p ∷ ps) = go (lt hundredth p) (few-keys (suc k) ps)
   where
-    go : (b : Bool) → length (keyFrames (suc k) ps) ≤ suc (length ps) →
-        length (pick b (record { place = k; probability = p } ∷ keyFrames (suc k) ps) (keyFrames (suc k) ps)) ≤ suc
+    go : (b : Bool) → length (key_frames (suc k) ps) ≤ suc (length ps) →
+        length (pick b (record { place = k; probability = p } ∷ key_frames (suc k) ps) (key_frames (suc k) ps)) ≤ suc
         (suc (length ps))
     go true h = omega arith
     go false h = omega arith
@@ -144,22 +144,22 @@ all-sums room h empty = empty
 all-sums room h (and p hs) = and (add-at-most p h room) (all-sums room h hs)
 
 under-added : (i k : ℕ) {x : Float} {a b : ℕ} {ys : List Float} → b + a ≤ 2 ^ 53 → AtMost x a → Under b ys →
-    Under (b + a) (addedAt i k x ys)
-unfolding addedAt
+    Under (b + a) (added_at i k x ys)
+unfolding added_at
 under-added i k room h hs =
     all_append (all_append (all_weaker (omega arith) (all_take i hs))
     (all-sums room h (all_take (k - i) (all_drop i hs)))) (all_weaker (omega arith) (all_drop k hs))
 
 record Both (b : ℕ) (l : Lists) : Type 0 where
-  keys : Under b l.keyFrame
+  keys : Under b l.key_frame
   plains : Under b l.plain
 
 both-weaker : {b c : ℕ} {l : Lists} → b ≤ c → Both b l → Both c l
 both-weaker h u = record { keys = all_weaker h u.keys; plains = all_weaker h u.plains }
 
 put_both : (i k : ℕ) (own x : Float) (l : Lists) {a b : ℕ} → b + a ≤ 2 ^ 53 → AtMost x a → Both b l →
-    Both (b + a) (put i k (lossOf own x) l)
-unfolding lossOf
+    Both (b + a) (put i k (loss_of own x) l)
+unfolding loss_of
 put_both i k own x l {a} {b} room h u = go (lt half own)
   where
     go : (t : Bool) → Both (b + a) (put i k (pick t (KeyFrame x) (Plain x)) l)
@@ -169,24 +169,24 @@ put_both i k own x l {a} {b} room h u = go (lt half own)
 -- a part adds less than 2^32 to an element
 spread-both : (i loss : ℕ) (own : Float) {ps : List Part} (l : Lists) (b c : ℕ) → loss < 2 ^ 32 →
     All (λ (p : Part). AtMost p.share 1) ps →
-    b + length ps * 2 ^ 32 ≤ c → c ≤ 2 ^ 53 → Both b l → Both c (spreadLoss i loss own ps l)
-unfolding spreadLoss of_int
+    b + length ps * 2 ^ 32 ≤ c → c ≤ 2 ^ 53 → Both b l → Both c (spread_loss i loss own ps l)
+unfolding spread_loss of_int
 spread-both i loss own l b c few empty room most u = both-weaker (omega arith) u
 spread-both i loss own l b c few (and {x = p} {xs = ps} h hs) room most u =
     let amount : AtMost (mul binary64 p.share (float loss)) (2 ^ 32) =
     weaker (omega arith) (mul-at-most h (small (whole loss (omega arith))) (omega arith)) in
     let fits : b + 2 ^ 32 ≤ 2 ^ 53 = omega arith in
-    spread-both i loss own (put i p.before (lossOf own (mul binary64 p.share (float loss))) l) (b + 2 ^ 32) c
+    spread-both i loss own (put i p.before (loss_of own (mul binary64 p.share (float loss))) l) (b + 2 ^ 32) c
     few hs (omega arith) most
     (put_both i p.before own (mul binary64 p.share (float loss)) l fits amount u)
 
 -- a unit has no more parts than units and one behind it
 unit-both : (i loss : ℕ) (own : Float) (later : List Float) (l : Lists) (b c : ℕ) → loss < 2 ^ 32 →
-    areProbabilities later ≡ true →
-    b + suc (length later) * 2 ^ 32 ≤ c → c ≤ 2 ^ 53 → Both b l → Both c (unitLoss i loss own later l)
-unfolding unitLoss of_int
+    are_probabilities later ≡ true →
+    b + suc (length later) * 2 ^ 32 ≤ c → c ≤ 2 ^ 53 → Both b l → Both c (unit_loss i loss own later l)
+unfolding unit_loss of_int
 unit-both i loss own later l b c few h room most u =
-    let ks = keyFrames (suc i) later in
+    let ks = key_frames (suc i) later in
     let most-parts = few-parts one64 ks in
     let most-keys = few-keys (suc i) later in
     go (ltb 0 loss) (spread-both i loss own l b c few
@@ -198,16 +198,16 @@ unit-both i loss own later l b c few h room most u =
 
 -- and there are at most 750 units
 units-both : (i : ℕ) (ns : List ℕ) (ps : List Float) (l : Lists) (b c : ℕ) → All (λ (loss : ℕ). loss < 2 ^ 32) ns →
-    length ps ≤ 750 → areProbabilities ps ≡ true →
-    b + length ps * (750 * 2 ^ 32) ≤ c → c ≤ 2 ^ 53 → Both b l → Both c (unitLosses i ns ps l)
-unfolding unitLosses areProbabilities
+    length ps ≤ 750 → are_probabilities ps ≡ true →
+    b + length ps * (750 * 2 ^ 32) ≤ c → c ≤ 2 ^ 53 → Both b l → Both c (unit_losses i ns ps l)
+unfolding unit_losses are_probabilities
 units-both i [] ps l b c few short h room most u = both-weaker (omega arith) u
 units-both i (n ∷ ns) [] l b c few short h room most u = both-weaker (omega arith) u
 units-both i (n ∷ ns) (p ∷ ps) l b c (and f few) short h room most u =
-    let later = (ands (isProbability p) (areProbabilities ps) h).1 in
-    let one : Both (b + 750 * 2 ^ 32) (unitLoss i n p ps l) =
+    let later = (ands (is_probability p) (are_probabilities ps) h).1 in
+    let one : Both (b + 750 * 2 ^ 32) (unit_loss i n p ps l) =
     unit-both i n p ps l b (b + 750 * 2 ^ 32) f later (omega arith) (omega arith) u in
-    units-both (suc i) ns ps (unitLoss i n p ps l) (b + 750 * 2 ^ 32) c few (omega arith) later (omega arith) most one
+    units-both (suc i) ns ps (unit_loss i n p ps l) (b + 750 * 2 ^ 32) c few (omega arith) later (omega arith) most one
 
 zeros : (n : ℕ) → Under 0 (replicate n zero64)
 unfolding of_int
@@ -219,7 +219,7 @@ all_sound empty = empty
 all_sound (and h hs) = and (sound h) (all_sound hs)
 
 pub always-sound : AlwaysSound
-unfolding effectiveLoss
+unfolding effective_loss
 always-sound n ns ps few short h =
     let u = units-both 0 ns ps _ 0 (750 * 750 * 2 ^ 32) few short h (omega arith) (lit≤ tt)
     (record { keys = zeros n; plains = zeros n }) in
@@ -233,12 +233,12 @@ not-refused true false n m e = absurd (let z : ◌≡◌ {A = ℕ} 0 1 = cc in o
 not-refused false p n m e = absurd (let z : ◌≡◌ {A = ℕ} 0 1 = cc in omega arith)
 
 pub calls-sound : CallsSound
-unfolding lossAnswer lossFault filled
+unfolding loss_answer loss_fault filled
 calls-sound n ns ps before m after h few =
-    let t = not-refused (goodLengths n (length ns) (length ps) (length before.keyFrame) (length before.plain))
-    (areProbabilities ps) n m h.answer in
-    let e : after ≡ effectiveLoss n ns ps = h.lists ∙ rw (t.0, t.1) in
-    let long = lengths-are n (length ns) (length ps) (length before.keyFrame) (length before.plain) t.0 in
+    let t = not-refused (good_lengths n (length ns) (length ps) (length before.key_frame) (length before.plain))
+    (are_probabilities ps) n m h.answer in
+    let e : after ≡ effective_loss n ns ps = h.lists ∙ rw (t.0, t.1) in
+    let long = lengths-are n (length ns) (length ps) (length before.key_frame) (length before.plain) t.0 in
     rw e (always-sound n ns ps few (omega (arith, long.1, long.4)) t.1)
 
 -- ---- every probability 0
@@ -274,31 +274,31 @@ times-one : (n : ℕ) → n < 2 ^ 32 → mul binary64 one64 (float n) ≡ float 
 unfolding of_int
 times-one n h = rw one-is (same-times (whole n (omega arith)))
 
-none_before : (k m : ℕ) → keyFrames k (replicate m zero64) ≡ record { place = k + m; probability = one64 } ∷ []
-unfolding keyFrames
+none_before : (k m : ℕ) → key_frames k (replicate m zero64) ≡ record { place = k + m; probability = one64 } ∷ []
+unfolding key_frames
 none_before k zero = let e : k + 0 ≡ k = omega arith in rw e
 none_before k (suc m) = let e : k + suc m ≡ suc k + m = omega arith in rw (zero-passed, e) (none_before (suc k) m)
 
 reaches : (i n m : ℕ) (k l : List Float) → n < 2 ^ 32 →
-    unitLoss i n zero64 (replicate m zero64) (both k l) ≡ both k (pick (ltb 0 n) (addedAt i (i + suc m) (float n) l) l)
-unfolding unitLoss spreadLoss shares lossOf
+    unit_loss i n zero64 (replicate m zero64) (both k l) ≡ both k (pick (ltb 0 n) (added_at i (i + suc m) (float n) l) l)
+unfolding unit_loss spread_loss shares loss_of
 reaches i n m k l h =
     let e : suc i + m ≡ i + suc m = omega arith in
     rw (none_before (suc i) m, one_left, one-all, zero-plain, times-one n h, e) (go (ltb 0 n))
   where
-    go : (b : Bool) → pick b (both k (addedAt i (i + suc m) (float n) l)) (both k l)
-        ≡ both k (pick b (addedAt i (i + suc m) (float n) l) l)
+    go : (b : Bool) → pick b (both k (added_at i (i + suc m) (float n) l)) (both k l)
+        ≡ both k (pick b (added_at i (i + suc m) (float n) l) l)
     go true = refl
     go false = refl
 
 all-reach : (i : ℕ) (ns : List ℕ) (k l : List Float) → All (λ (loss : ℕ). loss < 2 ^ 32) ns →
-    unitLosses i ns (replicate (length ns) zero64) (both k l) ≡ both k (reaching i ns l)
-unfolding unitLosses reaching
+    unit_losses i ns (replicate (length ns) zero64) (both k l) ≡ both k (reaching i ns l)
+unfolding unit_losses reaching
 all-reach i [] k l h = refl
 all-reach i (n ∷ ns) k l (and h hs) =
     rw (reaches i n (length ns) k l h)
-    (all-reach (suc i) ns k (pick (ltb 0 n) (addedAt i (i + suc (length ns)) (float n) l) l) hs)
+    (all-reach (suc i) ns k (pick (ltb 0 n) (added_at i (i + suc (length ns)) (float n) l) l) hs)
 
 pub to_the_end : ToTheEnd
-unfolding effectiveLoss
+unfolding effective_loss
 to_the_end ns h = all-reach 0 ns (replicate (length ns) zero64) (replicate (length ns) zero64) h

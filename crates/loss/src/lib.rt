@@ -1,6 +1,6 @@
 // The effective loss (R-8): 001's, for streams without B frames. `loss_spread` has the walks over units.
 ghost use Rattle.std.specs.Prelude.{◌≡◌, length, replicate};
-ghost use Rattle.rules.specs.EffectiveLoss.{both, zero64, isProbability, areProbabilities, goodLengths, Filled};
+ghost use Rattle.rules.specs.EffectiveLoss.{both, zero64, is_probability, are_probabilities, good_lengths, Filled};
 
 use rules::Answer;
 
@@ -17,13 +17,13 @@ fn clear(list: &mut [f64])
 
 // Within 0 to 1, which a NaN is not.
 fn is_probability(p: f64) -> bool
-    ensures { result ≡ isProbability p }
+    ensures { result ≡ is_probability p }
 {
     (p >= 0.0) & (p <= 1.0)
 }
 
 fn are_probabilities(list: &[f64]) -> bool
-    ensures { result ≡ areProbabilities list.now }
+    ensures { result ≡ are_probabilities list.now }
 {
     let mut j = 0;
     while j < list.len() {
@@ -38,7 +38,7 @@ fn are_probabilities(list: &[f64]) -> bool
 
 // 1 to 750 units, and four lists so long.
 fn good_lengths(n: usize, a: usize, b: usize, c: usize, d: usize) -> bool
-    ensures { result ≡ goodLengths n a b c d }
+    ensures { result ≡ good_lengths n a b c d }
 {
     (1 <= n) & (n <= 750) & (a == n) & (b == n) & (c == n) & (d == n)
 }

@@ -17,8 +17,8 @@ use Rattle.rules.specs.Bytes.{pick}
 use Rattle.rules.specs.Index.{float}
 use Rattle.rules.specs.Scenes.{span}
 use Rattle.rules.specs.declared.Loss.{Loss}
-use Rattle.rules.specs.EffectiveLoss.{one64, hundredth, half, KeyFrameAt, keyFrames, shares, Lists, both}
-use Rattle.rules.specs.EffectiveLoss.{addedAt, lossOf, put, spreadLoss, unitLoss, unitLosses}
+use Rattle.rules.specs.EffectiveLoss.{one64, hundredth, half, KeyFrameAt, key_frames, shares, Lists, both}
+use Rattle.rules.specs.EffectiveLoss.{added_at, loss_of, put, spread_loss, unit_loss, unit_losses}
 
 -- ---- the code's numbers
 
@@ -43,8 +43,8 @@ half_is = refl
 -- ---- x added at i up to j
 
 module _ (ys : List Float) (x : Float) (i : ℕ) where
-  pub added_none : addedAt i i x ys ≡ ys
-  unfolding addedAt
+  pub added_none : added_at i i x ys ≡ ys
+  unfolding added_at
   added_none =
       let none : i - i ≡ 0 = omega arith in
       rw (none, append-nil) (take-append-drop i ys)
@@ -68,12 +68,12 @@ module _ (ys : List Float) (x : Float) (i : ℕ) where
         rw (more, take-suc (drop i ys) (j - i) nan inside, get_or-drop i ys (j - i) nan, at, map-append)
         (sym (append_assoc (take i ys) (map (λ y. add binary64 y x) (span i j ys)) _))
 
-    cut : addedAt i j x ys ≡ front ++ get_or ys j nan ∷ drop (j + 1) ys
-    unfolding addedAt front
+    cut : added_at i j x ys ≡ front ++ get_or ys j nan ∷ drop (j + 1) ys
+    unfolding added_at front
     cut = rw (drop-cons ys j nan j<, add-one)
 
-    pub added_more : set (addedAt i j x ys) j (add binary64 (get_or (addedAt i j x ys) j nan) x) ≡ addedAt i (j + 1) x ys
-    unfolding addedAt
+    pub added_more : set (added_at i j x ys) j (add binary64 (get_or (added_at i j x ys) j nan) x) ≡ added_at i (j + 1) x ys
+    unfolding added_at
     added_more =
         rw (
           cut,
@@ -88,8 +88,8 @@ both-eq p q = cc
 
 -- ---- the key frames that are left, from k up to N
 
-abbrev pub keysFrom : ℕ → ℕ → List Float → List KeyFrameAt
-keysFrom n k ps = pick (leb k n) (keyFrames k (drop k ps)) []
+abbrev pub keys_from : ℕ → ℕ → List Float → List KeyFrameAt
+keys_from n k ps = pick (leb k n) (key_frames k (drop k ps)) []
 
 pub default : (ps : List Float) (k : ℕ) (d e : Float) → k < length ps → get_or ps k d ≡ get_or ps k e
 default (p ∷ ps) zero d e h = refl
@@ -102,14 +102,14 @@ one-above = refl
 module _ (n k : ℕ) (ps : List Float) (long : length ps ≡ n) where
   -- one is taken: a unit, or N
   unit-taken : k < n → lt hundredth (get_or ps k one64) ≡ true →
-      keysFrom n k ps ≡ record { place = k; probability = get_or ps k one64 } ∷ keysFrom n (k + 1) ps
-  unfolding keyFrames
+      keys_from n k ps ≡ record { place = k; probability = get_or ps k one64 } ∷ keys_from n (k + 1) ps
+  unfolding key_frames
   unit-taken h t =
       let inside : k < length ps = omega arith in
       rw (le-leb k n (omega arith), drop-cons ps k one64 inside, t, le-leb (k + 1) n (omega arith), add-one)
 
-  end-taken : k ≡ n → keysFrom n k ps ≡ record { place = k; probability = get_or ps k one64 } ∷ keysFrom n (k + 1) ps
-  unfolding keyFrames
+  end-taken : k ≡ n → keys_from n k ps ≡ record { place = k; probability = get_or ps k one64 } ∷ keys_from n (k + 1) ps
+  unfolding key_frames
   end-taken e =
       let past : length ps ≤ k = omega arith in
       rw (
@@ -120,12 +120,12 @@ module _ (n k : ℕ) (ps : List Float) (long : length ps ≡ n) where
       )
 
   key-taken : k ≤ n → lt hundredth (get_or ps k one64) ≡ true →
-      keysFrom n k ps ≡ record { place = k; probability = get_or ps k one64 } ∷ keysFrom n (k + 1) ps
+      keys_from n k ps ≡ record { place = k; probability = get_or ps k one64 } ∷ keys_from n (k + 1) ps
   key-taken h t = ⊎_elim end-taken (λ l. unit-taken l t) (eq-or-lt_of_le h)
 
   -- one is passed, which is not N
-  unit-passed : k < n → lt hundredth (get_or ps k one64) ≡ false → keysFrom n k ps ≡ keysFrom n (k + 1) ps
-  unfolding keyFrames
+  unit-passed : k < n → lt hundredth (get_or ps k one64) ≡ false → keys_from n k ps ≡ keys_from n (k + 1) ps
+  unfolding key_frames
   unit-passed h t =
       let inside : k < length ps = omega arith in
       rw (le-leb k n (omega arith), drop-cons ps k one64 inside, t, le-leb (k + 1) n (omega arith), add-one)
@@ -135,30 +135,30 @@ module _ (n k : ℕ) (ps : List Float) (long : length ps ≡ n) where
       let past : length ps ≤ k = omega arith in
       true≢false (sym one-above ∙ ap (lt hundredth) (sym (get_or-eq_default ps one64 {n = k} past)) ∙ t)
 
-  key-passed : k ≤ n → lt hundredth (get_or ps k one64) ≡ false → keysFrom n k ps ≡ keysFrom n (k + 1) ps
+  key-passed : k ≤ n → lt hundredth (get_or ps k one64) ≡ false → keys_from n k ps ≡ keys_from n (k + 1) ps
   key-passed h t = ⊎_elim (λ e. absurd (end-not-passed e t)) (λ l. unit-passed l t) (eq-or-lt_of_le h)
 
 -- ---- what is left of unit i's loss, from place k on
 
 abbrev pub left : ℕ → List Float → ℕ → ℕ → Float → ℕ → Float → Lists → Lists
-left n ps i loss own k rest l = spreadLoss i loss own (shares rest (keysFrom n k ps)) l
+left n ps i loss own k rest l = spread_loss i loss own (shares rest (keys_from n k ps)) l
 
 -- p is the probability at k
 module _ (n k : ℕ) (ps : List Float) (p : Float) (long : length ps ≡ n) (k≤n : k ≤ n) (at : p ≡ get_or ps k one64)
     (i loss : ℕ) (own rest : Float) (l : Lists) where
   -- its part is added, and the rest goes on
   pub taken : {q : Loss} {more : Lists} {r : Float} → lt code-hundredth p ≡ true → lt rest code-hundredth ≡ false →
-      q ≡ lossOf own (mul binary64 (mul binary64 rest p) (float loss)) →
+      q ≡ loss_of own (mul binary64 (mul binary64 rest p) (float loss)) →
       more ≡ put i k q l →
       r ≡ mul binary64 rest (sub binary64 code_one p) →
       left n ps i loss own k rest l ≡ left n ps i loss own (k + 1) r more
-  unfolding spreadLoss shares
+  unfolding spread_loss shares
   taken t s u v w =
       rw (key-taken n k ps long k≤n (rw (hundredth-is, at) at t), rw hundredth-is at s, v, u, w, one-is, at)
 
   -- too little is left
   pub stopped : lt code-hundredth p ≡ true → lt rest code-hundredth ≡ true → left n ps i loss own k rest l ≡ l
-  unfolding spreadLoss shares
+  unfolding spread_loss shares
   stopped t s = rw (key-taken n k ps long k≤n (rw (hundredth-is, at) at t), rw hundredth-is at s)
 
   -- no key frame
@@ -167,34 +167,34 @@ module _ (n k : ℕ) (ps : List Float) (p : Float) (long : length ps ≡ n) (k�
 
 pub ended : (n k : ℕ) (ps : List Float) (i loss : ℕ) (own rest : Float) (l : Lists) → n < k →
     left n ps i loss own k rest l ≡ l
-unfolding spreadLoss shares
+unfolding spread_loss shares
 ended n k ps i loss own rest l h = rw (lt-leb k n h)
 
 -- ---- a unit
 
 module _ (ns : List ℕ) (ps : List Float) (i : ℕ) (l : Lists) (h : i < length ns) (long : length ps ≡ length ns) where
-  unit-step : unitLosses i (drop i ns) (drop i ps) l
-      ≡ unitLosses (i + 1) (drop (i + 1) ns) (drop (i + 1) ps)
-      (unitLoss i (get_or ns i 0) (get_or ps i nan) (drop (i + 1) ps) l)
-  unfolding unitLosses
+  unit-step : unit_losses i (drop i ns) (drop i ps) l
+      ≡ unit_losses (i + 1) (drop (i + 1) ns) (drop (i + 1) ps)
+      (unit_loss i (get_or ns i 0) (get_or ps i nan) (drop (i + 1) ps) l)
+  unfolding unit_losses
   unit-step = let h' : i < length ps = omega arith in rw (drop-cons ns i 0 h, drop-cons ps i nan h', add-one)
 
   -- its loss is spread, from the next unit on
   pub unit-spread : (m : Lists) → 0 < get_or ns i 0 →
       m ≡ left (length ns) ps i (get_or ns i 0) (get_or ps i nan) (i + 1) code_one l →
-      unitLosses (i + 1) (drop (i + 1) ns) (drop (i + 1) ps) m ≡ unitLosses i (drop i ns) (drop i ps) l
-  unfolding unitLoss
+      unit_losses (i + 1) (drop (i + 1) ns) (drop (i + 1) ps) m ≡ unit_losses i (drop i ns) (drop i ps) l
+  unfolding unit_loss
   unit-spread m some e =
       rw (e, one-is, unit-step, lt-ltb 0 (get_or ns i 0) some, le-leb (i + 1) (length ns) (omega arith), add-one)
 
   -- it has none
   pub unit-none : get_or ns i 0 ≤ 0 →
-      unitLosses (i + 1) (drop (i + 1) ns) (drop (i + 1) ps) l ≡ unitLosses i (drop i ns) (drop i ps) l
-  unfolding unitLoss
+      unit_losses (i + 1) (drop (i + 1) ns) (drop (i + 1) ps) l ≡ unit_losses i (drop i ns) (drop i ps) l
+  unfolding unit_loss
   unit-none none = rw (unit-step, le-ltb 0 (get_or ns i 0) none)
 
 -- all units are done
 pub units-done : (ns : List ℕ) (ps : List Float) (i : ℕ) (l : Lists) → length ns ≤ i →
-    unitLosses i (drop i ns) (drop i ps) l ≡ l
-unfolding unitLosses
+    unit_losses i (drop i ns) (drop i ps) l ≡ l
+unfolding unit_losses
 units-done ns ps i l h = rw (drop_of_length-le ns {i = i} h)

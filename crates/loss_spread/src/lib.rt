@@ -1,13 +1,13 @@
 // How far a loss spreads (R-8): the losses of all units, each added to the list of its kind.
 ghost use Rattle.std.specs.Prelude.{◌≡◌, ◌≤◌, length, get_or};
-ghost use Rattle.rules.specs.EffectiveLoss.{both, addedAt, lossOf, put as put_of, unitLosses, one64};
+ghost use Rattle.rules.specs.EffectiveLoss.{both, added_at, loss_of, put as put_of, unit_losses, one64};
 ghost use Rattle.loss_spread.specs.Alike.{Alike};
 
 use rules::Loss;
 
 // A key-frame loss where the unit's own probability exceeds 0.5.
 fn loss_of(own: f64, amount: f64) -> Loss
-    ensures { result ≡ lossOf own amount }
+    ensures { result ≡ loss_of own amount }
 {
     if own > 0.5 {
         Loss::KeyFrame(amount)
@@ -19,7 +19,7 @@ fn loss_of(own: f64, amount: f64) -> Loss
 // x is added at i to k - 1.
 fn add(list: &mut [f64], i: usize, k: usize, x: f64)
     requires { (i ≤ k) × (k ≤ length list.old) }
-    ensures { list.new ≡ addedAt i k x list.old }
+    ensures { list.new ≡ added_at i k x list.old }
 {
     let mut j = i;
     while j < k {
@@ -55,7 +55,7 @@ fn probability_at(probabilities: &[f64], k: usize) -> f64
 pub fn spread(losses: &[u32], probabilities: &[f64], keys: &mut [f64], plain: &mut [f64])
     requires { Alike losses.now probabilities.now keys.old plain.old }
     ensures { both keys.new plain.new ≡
-        unitLosses 0 losses.now probabilities.now
+        unit_losses 0 losses.now probabilities.now
         (both keys.old plain.old) }
 {
     let n = losses.len();

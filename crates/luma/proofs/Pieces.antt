@@ -1,7 +1,7 @@
 -- From step to step through a piece. No code.
 use Rattle.std.proofs.Common.{◌≡◌, ℕ, ◌+◌, ◌-◌, ◌*◌, ◌<◌, ◌≤◌, List, [], ◌++◌, length, get_or, take, drop, sym, refl, ap, ◌∙◌, append_assoc, append-nil, arith, length-append, length-drop, take-append-drop, length-take-le, take_all, take-add, lt-ltb}
 use Rattle.rules.specs.declared.Opening.{Opening}
-use Rattle.rules.specs.Pictures.{pictureSize, lumaFault}
+use Rattle.rules.specs.Pictures.{picture_size, luma_fault}
 use Rattle.rules.specs.Bytes.{Bytes}
 use Rattle.rules.specs.Seal.{reduced}
 use Rattle.luma_laws.proofs.Past.{reduced-whole}
@@ -14,14 +14,14 @@ use Rattle.luma_state.specs.State.{passing, Live, Sane, refused, live, Fits, Goe
 use Rattle.luma_rows.specs.Contract.{Took, Taking}
 use Rattle.luma_rows.proofs.Rows.{at-passing, bytes_of}
 use Rattle.luma_picture.specs.Contract.{PictureEnded}
-use Rattle.luma.specs.Contract.{Finishing, Finished, Passed, Stepped, Ran, passedOn, stoppedAt}
+use Rattle.luma.specs.Contract.{Finishing, Finished, Passed, Stepped, Ran, passed_on, stopped_at}
 
 -- ---- bytes of the surplus rows
 
 pub passed-live : {g : Grid} {o : Opening} {s : Progress} {luma sums bins picture joined : List ℕ} (chunk : List ℕ) →
     s.line ≡ g.lines → s.pictures < 750 → Bytes chunk →
     length chunk ≤ s.left → Live g o s luma sums bins picture joined →
-    Live g o (passedOn s (length chunk)) luma sums bins picture (joined ++ chunk)
+    Live g o (passed_on s (length chunk)) luma sums bins picture (joined ++ chunk)
 passed-live {g} {o} {s} {luma} {sums} {bins} {picture} {joined} chunk line more small few v =
     let q = at-passing line v.place in
     let long = length-append v.cur chunk in
@@ -56,7 +56,7 @@ passed-live {g} {o} {s} {luma} {sums} {bins} {picture} {joined} chunk line more 
 
 pub passed : (g : Grid) (s : Progress) {rest : List ℕ} {t : ℕ} {r : Taken} → Taking g s rest → s.line ≡ g.lines →
     ((i : ℕ) → get_or rest i 0 < 256) → 0 < t →
-    t ≤ length rest → t ≤ s.left → (r.used ≡ t) × (r.state ≡ passedOn s t) → Passed g s rest r
+    t ≤ length rest → t ≤ s.left → (r.used ≡ t) × (r.state ≡ passed_on s t) → Passed g s rest r
 passed g s {rest} {t} {r} taking line small some most few e sums bins picture =
     let size : length (take t rest) ≡ t = length-take-le t rest most in
     rw (e.0, e.1)
@@ -154,20 +154,20 @@ ran-all g s r piece at sane f h o joined good e v =
 pub ran_over : (g : Grid) (s r q : Progress) (piece : List ℕ) (at : ℕ)
     {luma sums bins picture luma' sums' bins' picture' : List ℕ} →
     Goes g s luma sums bins picture (take at piece) r luma' sums' bins' picture' → at < length piece →
-    r.pictures ≡ 750 → q ≡ stoppedAt g r →
+    r.pictures ≡ 750 → q ≡ stopped_at g r →
     Ran g s luma sums bins picture piece q luma' sums' bins' picture'
-unfolding lumaFault
+unfolding luma_fault
 ran_over g s r q piece at f h n e o joined good same v =
     let w = f o joined v in
-    let b : g.bytes ≡ pictureSize o = ap (λ (x : Grid). x.bytes) same in
+    let b : g.bytes ≡ picture_size o = ap (λ (x : Grid). x.bytes) same in
     let split : joined ++ piece ≡ (joined ++ take at piece) ++ drop at piece =
     ap (λ (x : List ℕ). joined ++ x) (sym (take-append-drop at piece))
     ∙ sym (append_assoc joined (take at piece) (drop at piece)) in
     let n750 : length w.pxs ≡ 750 = sym w.pictures ∙ n in
-    let full : length w.whole ≡ 750 * pictureSize o = w.full ∙ ap (λ (k : ℕ). k * pictureSize o) n750 in
+    let full : length w.whole ≡ 750 * picture_size o = w.full ∙ ap (λ (k : ℕ). k * picture_size o) n750 in
     let long : length (joined ++ take at piece) ≡ length w.whole + length w.cur =
     ap length w.split ∙ length-append w.whole w.cur in
-    let past : 750 * pictureSize o < length (joined ++ piece) =
+    let past : 750 * picture_size o < length (joined ++ piece) =
     omega (
       arith,
       ap length split,
@@ -177,8 +177,8 @@ ran_over g s r q piece at f h n e o joined good same v =
       long,
     ) in
     let none_open : w.cur ≡ [] = w.room n750 in
-    let short : length w.cur < pictureSize o = rw none_open (size-some o good) in
-    let there : 750 * pictureSize o ≤ length (joined ++ take at piece) = omega arith in
+    let short : length w.cur < picture_size o = rw none_open (size-some o good) in
+    let there : 750 * picture_size o ≤ length (joined ++ take at piece) = omega arith in
     let all : w.pxs ≡ reduced o (joined ++ piece) =
     w.reduced ∙ sym (reduced-whole o (length w.pxs) w.whole w.cur good w.full short w.few)
     ∙ ap (reduced o) (sym w.split)
@@ -187,7 +187,7 @@ ran_over g s r q piece at f h n e o joined good same v =
     (record {
       size = w.words.size;
       opening = w.words.opening;
-      stands = refused (rw (good, lt-ltb (750 * pictureSize o) (length (joined ++ piece)) past, b)) (omega arith)
+      stands = refused (rw (good, lt-ltb (750 * picture_size o) (length (joined ++ piece)) past, b)) (omega arith)
           (λ g. record {
             there = omega arith;
             pictures = n;

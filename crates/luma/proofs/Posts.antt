@@ -4,16 +4,16 @@ use native.Mathlib.Decide.{dec_le}
 use Rattle.rules.specs.declared.Opening.{Opening}
 use Rattle.rules.specs.declared.Answer.{Answer}
 use Rattle.rules.specs.declared.Answer.TheVariants.{Done, Refused}
-use Rattle.rules.specs.Refusals.{Fault, none, fault, ◌orElse◌, answer}
-use Rattle.rules.specs.Opening.{openingFault, openAnswer, side, lines}
-use Rattle.rules.specs.Pictures.{pictureSize, lumaFault}
-use Rattle.rules.specs.Seal.{lumaAnswer}
+use Rattle.rules.specs.Refusals.{Fault, none, fault, ◌or_else◌, answer}
+use Rattle.rules.specs.Opening.{opening_fault, open_answer, side, lines}
+use Rattle.rules.specs.Pictures.{picture_size, luma_fault}
+use Rattle.rules.specs.Seal.{luma_answer}
 use Rattle.luma_laws.proofs.Pictures.{luma-kept}
 use Rattle.luma_laws.proofs.Sizes.{good}
 use Rattle.figures.specs.Opening.{numbered, OpeningFault}
 use Rattle.luma_state.specs.declared.Grid.{Grid}
 use Rattle.luma_state.specs.declared.Progress.{Progress}
-use Rattle.luma_state.specs.State.{loaded, openingIn, gridOf, Place, drawing, passing, Live, Sane, Stands, refused}
+use Rattle.luma_state.specs.State.{loaded, opening_in, grid_of, Place, drawing, passing, Live, Sane, Stands, refused}
 use Rattle.luma_state.specs.State.{live, Means, Fits, Holding}
 use Rattle.luma_state.specs.Contract.{Stored, Placed}
 use Rattle.luma.specs.Contract.{FeedPost, Ran, Replied}
@@ -21,15 +21,15 @@ use Rattle.luma_state.proofs.Kept.{fits-of, full-more, means-stored}
 
 -- ---- the opening
 
-pub open-refused : (o : Opening) (f : ℕ) → OpeningFault o f → (f ≡ 0 → ⊥) → Refused f 0 ≡ openAnswer o
-unfolding openAnswer
+pub open-refused : (o : Opening) (f : ℕ) → OpeningFault o f → (f ≡ 0 → ⊥) → Refused f 0 ≡ open_answer o
+unfolding open_answer
 open-refused o zero w n = absurd (n refl)
 open-refused o (suc k) w n = rw w.shown
 
-pub open_done : (o : Opening) (f : ℕ) → OpeningFault o f → f ≡ 0 → Done 0 ≡ openAnswer o
-unfolding openAnswer
+pub open_done : (o : Opening) (f : ℕ) → OpeningFault o f → f ≡ 0 → Done 0 ≡ open_answer o
+unfolding open_answer
 open_done o f w z =
-    let e : openingFault o ≡ none = w.shown ∙ ap numbered z in
+    let e : opening_fault o ≡ none = w.shown ∙ ap numbered z in
     rw e
 
 -- ---- a place inside a picture
@@ -47,62 +47,62 @@ short {g} {s} {cur} f sane (drawing h e k) =
 short f sane (passing h e k c) = omega (arith, e, sane.left h)
 
 -- and no byte is past 750 pictures
-pub not-past : (o : Opening) {s : Progress} {luma sums bins picture joined : List ℕ} → openingFault o ≡ none →
-    Sane (gridOf o) s →
-    Live (gridOf o) o s luma sums bins picture joined → length joined ≤ 750 * pictureSize o
+pub not-past : (o : Opening) {s : Progress} {luma sums bins picture joined : List ℕ} → opening_fault o ≡ none →
+    Sane (grid_of o) s →
+    Live (grid_of o) o s luma sums bins picture joined → length joined ≤ 750 * picture_size o
 not-past o {s} {luma} {sums} {bins} {picture} {joined} e sane v = rw v.split (go (dec_le 750 (length v.pxs)))
   where
-    long : length (v.whole ++ v.cur) ≡ length v.pxs * pictureSize o + length v.cur
+    long : length (v.whole ++ v.cur) ≡ length v.pxs * picture_size o + length v.cur
     long = length-append v.whole v.cur ∙ ap (λ (n : ℕ). n + length v.cur) v.full
 
-    go : Dec (750 ≤ length v.pxs) → length (v.whole ++ v.cur) ≤ 750 * pictureSize o
+    go : Dec (750 ≤ length v.pxs) → length (v.whole ++ v.cur) ≤ 750 * picture_size o
     go (yes h) =
         let n : length v.pxs ≡ 750 = omega (arith, v.few) in
-        omega (arith, long, ap length (v.room n), ap (λ (k : ℕ). k * pictureSize o) n)
+        omega (arith, long, ap length (v.room n), ap (λ (k : ℕ). k * picture_size o) n)
     go (no h) =
         let up : length v.pxs + 1 ≤ 750 = omega (arith, lt_of_not-le h) in
         omega (
           arith,
           long,
           short (fits-of o e) sane v.place,
-          mul-le-mul_right (pictureSize o) up,
-          add-mul (length v.pxs) 1 (pictureSize o),
+          mul-le-mul_right (picture_size o) up,
+          add-mul (length v.pxs) 1 (picture_size o),
         )
 
-pub no-fault : (o : Opening) {s : Progress} {luma sums bins picture joined : List ℕ} → openingFault o ≡ none →
-    Sane (gridOf o) s →
-    Live (gridOf o) o s luma sums bins picture joined → lumaFault o joined ≡ none
-unfolding lumaFault
-no-fault o {s} {luma} {sums} {bins} {picture} {joined} e sane v =
-    rw (le-ltb (750 * pictureSize o) (length joined) (not-past o e sane v))
+pub no_fault : (o : Opening) {s : Progress} {luma sums bins picture joined : List ℕ} → opening_fault o ≡ none →
+    Sane (grid_of o) s →
+    Live (grid_of o) o s luma sums bins picture joined → luma_fault o joined ≡ none
+unfolding luma_fault
+no_fault o {s} {luma} {sums} {bins} {picture} {joined} e sane v =
+    rw (le-ltb (750 * picture_size o) (length joined) (not-past o e sane v))
 
 -- ---- refusals
 
-pub fault-kept : (o : Opening) (s t : List ℕ) (k p : ℕ) → openingFault o or_else lumaFault o s ≡ fault k p →
-    openingFault o or_else lumaFault o (s ++ t) ≡ fault k p
-fault-kept o s t k p h = go (openingFault o) h
+pub fault-kept : (o : Opening) (s t : List ℕ) (k p : ℕ) → opening_fault o or_else luma_fault o s ≡ fault k p →
+    opening_fault o or_else luma_fault o (s ++ t) ≡ fault k p
+fault-kept o s t k p h = go (opening_fault o) h
   where
-    go : (f : Fault) → f or_else lumaFault o s ≡ fault k p → f or_else lumaFault o (s ++ t) ≡ fault k p
+    go : (f : Fault) → f or_else luma_fault o s ≡ fault k p → f or_else luma_fault o (s ++ t) ≡ fault k p
     go none e = luma-kept o s t k p e
     go (fault a b) e = e
 
 pub reply-stopped : (s : Progress) (n : ℕ) → (s.status ≡ 0 → ⊥) → Replied s n (Refused s.status s.place)
-unfolding lumaAnswer
+unfolding luma_answer
 reply-stopped s n h o luma sums bins picture joined (refused e k f) = rw e
 reply-stopped s n h o luma sums bins picture joined (live e sane v) = absurd (h v.status)
 
 pub reply-done : (s : Progress) (n : ℕ) → s.status ≡ 0 → Replied s n (Done n)
-unfolding lumaAnswer
+unfolding luma_answer
 reply-done s n h o luma sums bins picture joined (refused e k f) = absurd (omega arith)
-reply-done s n h o luma sums bins picture joined (live e sane v) = rw (e, no-fault o e sane v)
+reply-done s n h o luma sums bins picture joined (live e sane v) = rw (e, no_fault o e sane v)
 
 -- ---- a feed
 
 -- no refusal stands: what the meaning says then
 pub record Alive (s : Progress) (luma sums bins picture : List ℕ) (o : Opening) (joined : List ℕ) : Type 0 where
-  pub good : openingFault o ≡ none
-  pub sane : Sane (gridOf o) s
-  pub live : Live (gridOf o) o s luma sums bins picture joined
+  pub good : opening_fault o ≡ none
+  pub sane : Sane (grid_of o) s
+  pub live : Live (grid_of o) o s luma sums bins picture joined
 
 module _ {luma sums bins picture : List ℕ} (s : Progress) (is : s ≡ loaded luma) where
   pub alive : s.status ≡ 0 → (o : Opening) (joined : List ℕ) → Means luma sums bins picture o joined →
@@ -113,19 +113,19 @@ module _ {luma sums bins picture : List ℕ} (s : Progress) (is : s ≡ loaded l
       go (refused e k f) = absurd (omega (arith, ap (λ (x : Progress). x.status) is))
       go (live e sane v) = record { good = e; sane = rw is sane; live = rw is v }
 
-  pub wrong-opening : (f : ℕ) → s.status ≡ 0 → OpeningFault (openingIn luma) f → (f ≡ 0 → ⊥) →
+  pub wrong-opening : (f : ℕ) → s.status ≡ 0 → OpeningFault (opening_in luma) f → (f ≡ 0 → ⊥) →
       (o : Opening) (joined : List ℕ) → Means luma sums bins picture o joined → ⊥
   wrong-opening zero n w m o joined h = m refl
   wrong-opening (suc k) n w m o joined h =
-      let e : fault (suc k) 0 ≡ none = sym w.shown ∙ ap openingFault h.opening ∙ (alive n o joined h).good in
+      let e : fault (suc k) 0 ≡ none = sym w.shown ∙ ap opening_fault h.opening ∙ (alive n o joined h).good in
       let z : ◌≡◌ {A = ℕ} 0 1 = cc in
       omega arith
 
-  pub wrong-place : {p : Bool} (g : Grid) → s.status ≡ 0 → g ≡ gridOf (openingIn luma) → Placed g s p → p ≡ false →
+  pub wrong-place : {p : Bool} (g : Grid) → s.status ≡ 0 → g ≡ grid_of (opening_in luma) → Placed g s p → p ≡ false →
       (o : Opening) (joined : List ℕ) →
       Means luma sums bins picture o joined → ⊥
   wrong-place {p} g n e w f o joined h =
-      let same : g ≡ gridOf o = e ∙ ap gridOf h.opening in
+      let same : g ≡ grid_of o = e ∙ ap grid_of h.opening in
       let t : p ≡ true = w.whole (rw same (alive n o joined h).sane) in
       let z : ◌≡◌ {A = ℕ} 0 1 = cc in
       omega arith
@@ -153,7 +153,7 @@ module _ {luma sums bins picture piece : List ℕ} (s : Progress) (is : s ≡ lo
   feed-forged n = record { means = λ o joined h. absurd (n o joined h); answer = λ o joined h. absurd (n o joined h) }
 
   pub feed-post : {a : Answer} {r : Progress} {luma' luma'' sums' bins' picture' : List ℕ} (g : Grid) → s.status ≡ 0 →
-      g ≡ gridOf (openingIn luma) →
+      g ≡ grid_of (opening_in luma) →
       Ran g s luma sums bins picture piece r luma' sums' bins' picture' → Stored luma' r luma'' →
       Replied r (length piece) a →
       FeedPost luma sums bins picture piece a luma'' sums' bins' picture'
@@ -166,6 +166,6 @@ module _ {luma sums bins picture piece : List ℕ} (s : Progress) (is : s ≡ lo
       holds : (o : Opening) (joined : List ℕ) → Means luma sums bins picture o joined →
           Holding o r luma' sums' bins' picture' (joined ++ piece)
       holds o joined h =
-          let same : g ≡ gridOf o = e ∙ ap gridOf h.opening in
+          let same : g ≡ grid_of o = e ∙ ap grid_of h.opening in
           let v = alive s is n o joined h in
           ran o joined v.good same (rw same v.live)

@@ -1,7 +1,7 @@
 // The luma side: pictures that come in pieces, cut anywhere, over memory that the caller lends. Whatever stands in
 // that memory, every call is safe.
 ghost use Rattle.std.specs.Prelude.{◌≡◌};
-ghost use Rattle.luma.specs.Contract.{Replied, insideOf, OpenPost, FeedPost, SummaryPost, totalsIn};
+ghost use Rattle.luma.specs.Contract.{Replied, inside_of, OpenPost, FeedPost, SummaryPost, totals_in};
 
 mod steps;
 
@@ -103,7 +103,7 @@ pub fn feed(
 
 // Whether the place is not a picture's start.
 fn inside_of(s: Progress) -> bool
-    ensures { result ≡ insideOf s }
+    ensures { result ≡ inside_of s }
 {
     if s.line == 0 {
         if s.row == 0 {
@@ -134,7 +134,7 @@ pub fn summarise(luma: &Words) -> Summary
 
 // The totals, and no word beside them.
 pub fn totals_in(luma: &Words) -> Totals
-    ensures { result ≡ totalsIn luma.now }
+    ensures { result ≡ totals_in luma.now }
 {
     Totals {
         number: luma[layout::STATUS],

@@ -2,7 +2,7 @@
 ghost use Rattle.std.specs.Prelude.{◌≡◌, ◌≤◌};
 ghost use Rattle.luma_state.specs.State.{Fits, Sane};
 ghost use Rattle.luma_rows.specs.Contract.{Taking};
-ghost use Rattle.luma.specs.Contract.{passedOn, Finishing, Finished, Passed, Stepped, Ran, stoppedAt};
+ghost use Rattle.luma.specs.Contract.{passed_on, Finishing, Finished, Passed, Stepped, Ran, stopped_at};
 
 use luma_blocks::{Picture, Sums};
 use luma_rows::Taken;
@@ -12,7 +12,7 @@ use luma_tiles::Bins;
 // t bytes of the surplus rows.
 fn skip(s: Progress, t: usize) -> Taken
     requires { t ≤ s.left }
-    ensures { (result.used ≡ t) × (result.state ≡ passedOn s t) }
+    ensures { (result.used ≡ t) × (result.state ≡ passed_on s t) }
 {
     let mut p = s;
     p.fed = std::num::wrapping_add_u64(s.fed, t as u64);
@@ -77,7 +77,7 @@ fn step(
 // A byte past 750 pictures.
 fn stopped(g: Grid, s: Progress) -> Progress
     requires { Fits g }
-    ensures { result ≡ stoppedAt g s }
+    ensures { result ≡ stopped_at g s }
 {
     let mut r = s;
     r.status = 10;

@@ -12,7 +12,7 @@ use Rattle.luma_blocks.specs.declared.Spot.{Spot}
 use Rattle.rules.specs.Bytes.{tally}
 use Rattle.luma_laws.proofs.Tally.{tally-append, tally-shift}
 use Rattle.luma_laws.specs.Tallies.{in_block}
-use Rattle.luma_sums.specs.Sums.{run, inColumn, Added, Both}
+use Rattle.luma_sums.specs.Sums.{run, in_column, Added, Both}
 use Rattle.luma_blocks.specs.Rows.{SumsOf, Advanced, TwoNext, Going}
 use Rattle.luma_sums.proofs.Runs.{column, run_length, row_gives}
 
@@ -21,9 +21,9 @@ never e = let z : ◌≡◌ {A = ℕ} 0 1 = cc in omega arith
 
 -- a run within row y of block row b gives to a block what it gives to its block column
 pub bridge : (W n b y x c q : ℕ) (t : List ℕ) → y < n → x + length t ≤ W → q ≡ (b * n + y) * W + x →
-    tally (in_block W n b c) q t ≡ tally (inColumn n c) x t
+    tally (in_block W n b c) q t ≡ tally (in_column n c) x t
 bridge W n b y x c q t h k e =
-    tally-shift (in_block W n b c) (inColumn n c) q x t
+    tally-shift (in_block W n b c) (in_column n c) q x t
     (λ j v l.
     let row : (q + j) / W ≡ b * n + y = column W (b * n + y) (q + j) (omega arith) (omega arith) in
     let here : q + j ≡ (b * n + y) * W + (x + j) = omega arith in

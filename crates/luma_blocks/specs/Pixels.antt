@@ -1,7 +1,7 @@
 -- The reduced picture, a row at a time.
 use Rattle.std.specs.Prelude.{ℕ, ◌+◌, ◌*◌, ◌/◌, ◌%◌, ◌^◌, ◌≤◌, ◌<◌, ◌≡◌, List, ◌++◌, length, get_or}
 use Rattle.rules.specs.Bytes.{Bytes}
-use Rattle.luma_laws.specs.Tallies.{blockTally}
+use Rattle.luma_laws.specs.Tallies.{block_tally}
 use Rattle.luma_blocks.specs.Rows.{SumsOf}
 
 -- The first b rows of the pixels (reduced pixels), in w columns each: a block's sum divided once by its n × n bytes.
@@ -9,7 +9,7 @@ use Rattle.luma_blocks.specs.Rows.{SumsOf}
 pub record RowsOf (W n w b : ℕ) (p pixels : List ℕ) : Type 0 where
   pub size : length pixels ≡ 14104
   pub each : (r c : ℕ) → r < b → c < w → (t : List ℕ) →
-      get_or pixels (r * w + c) 0 ≡ blockTally W n r c (p ++ t) / (n * n)
+      get_or pixels (r * w + c) 0 ≡ block_tally W n r c (p ++ t) / (n * n)
 
 -- what `finish_row` asks
 pub record Finishing (n w b : ℕ) : Type 0 where
@@ -21,8 +21,8 @@ pub record Finishing (n w b : ℕ) : Type 0 where
 -- i pixels from `base` on were made of the first i sums, which were cleared. `pixels` and `sums` are as they were
 -- before, `out` and `left` as they are
 pub record Finished (area base i : ℕ) (pixels sums out left : List ℕ) : Type 0 where
-  pub pixels-size : length out ≡ length pixels
-  pub sums-size : length left ≡ length sums
+  pub pixels_size : length out ≡ length pixels
+  pub sums_size : length left ≡ length sums
   pub made : length pixels ≡ 14104 → (j : ℕ) → j < i →
       (get_or out (base + j) 0 ≡ get_or sums j 0 / area % 256) × (get_or sums j 0 < 2 ^ 32)
   pub before : (q : ℕ) → q < base → get_or out q 0 ≡ get_or pixels q 0

@@ -1,12 +1,12 @@
 -- Whole rows, and the rows of a block.
 use Rattle.std.specs.Prelude.{ℕ, ◌+◌, ◌*◌, ◌%◌, ◌^◌, ◌≤◌, ◌<◌, ◌≡◌, List, ◌++◌, length, get_or, take}
 use Rattle.luma_blocks.specs.declared.Spot.{Spot}
-use Rattle.luma_laws.specs.Tallies.{blockTally}
+use Rattle.luma_laws.specs.Tallies.{block_tally}
 
 -- The sums stand for block row b of a picture whose first bytes are p: modulo 2 ^ 32 they are its w block sums
 pub record SumsOf (W n w b : ℕ) (p sums : List ℕ) : Type 0 where
   pub size : length sums ≡ 240
-  pub each : (c : ℕ) → c < w → get_or sums c 0 % 2 ^ 32 ≡ blockTally W n b c p % 2 ^ 32
+  pub each : (c : ℕ) → c < w → get_or sums c 0 % 2 ^ 32 ≡ block_tally W n b c p % 2 ^ 32
 
 -- what `feed_rows` asks: blocks of n rows and columns, w of them in a row of W columns; a place in the block row
 pub record Ready (W n w row col : ℕ) : Type 0 where

@@ -2,16 +2,16 @@
 ghost use Rattle.std.specs.Prelude.{◌-◌, ◌*◌, ◌≤◌, ◌<◌, ◌≡◌, true, length, replicate};
 ghost use Rattle.words.specs.Written.{written};
 ghost use Rattle.rules.specs.Seal.{over};
-ghost use Rattle.rules.specs.Opening.{goodSize, goodTime};
-ghost use Rattle.rules.specs.Busiest.{leastBetween, mostAnswer, shade, argumentOf};
-ghost use Rattle.rules.specs.Busiest.{busiestPart, busiestAnswer, busiestPiece};
+ghost use Rattle.rules.specs.Opening.{good_size, good_time};
+ghost use Rattle.rules.specs.Busiest.{least_between, most_answer, shade, argument_of};
+ghost use Rattle.rules.specs.Busiest.{busiest_part, busiest_answer, busiest_piece};
 
 use rules::Answer;
 
 // m: the least distance of two starts.
 fn least_between(time: u32) -> u64
-    requires { goodTime time ≡ true }
-    ensures { result ≡ leastBetween time }
+    requires { good_time time ≡ true }
+    ensures { result ≡ least_between time }
 {
     let d = time as u64;
     (599999 + d) / d
@@ -19,7 +19,7 @@ fn least_between(time: u32) -> u64
 
 // The greatest number of scenes of so many pictures.
 pub fn most_scenes(time: u32, pictures: u32) -> Answer
-    ensures { result ≡ mostAnswer time pictures }
+    ensures { result ≡ most_answer time pictures }
 {
     if !figures::good_time(time) {
         return Answer::Refused {
@@ -49,7 +49,7 @@ pub fn most_scenes(time: u32, pictures: u32) -> Answer
 
 // The value of every byte of picture i of the busiest luma.
 fn shade_of(time: u32, i: u64) -> u8
-    requires { goodTime time ≡ true }
+    requires { good_time time ≡ true }
     ensures { result ≡ shade time i }
 {
     let run = i / least_between(time);
@@ -78,12 +78,12 @@ fn fill_pictures(
     at: u64,
     piece: &mut [u8],
 ) -> u64
-    requires height_value { goodSize width height ≡ true }
-    requires time_value { goodTime time ≡ true }
+    requires height_value { good_size width height ≡ true }
+    requires time_value { good_time time ≡ true }
     requires pictures_bound { pictures ≤ 750 }
-    ensures value { result ≡ length (busiestPart width height time pictures at (length piece.old)) }
+    ensures value { result ≡ length (busiest_part width height time pictures at (length piece.old)) }
     ensures piece_after { piece.new ≡
-        over (busiestPart width height time pictures at (length piece.old)) piece.old }
+        over (busiest_part width height time pictures at (length piece.old)) piece.old }
 {
     let size = width as u64 * height as u64;
     let all = pictures as u64 * size;
@@ -112,8 +112,8 @@ pub fn luma_piece(
     at: u64,
     piece: &mut [u8],
 ) -> Answer
-    ensures value { result ≡ busiestAnswer width height time pictures at (length piece.old) }
-    ensures piece_after { piece.new ≡ busiestPiece width height time pictures at piece.old }
+    ensures value { result ≡ busiest_answer width height time pictures at (length piece.old) }
+    ensures piece_after { piece.new ≡ busiest_piece width height time pictures at piece.old }
 {
     if !figures::good_size(width, height) {
         return Answer::Refused {
@@ -129,7 +129,7 @@ pub fn luma_piece(
 
 // The number that a program's argument counts as.
 pub fn argument(word: &[u8]) -> u32
-    ensures { result ≡ argumentOf word.now }
+    ensures { result ≡ argument_of word.now }
 {
     if 9 < word.len() {
         return 0;

@@ -1,7 +1,7 @@
 -- Changes: what `change` promises.
 use Rattle.std.specs.Prelude.{◌≡◌, ℕ, ◌-◌, ◌*◌, ◌≤◌, Bool}
 use Rattle.rules.specs.Bytes.{apart}
-use Rattle.rules.specs.Changes.{changeFrom}
+use Rattle.rules.specs.Changes.{change_from}
 
 -- V, from n pixels, the sum of their rises, that of their falls and that of their squared moves
 unfoldable pub spread_of : ℕ → ℕ → ℕ → ℕ → ℕ
@@ -15,5 +15,5 @@ pub record Asked (v n : ℕ) : Type 0 where
 
 -- r is q, where the numbers are such as a picture gives: a pixel moves by 255 at most
 pub record Changed (n up down squares : ℕ) (rounds : Bool) (r : ℕ) : Type 0 where
-  pub exact : 1 ≤ n → n ≤ 14101 → squares ≤ 65025 * n → r ≡ changeFrom rounds (spread_of n up down squares) n
+  pub exact : 1 ≤ n → n ≤ 14101 → squares ≤ 65025 * n → r ≡ change_from rounds (spread_of n up down squares) n
   pub few : r ≤ 25500

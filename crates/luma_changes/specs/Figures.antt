@@ -13,7 +13,7 @@ pub record Figures (old p : List ℕ) (m : Moves) : Type 0 where
 -- what `compare_run` asks: k pixels of each slice, at most a row
 pub record Paired (kept : List ℕ) (at : ℕ) (made : List ℕ) (from k : ℕ) : Type 0 where
   pub kept_there : at + k ≤ length kept
-  pub made-there : from + k ≤ length made
+  pub made_there : from + k ≤ length made
   pub few : k ≤ 240
 
 -- k pixels more, which stand in `made` from `from` on, where `kept` has the old picture's pixels of

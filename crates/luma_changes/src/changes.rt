@@ -1,6 +1,6 @@
 // Changes: q of a picture, from its pixels' rises, falls and squared moves.
 ghost use Rattle.std.specs.Prelude.{◌≡◌, ◌≤◌};
-ghost use Rattle.rules.specs.Changes.{root as rootOf};
+ghost use Rattle.rules.specs.Changes.{root as root_of};
 ghost use Rattle.luma_changes.specs.Changes.{Asked, Changed, spread_of};
 
 use figures::{apart, wide};
@@ -18,7 +18,7 @@ fn spread(n: u32, up: u32, down: u32, squares: u32) -> u64
 // The greatest q with q² × n² at most 10,000 × V, by bisection.
 fn root(v: u64, n: u64) -> u64
     requires { Asked v n }
-    ensures { (result ≡ rootOf v n) × (result ≤ 51000) }
+    ensures { (result ≡ root_of v n) × (result ≤ 51000) }
 {
     let target = 10000 * v;
     let mut low: u64 = 0;

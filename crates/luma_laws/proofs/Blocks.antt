@@ -17,10 +17,10 @@ use borrow.Author.Tests.{ne_eqb}
 use Rattle.rules.specs.declared.Opening.{Opening}
 use Rattle.rules.specs.Bytes.{pick, total, tally, parts, table}
 use Rattle.rules.specs.Opening.{level, side, area, columns, lines}
-use Rattle.rules.specs.Pictures.{rows, band, blockSum, pixelIn, pixel, pixelLine, pixels}
-use Rattle.luma_laws.specs.Tallies.{in_block, blockTally}
+use Rattle.rules.specs.Pictures.{rows, band, block_sum, pixel_in, pixel, pixel_line, pixels}
+use Rattle.luma_laws.specs.Tallies.{in_block, block_tally}
 use Rattle.rules.proofs.Laws.Lists.{length-table}
-use Rattle.luma_laws.proofs.Tables.{getD-table, getD-lines}
+use Rattle.luma_laws.proofs.Tables.{get_or-table, get_or-lines}
 use Rattle.luma_laws.proofs.Pictures.{four, pixels-length}
 use Rattle.luma_laws.proofs.Tally.{tally-append, tally-split, tally-shift, tally-none, tally-all, tally-cut}
 use Rattle.luma_laws.proofs.Tally.{tally-map}
@@ -37,7 +37,7 @@ later W n r c q t hn hw h =
     rw (ne_eqb ((q + j) / W / n) r (λ e. omega arith)))
 
 -- nor do those of earlier ones
-pub earlier : (W n r c : ℕ) (p : List ℕ) → 0 < n → 0 < W → length p ≤ r * n * W → blockTally W n r c p ≡ 0
+pub earlier : (W n r c : ℕ) (p : List ℕ) → 0 < n → 0 < W → length p ≤ r * n * W → block_tally W n r c p ≡ 0
 earlier W n r c p hn hw h =
     tally-none (in_block W n r c) 0 p
     (λ j v k.
@@ -47,7 +47,7 @@ earlier W n r c p hn hw h =
 
 -- what is settled: once the block's rows are there, its sum stays
 pub settled : (W n r c : ℕ) (p t : List ℕ) → 0 < n → 0 < W → (r * n + n) * W ≤ length p →
-    blockTally W n r c (p ++ t) ≡ blockTally W n r c p
+    block_tally W n r c (p ++ t) ≡ block_tally W n r c p
 settled W n r c p t hn hw h =
     omega (arith, tally-append (in_block W n r c) 0 p t, later W n r c (0 + length p) t hn hw (omega arith))
 
@@ -61,12 +61,12 @@ pub column-of : (W y x : ℕ) → x < W → (y * W + x) % W ≡ x
 column-of W y x h = mul-add-mod_self_right y W x ∙ mod-eq_of_lt h
 
 -- what row y gives to a block: those of its bytes that lie in the block's columns, if it is one of the block's rows
-fromRow : ℕ → ℕ → ℕ → ℕ → List ℕ → ℕ
-fromRow n r c y row = pick (eqb (y / n) r) (total (take n (drop (c * n) row))) 0
+from_row : ℕ → ℕ → ℕ → ℕ → List ℕ → ℕ
+from_row n r c y row = pick (eqb (y / n) r) (total (take n (drop (c * n) row))) 0
 
 row_gives : (W n r c y : ℕ) (row : List ℕ) → 0 < n → length row ≤ W →
-    tally (in_block W n r c) (y * W) row ≡ fromRow n r c y row
-unfolding fromRow
+    tally (in_block W n r c) (y * W) row ≡ from_row n r c y row
+unfolding from_row
 row_gives W n r c y row some h =
     tally-shift (in_block W n r c) (λ x b. pick (eqb (y / n) r) (pick (eqb (x / n) c) b 0) 0) (y * W) 0 row
     (λ x b k. rw (row_of W y x (omega arith), column-of W y x (omega arith), zero-add x))
@@ -98,14 +98,14 @@ by_rows F G W e (suc m) y p =
 
 -- any size of picture, of rows and of blocks; bytes behind the H rows count in neither
 pub sum-tally : (H W n r c : ℕ) (p : List ℕ) → 0 < n → 0 < W → r * n + n ≤ H →
-    total (map (λ row. total (take n (drop (c * n) row))) (take n (drop (r * n) (parts H W p)))) ≡ blockTally W n r c p
-unfolding fromRow
+    total (map (λ row. total (take n (drop (c * n) row))) (take n (drop (r * n) (parts H W p)))) ≡ block_tally W n r c p
+unfolding from_row
 sum-tally H W n r c p some wide h =
     let g : List ℕ → ℕ = λ row. total (take n (drop (c * n) row)) in
     let rows = parts H W p in
-    let own : tally (fromRow n r c) 0 rows ≡ total (map g (take n (drop (r * n) rows))) =
+    let own : tally (from_row n r c) 0 rows ≡ total (map g (take n (drop (r * n) rows))) =
     tally-cut n r g rows some ∙ tally-map g 0 (take n (drop (r * n) rows)) in
-    let all = by_rows (in_block W n r c) (fromRow n r c) W (λ y row k. row_gives W n r c y row some k) H 0 p in
+    let all = by_rows (in_block W n r c) (from_row n r c) W (λ y row k. row_gives W n r c y row some k) H 0 p in
     let none : tally (in_block W n r c) ((0 + H) * W) (drop (H * W) p) ≡ 0 =
     later W n r c ((0 + H) * W) (drop (H * W) p) some wide (mul-le-mul_right W (omega arith)) in
     omega (arith, rw (zero-mul W) at all)
@@ -138,8 +138,8 @@ column-inside o c h =
 
 -- the pixel in row r and column c
 pixel-tally : (o : Opening) (p : List ℕ) (r c : ℕ) → r < lines o → c < columns o →
-    pixel o p r c ≡ blockTally o.width (side o) r c p / (side o * side o)
-unfolding pixel pixelIn blockSum band rows
+    pixel o p r c ≡ block_tally o.width (side o) r c p / (side o * side o)
+unfolding pixel pixel_in block_sum band rows
 pixel-tally o p r c h k =
     let some = side-some o in
     let wide : 0 < o.width = omega (arith, column-inside o c k) in
@@ -149,13 +149,13 @@ pixel-tally o p r c h k =
 -- it stands at place r × w + c
 pixels-at : (o : Opening) (p : List ℕ) (r c : ℕ) → r < lines o → c < columns o →
     get_or (pixels o p) (r * columns o + c) 0 ≡ pixel o p r c
-unfolding pixels pixelLine pixel
+unfolding pixels pixel_line pixel
 pixels-at o p r c h k =
-    getD-lines (lines o) 0 (columns o) (λ y. table (columns o) 0 (pixelIn o (band o p y))) r c 0
-    (λ y. length-table (columns o) 0 (pixelIn o (band o p y))) h k
-    ∙ getD-table (columns o) 0 (pixelIn o (band o p (0 + r))) c 0 k
-    ∙ ap (λ (y : ℕ). pixelIn o (band o p y) (0 + c)) (zero-add r)
-    ∙ ap (λ (x : ℕ). pixelIn o (band o p r) x) (zero-add c)
+    get_or-lines (lines o) 0 (columns o) (λ y. table (columns o) 0 (pixel_in o (band o p y))) r c 0
+    (λ y. length-table (columns o) 0 (pixel_in o (band o p y))) h k
+    ∙ get_or-table (columns o) 0 (pixel_in o (band o p (0 + r))) c 0 k
+    ∙ ap (λ (y : ℕ). pixel_in o (band o p y) (0 + c)) (zero-add r)
+    ∙ ap (λ (x : ℕ). pixel_in o (band o p r) x) (zero-add c)
 
 factor-some : (b w : ℕ) {i : ℕ} → i < b * w → 0 < w
 factor-some b w {i} l = go (eq-zero-or-pos w)
@@ -167,7 +167,7 @@ factor-some b w {i} l = go (eq-zero-or-pos w)
 -- a list that has the first b rows of the pixels begins with them
 rows_are : (o : Opening) (p m : List ℕ) (b : ℕ) → b ≤ lines o → b * columns o ≤ length m →
     ((r c : ℕ) → r < b → c < columns o →
-    get_or m (r * columns o + c) 0 ≡ blockTally o.width (side o) r c p / (side o * side o)) →
+    get_or m (r * columns o + c) 0 ≡ block_tally o.width (side o) r c p / (side o * side o)) →
     take (b * columns o) m ≡ take (b * columns o) (pixels o p)
 rows_are o p m b few long e =
     let w = columns o in
@@ -193,7 +193,7 @@ rows_are o p m b few long e =
 -- and with all rows it begins with the picture's pixels
 pub pixels-are : (o : Opening) (p m : List ℕ) → lines o * columns o ≤ length m →
     ((r c : ℕ) → r < lines o → c < columns o →
-    get_or m (r * columns o + c) 0 ≡ blockTally o.width (side o) r c p / (side o * side o)) →
+    get_or m (r * columns o + c) 0 ≡ block_tally o.width (side o) r c p / (side o * side o)) →
     take (lines o * columns o) m ≡ pixels o p
 pixels-are o p m long e =
     rows_are o p m (lines o) (omega arith) long e

@@ -6,7 +6,7 @@ use native.Mathlib.Nat.{le_trans, le_antisymm, lt_of_not-le, le_of_suc-le-suc, n
 use native.Mathlib.Decide.{dec_le}
 use mathlib.Core.Path.{◌≡◌, subst}
 use borrow.Author.Tests.{le-leb, lt-leb}
-use Rattle.rules.specs.Changes.{raised, rootFrom, root, RootAtLeast, Nearest, nearest}
+use Rattle.rules.specs.Changes.{raised, root_from, root, RootAtLeast, Nearest, nearest}
 
 -- q fits, and the next number does not
 pub record Root (v n q : ℕ) : Type 0 where
@@ -22,8 +22,8 @@ greatest {v} {n} {q} r p h = le_of_suc-le-suc
     (lt_of_not-le (λ (g : q < p). not-le_of_lt r.passed (le_trans (squares (q + 1) p n (omega arith)) h)))
 
 from : (v n bits q : ℕ) → q * q * n * n ≤ 10000 * v → 10000 * v < (q + 2 ^ bits) * (q + 2 ^ bits) * n * n →
-    Root v n (rootFrom v n bits q)
-unfolding rootFrom
+    Root v n (root_from v n bits q)
+unfolding root_from
 from v n zero q h k = record { reached = h; passed = k }
 from v n (suc bits) q h k =
     go (dec_le ((q + 2 ^ bits) * (q + 2 ^ bits) * n * n) (10000 * v)) (from v n bits q h)
@@ -33,9 +33,9 @@ from v n (suc bits) q h k =
     same = rw pow-suc (omega arith)
 
     go : Dec ((q + 2 ^ bits) * (q + 2 ^ bits) * n * n ≤ 10000 * v) →
-        (10000 * v < (q + 2 ^ bits) * (q + 2 ^ bits) * n * n → Root v n (rootFrom v n bits q)) →
-        ((q + 2 ^ bits) * (q + 2 ^ bits) * n * n ≤ 10000 * v → Root v n (rootFrom v n bits (q + 2 ^ bits))) →
-        Root v n (rootFrom v n bits (raised v n (2 ^ bits) q))
+        (10000 * v < (q + 2 ^ bits) * (q + 2 ^ bits) * n * n → Root v n (root_from v n bits q)) →
+        ((q + 2 ^ bits) * (q + 2 ^ bits) * n * n ≤ 10000 * v → Root v n (root_from v n bits (q + 2 ^ bits))) →
+        Root v n (root_from v n bits (raised v n (2 ^ bits) q))
     go (yes g) below above = rw (le-leb ((q + 2 ^ bits) * (q + 2 ^ bits) * n * n) (10000 * v) g) (above g)
     go (no g) below above =
         rw (lt-leb ((q + 2 ^ bits) * (q + 2 ^ bits) * n * n) (10000 * v) (lt_of_not-le g)) (below (lt_of_not-le g))

@@ -9,7 +9,7 @@ use mathlib.Core.List.{[], ◌∷◌}
 use borrow.Author.Tests.{le-leb, lt-leb}
 use Rattle.rules.specs.Bytes.{count}
 use Rattle.rules.specs.Histograms.{third}
-use Rattle.rules.specs.Columns.{Boundary, atOrBelow}
+use Rattle.rules.specs.Columns.{Boundary, at_or_below}
 
 -- there is one boundary, and this number is it
 pub boundary-is : (k w : ℕ) → Boundary k w ((k * w + 2) / 3)
@@ -26,11 +26,11 @@ pub before : {k w b : ℕ} (c : ℕ) → Boundary k w b → c < b → 3 * c < k 
 before {k} {w} {b} c x h = lt_of_not-le (λ g. omega (arith, x.least c g))
 
 pub columns-counted : (w c a b : ℕ) → 0 < w → c < w → Boundary 1 w a → Boundary 2 w b →
-    third w c ≡ atOrBelow c (a ∷ b ∷ [])
+    third w c ≡ at_or_below c (a ∷ b ∷ [])
 unfolding third count
 columns-counted w c a b some in_row x y = go (dec_le a c) (dec_le b c)
   where
-    go : Dec (a ≤ c) → Dec (b ≤ c) → 3 * c / w ≡ atOrBelow c (a ∷ b ∷ [])
+    go : Dec (a ≤ c) → Dec (b ≤ c) → 3 * c / w ≡ at_or_below c (a ∷ b ∷ [])
     go (yes h) (yes k) =
         rw (le-leb a c h, le-leb b c k) (div-eq_of_lt-le w (omega (arith, behind c y k)) (omega arith))
     go (yes h) (no k) =

@@ -12,30 +12,30 @@ use lib.Dec.{leb, ltb}
 use Rattle.rules.specs.declared.Opening.{Opening}
 use Rattle.rules.specs.Bytes.{pick, total, smaller, parts, All, empty, and, Bytes}
 use Rattle.rules.specs.Opening.{columns, lines}
-use Rattle.rules.specs.Pictures.{pictureSize, pictureCount, pictures, pixels}
-use Rattle.rules.specs.Histograms.{inTile, histogram, histograms}
-use Rattle.rules.specs.Cuts.{binsApart, perMillion, tileDifference, tileDifferences, insert, sorted, fifth, difference}
-use Rattle.rules.specs.Cuts.{leastOfSix, at, cutScore}
+use Rattle.rules.specs.Pictures.{picture_size, picture_count, pictures, pixels}
+use Rattle.rules.specs.Histograms.{in_tile, histogram, histograms}
+use Rattle.rules.specs.Cuts.{bins_apart, per_million, tile_difference, tile_differences, insert, sorted, fifth, difference}
+use Rattle.rules.specs.Cuts.{least_of_six, at, cut_score}
 use Rattle.rules.specs.Seal.{reduced}
 use Rattle.rules.proofs.Laws.Lists.{length-table, by-test}
-use Rattle.luma_laws.proofs.Tables.{getD-mapped}
+use Rattle.luma_laws.proofs.Tables.{get_or-mapped}
 use Rattle.luma_laws.proofs.Pictures.{all-parts, pixels-length, pixels-small}
 use Rattle.luma_laws.proofs.Tiles.{tile-total, tile-same}
 
 -- ---- of two tiles
 
 -- D is at most the pixels of both, for any bins and any n
-pub bins-most : (xs ys : List ℕ) → binsApart xs ys ≤ total xs + total ys
-unfolding binsApart total
+pub bins-most : (xs ys : List ℕ) → bins_apart xs ys ≤ total xs + total ys
+unfolding bins_apart total
 bins-most [] ys = omega arith
 bins-most (x ∷ xs) [] = omega arith
 bins-most (x ∷ xs) (y ∷ ys) = omega (arith, bins-most xs ys)
 
-pub bins-twice : (xs ys : List ℕ) → total xs ≡ total ys → binsApart xs ys ≤ 2 * total xs
+pub bins-twice : (xs ys : List ℕ) → total xs ≡ total ys → bins_apart xs ys ≤ 2 * total xs
 bins-twice xs ys e = omega (arith, bins-most xs ys)
 
-tile-most : (xs ys : List ℕ) → total xs ≡ total ys → tileDifference xs ys ≤ 1000000
-unfolding tileDifference perMillion
+tile-most : (xs ys : List ℕ) → total xs ≡ total ys → tile_difference xs ys ≤ 1000000
+unfolding tile_difference per_million
 tile-most xs ys e = div-le_of_le-mul (2 * total xs) (omega (arith, bins-twice xs ys e))
 
 -- ---- of two pictures: each tile has as many pixels in one as in the other
@@ -46,8 +46,8 @@ Alike xs ys = (t : ℕ) → total (get_or xs t []) ≡ total (get_or ys t [])
 Small : List ℕ → Type 0
 Small ds = All (λ (d : ℕ). d ≤ 1000000) ds
 
-tiles-most : (xs ys : List (List ℕ)) → Alike xs ys → Small (tileDifferences xs ys)
-unfolding tileDifferences Small
+tiles-most : (xs ys : List (List ℕ)) → Alike xs ys → Small (tile_differences xs ys)
+unfolding tile_differences Small
 tiles-most [] ys e = empty
 tiles-most (x ∷ xs) [] e = empty
 tiles-most (x ∷ xs) (y ∷ ys) e = and (tile-most x y (e 0)) (tiles-most xs ys (λ t. e (suc t)))
@@ -75,7 +75,7 @@ one-small (d ∷ ds) (suc i) (and h hs) = one-small ds i hs
 pub difference-most : (xs ys : List (List ℕ)) → Alike xs ys → difference xs ys ≤ 1000000
 unfolding difference fifth
 difference-most xs ys e =
-    one-small (sorted (tileDifferences xs ys)) 4 (sorted-small (tileDifferences xs ys) (tiles-most xs ys e))
+    one-small (sorted (tile_differences xs ys)) 4 (sorted-small (tile_differences xs ys) (tiles-most xs ys e))
 
 -- ---- a cut score
 
@@ -85,12 +85,12 @@ smaller-first a b =
 
 -- of histograms of pictures of one sample
 score-most : (hs : List (List (List ℕ))) (i : ℕ) →
-    ((j k : ℕ) → j < length hs → k < length hs → Alike (at hs j) (at hs k)) → cutScore hs i ≤ 1000000
-unfolding cutScore leastOfSix
+    ((j k : ℕ) → j < length hs → k < length hs → Alike (at hs j) (at hs k)) → cut_score hs i ≤ 1000000
+unfolding cut_score least_of_six
 score-most hs i alike = go (leb 2 i) (ltb (i + 2) (length hs)) refl refl
   where
     s : ℕ
-    s = leastOfSix (at hs (i - 2)) (at hs (i - 1)) (at hs i) (at hs (i + 1)) (at hs (i + 2))
+    s = least_of_six (at hs (i - 2)) (at hs (i - 1)) (at hs i) (at hs (i + 1)) (at hs (i + 2))
 
     go : (x y : Bool) → leb 2 i ≡ x → ltb (i + 2) (length hs) ≡ y → pick (x && y) s 0 ≤ 1000000
     go true true ex ey =
@@ -113,7 +113,7 @@ unfolding histograms
 alike o px py bx by e t = go (dec_le 9 t)
   where
     nine : (p : List ℕ) → length (histograms o p) ≡ 9
-    nine p = length-table 9 0 (λ t. histogram (inTile o t p))
+    nine p = length-table 9 0 (λ t. histogram (in_tile o t p))
 
     go : Dec (9 ≤ t) → total (get_or (histograms o px) t []) ≡ total (get_or (histograms o py) t [])
     go (yes l) =
@@ -128,13 +128,13 @@ pub reduced-at : (o : Opening) (luma : List ℕ) (j : ℕ) → Bytes luma → j 
     (Bytes (get_or (reduced o luma) j [])) × (length (get_or (reduced o luma) j []) ≡ columns o * lines o)
 unfolding reduced pictures
 reduced-at o luma j h l =
-    let ps = parts (pictureCount o luma) (pictureSize o) luma in
+    let ps = parts (picture_count o luma) (picture_size o) luma in
     let size : length (map (pixels o) ps) ≡ length ps = length-map ps (pixels o) in
     let here : get_or (map (pixels o) ps) j [] ≡ pixels o (get_or ps j []) =
-    getD-mapped (pixels o) ps j [] [] (omega arith) in
+    get_or-mapped (pixels o) ps j [] [] (omega arith) in
     rw here (
       pixels-small o (get_or ps j [])
-          (all-at ps j (all-parts (pictureCount o luma) (pictureSize o) luma h) (omega arith)),
+          (all-at ps j (all-parts (picture_count o luma) (picture_size o) luma h) (omega arith)),
       pixels-length o (get_or ps j []),
     )
   where
@@ -145,7 +145,7 @@ reduced-at o luma j h l =
 
 -- every cut score of a sample
 pub scores-most : (o : Opening) (luma : List ℕ) (i : ℕ) → Bytes luma →
-    cutScore (map (histograms o) (reduced o luma)) i ≤ 1000000
+    cut_score (map (histograms o) (reduced o luma)) i ≤ 1000000
 scores-most o luma i h = score-most (map (histograms o) (reduced o luma)) i
     (λ j k lj lk. go j k (omega (arith, size)) (omega (arith, size)))
   where
@@ -158,7 +158,7 @@ scores-most o luma i h = score-most (map (histograms o) (reduced o luma)) i
         let a = reduced-at o luma j h lj in
         let b = reduced-at o luma k h lk in
         rw (
-          getD-mapped (histograms o) (reduced o luma) j [] [] lj,
-          getD-mapped (histograms o) (reduced o luma) k [] [] lk,
+          get_or-mapped (histograms o) (reduced o luma) j [] [] lj,
+          get_or-mapped (histograms o) (reduced o luma) k [] [] lk,
         )
         (alike o (get_or (reduced o luma) j []) (get_or (reduced o luma) k []) a.0 b.0 (a.1 ∙ sym b.1))

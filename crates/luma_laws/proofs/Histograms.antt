@@ -13,7 +13,7 @@ use borrow.Author.Tests.{eq-eqb, ne_eqb}
 use Rattle.rules.specs.declared.Opening.{Opening}
 use Rattle.rules.specs.Bytes.{pick, total, count, table, All, empty, and}
 use Rattle.rules.specs.Opening.{columns, lines}
-use Rattle.rules.specs.Histograms.{third, tileAt, bin, inTileFrom, inTile, inBin, histogram, histograms}
+use Rattle.rules.specs.Histograms.{third, tile_at, bin, in_tile_from, in_tile, in_bin, histogram, histograms}
 
 -- ---- of n places from `from` on, one equals x if x is among them
 
@@ -56,10 +56,10 @@ unfolding bin
 bin_small v h = omega arith
 
 pub bins-total : (vs : List ℕ) → All (λ (v : ℕ). v < 256) vs → total (histogram vs) ≡ length vs
-unfolding histogram inBin count one
-bins-total [] empty = table-zero 16 0 (inBin []) (λ b. refl)
+unfolding histogram in_bin count one
+bins-total [] empty = table-zero 16 0 (in_bin []) (λ b. refl)
 bins-total (v ∷ vs) (and h hs) =
-    table-sum 16 0 (one (bin v)) (inBin vs) (inBin (v ∷ vs)) (λ b. refl)
+    table-sum 16 0 (one (bin v)) (in_bin vs) (in_bin (v ∷ vs)) (λ b. refl)
     ∙ (let a = one-among 16 0 (bin v) (omega arith) (omega (arith, bin_small v h)) in
     let b = bins-total vs hs in omega arith)
 
@@ -71,22 +71,22 @@ third-small n i h =
     let some : 0 < n = omega arith in
     (div-lt_iff_lt-mul {k = n} {x = 3 * i} {y = 3} some).1 (omega arith)
 
-pub tile-small : (w h p : ℕ) → 0 < w → p < w * h → tileAt w h p < 9
-unfolding tileAt
+pub tile-small : (w h p : ℕ) → 0 < w → p < w * h → tile_at w h p < 9
+unfolding tile_at
 tile-small w h p k g =
     let a = third-small h (p / w) ((div-lt_iff_lt-mul {k = w} {x = p} {y = h} k).1 (rw (mul_comm w h) at g)) in
     let b = third-small w (p % w) (mod-lt p k) in
     omega arith
 
 -- the tiles' pixels, from place p on
-tiles-from : (w h p : ℕ) (px : List ℕ) → ((q : ℕ) → q < p + length px → tileAt w h q < 9) →
-    total (table 9 0 (λ t. length (inTileFrom w h t p px))) ≡ length px
-unfolding inTileFrom one
-tiles-from w h p [] k = table-zero 9 0 (λ t. length (inTileFrom w h t p [])) (λ t. refl)
+tiles-from : (w h p : ℕ) (px : List ℕ) → ((q : ℕ) → q < p + length px → tile_at w h q < 9) →
+    total (table 9 0 (λ t. length (in_tile_from w h t p px))) ≡ length px
+unfolding in_tile_from one
+tiles-from w h p [] k = table-zero 9 0 (λ t. length (in_tile_from w h t p [])) (λ t. refl)
 tiles-from w h p (v ∷ px) k =
-    table-sum 9 0 (one (tileAt w h p)) (λ t. length (inTileFrom w h t (suc p) px))
-    (λ t. length (inTileFrom w h t p (v ∷ px))) (λ t. split (eqb (tileAt w h p) t) (inTileFrom w h t (suc p) px))
-    ∙ (let a = one-among 9 0 (tileAt w h p) (omega arith) (omega (arith, k p (omega arith))) in
+    table-sum 9 0 (one (tile_at w h p)) (λ t. length (in_tile_from w h t (suc p) px))
+    (λ t. length (in_tile_from w h t p (v ∷ px))) (λ t. split (eqb (tile_at w h p) t) (in_tile_from w h t (suc p) px))
+    ∙ (let a = one-among 9 0 (tile_at w h p) (omega arith) (omega (arith, k p (omega arith))) in
     let b = tiles-from w h (suc p) px (λ q g. k q (omega arith)) in
     omega arith)
   where
@@ -95,18 +95,18 @@ tiles-from w h p (v ∷ px) k =
     split false more = omega arith
 
 tiles-total : (o : Opening) (px : List ℕ) → 0 < columns o → length px ≡ columns o * lines o →
-    total (table 9 0 (λ t. length (inTile o t px))) ≡ length px
-unfolding inTile
+    total (table 9 0 (λ t. length (in_tile o t px))) ≡ length px
+unfolding in_tile
 tiles-total o px k e =
     tiles-from (columns o) (lines o) 0 px (λ q g. tile-small (columns o) (lines o) q k (omega arith))
 
 -- ---- both: the bins of a picture's nine histograms total its pixels
 
 pub in-tile : (w h t p : ℕ) (px : List ℕ) → All (λ (v : ℕ). v < 256) px →
-    All (λ (v : ℕ). v < 256) (inTileFrom w h t p px)
-unfolding inTileFrom
+    All (λ (v : ℕ). v < 256) (in_tile_from w h t p px)
+unfolding in_tile_from
 in-tile w h t p [] empty = empty
-in-tile w h t p (v ∷ px) (and k ks) = go (eqb (tileAt w h p) t) (in-tile w h t (suc p) px ks)
+in-tile w h t p (v ∷ px) (and k ks) = go (eqb (tile_at w h p) t) (in-tile w h t (suc p) px ks)
   where
     go : (b : Bool) {more : List ℕ} → All (λ (x : ℕ). x < 256) more → All (λ (x : ℕ). x < 256) (pick b (v ∷ more) more)
     go true r = and k r
@@ -121,9 +121,9 @@ totals (suc n) from f g e = let k = totals n (suc from) f g e in let z = e from 
 pub histograms-total : (o : Opening) (px : List ℕ) → 0 < columns o → length px ≡ columns o * lines o →
     All (λ (v : ℕ). v < 256) px →
     total (map total (histograms o px)) ≡ columns o * lines o
-unfolding histograms inTile
+unfolding histograms in_tile
 histograms-total o px k e small =
-    totals 9 0 (λ t. histogram (inTile o t px)) (λ t. length (inTile o t px))
-    (λ t. bins-total (inTile o t px) (in-tile (columns o) (lines o) t 0 px small))
+    totals 9 0 (λ t. histogram (in_tile o t px)) (λ t. length (in_tile o t px))
+    (λ t. bins-total (in_tile o t px) (in-tile (columns o) (lines o) t 0 px small))
     ∙ tiles-total o px k e
     ∙ e

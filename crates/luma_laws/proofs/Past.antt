@@ -13,23 +13,23 @@ use lib.Seq.{get_or-take, get_or-drop, take_all, take-append-le, drop-append-le,
 use borrow.Author.Tests.{le-leb, lt-leb, lt-ltb, le-ltb}
 use Rattle.rules.specs.declared.Opening.{Opening}
 use Rattle.rules.specs.Bytes.{pick, smaller, count, parts}
-use Rattle.rules.specs.Opening.{openingFault}
+use Rattle.rules.specs.Opening.{opening_fault}
 use Rattle.rules.specs.Refusals.{none}
-use Rattle.rules.specs.Pictures.{pictureSize, pictureCount, pictures, pixels}
-use Rattle.rules.specs.Cuts.{at, leastOfSix, cutScore}
-use Rattle.rules.specs.Changes.{same, change, repeats, repeatsAfter, changes, changesAfter}
+use Rattle.rules.specs.Pictures.{picture_size, picture_count, pictures, pixels}
+use Rattle.rules.specs.Cuts.{at, least_of_six, cut_score}
+use Rattle.rules.specs.Changes.{same, change, repeats, repeats_after, changes, changes_after}
 use Rattle.rules.specs.Seal.{reduced}
 use Rattle.rules.proofs.Laws.Lists.{count-append, by-test}
-use Rattle.luma_laws.specs.Past.{lastFrom, previous, nextChange, nextRepeat, nextScore, ones, mapWord}
+use Rattle.luma_laws.specs.Past.{last_from, previous, next_change, next_repeat, next_score, ones, map_word}
 
 -- ---- lists of one more
 
 module _ {A : Type 0} where
-  pub getD-last : (xs : List A) (y d : A) → get_or (xs ++ y ∷ []) (length xs) d ≡ y
-  getD-last xs y d = get_or-append_seam xs y [] d
+  pub get_or-last : (xs : List A) (y d : A) → get_or (xs ++ y ∷ []) (length xs) d ≡ y
+  get_or-last xs y d = get_or-append_seam xs y [] d
 
-  pub getD-other : (xs : List A) (y d : A) (i : ℕ) → (i ≡ length xs → ⊥) → get_or (xs ++ y ∷ []) i d ≡ get_or xs i d
-  getD-other xs y d i h = elim (dec_le (length xs) i) [
+  pub get_or-other : (xs : List A) (y d : A) (i : ℕ) → (i ≡ length xs → ⊥) → get_or (xs ++ y ∷ []) i d ≡ get_or xs i d
+  get_or-other xs y d i h = elim (dec_le (length xs) i) [
     | yes k ↦
         let far : length (xs ++ y ∷ []) ≤ i = simp length-append (omega arith) in
         get_or-eq_default (xs ++ y ∷ []) d far ∙ sym (get_or-eq_default xs d k)
@@ -58,15 +58,15 @@ parts_more (suc n) m s t e k =
 
 -- ---- the whole pictures of a string of whole pictures and a rest
 
-pub count-whole : (o : Opening) (n : ℕ) (whole cur : List ℕ) → openingFault o ≡ none →
-    length whole ≡ n * pictureSize o → length cur < pictureSize o → n ≤ 750 →
-    pictureCount o (whole ++ cur) ≡ n
-unfolding pictureCount
+pub count-whole : (o : Opening) (n : ℕ) (whole cur : List ℕ) → opening_fault o ≡ none →
+    length whole ≡ n * picture_size o → length cur < picture_size o → n ≤ 750 →
+    picture_count o (whole ++ cur) ≡ n
+unfolding picture_count
 count-whole o n whole cur f e k h =
-    let some : n * pictureSize o ≤ length (whole ++ cur) = simp length-append (omega arith) in
-    let z = add-mul n 1 (pictureSize o) in
-    let few : length (whole ++ cur) < (n + 1) * pictureSize o = simp length-append (omega arith) in
-    let q : length (whole ++ cur) / pictureSize o ≡ n = div-eq_of_lt-le {k = n} (pictureSize o) some few in
+    let some : n * picture_size o ≤ length (whole ++ cur) = simp length-append (omega arith) in
+    let z = add-mul n 1 (picture_size o) in
+    let few : length (whole ++ cur) < (n + 1) * picture_size o = simp length-append (omega arith) in
+    let q : length (whole ++ cur) / picture_size o ≡ n = div-eq_of_lt-le {k = n} (picture_size o) some few in
     rw (f, q) (least n h)
   where
     least : (n : ℕ) → n ≤ 750 → smaller 750 n ≡ n
@@ -75,39 +75,39 @@ count-whole o n whole cur f e k h =
       | no k ↦ rw (lt-leb 750 n (lt_of_not-le k))
     ]
 
-pub reduced-whole : (o : Opening) (n : ℕ) (whole cur : List ℕ) → openingFault o ≡ none →
-    length whole ≡ n * pictureSize o → length cur < pictureSize o → n ≤ 750 →
-    reduced o (whole ++ cur) ≡ map (pixels o) (parts n (pictureSize o) whole)
+pub reduced-whole : (o : Opening) (n : ℕ) (whole cur : List ℕ) → opening_fault o ≡ none →
+    length whole ≡ n * picture_size o → length cur < picture_size o → n ≤ 750 →
+    reduced o (whole ++ cur) ≡ map (pixels o) (parts n (picture_size o) whole)
 unfolding reduced pictures
 reduced-whole o n whole cur f e k h =
-    rw (count-whole o n whole cur f e k h, parts-append n (pictureSize o) whole cur e)
+    rw (count-whole o n whole cur f e k h, parts-append n (picture_size o) whole cur e)
 
 module _ {A B : Type 0} where
   pub map-append : (f : A → B) (xs ys : List A) → map f (xs ++ ys) ≡ map f xs ++ map f ys
   map-append f [] ys = refl
   map-append f (x ∷ xs) ys = ap (λ (z : List B). f x ∷ z) (map-append f xs ys)
 
-pub reduced-more : (o : Opening) (n : ℕ) (whole cur : List ℕ) → length whole ≡ n * pictureSize o →
-    length cur ≡ pictureSize o →
-    map (pixels o) (parts (n + 1) (pictureSize o) (whole ++ cur))
-    ≡ map (pixels o) (parts n (pictureSize o) whole) ++ pixels o cur ∷ []
+pub reduced-more : (o : Opening) (n : ℕ) (whole cur : List ℕ) → length whole ≡ n * picture_size o →
+    length cur ≡ picture_size o →
+    map (pixels o) (parts (n + 1) (picture_size o) (whole ++ cur))
+    ≡ map (pixels o) (parts n (picture_size o) whole) ++ pixels o cur ∷ []
 reduced-more o n whole cur e k =
     let s : n + 1 ≡ suc n = omega arith in
-    rw (s, parts_more n (pictureSize o) whole cur e k)
-    (map-append (pixels o) (parts n (pictureSize o) whole) (cur ∷ []))
+    rw (s, parts_more n (picture_size o) whole cur e k)
+    (map-append (pixels o) (parts n (picture_size o) whole) (cur ∷ []))
 
 -- ---- cut scores
 
 -- those that are settled, and those that are not yet, stay as they are
 pub score-other : (hs : List (List (List ℕ))) (x : List (List ℕ)) (i : ℕ) → (2 ≤ i → i + 2 ≡ length hs → ⊥) →
-    cutScore (hs ++ x ∷ []) i ≡ cutScore hs i
-unfolding cutScore
+    cut_score (hs ++ x ∷ []) i ≡ cut_score hs i
+unfolding cut_score
 score-other hs x i h = go (dec_le 2 i) (dec_le (i + 3) (length hs))
   where
     more : length (hs ++ x ∷ []) ≡ length hs + 1
     more = length-append hs (x ∷ [])
 
-    go : Dec (2 ≤ i) → Dec (i + 3 ≤ length hs) → cutScore (hs ++ x ∷ []) i ≡ cutScore hs i
+    go : Dec (2 ≤ i) → Dec (i + 3 ≤ length hs) → cut_score (hs ++ x ∷ []) i ≡ cut_score hs i
     go (no g) d = rw (lt-leb 2 i (lt_of_not-le g))
     go (yes g) (yes d) =
         rw (
@@ -130,8 +130,8 @@ score-other hs x i h = go (dec_le 2 i) (dec_le (i + 3) (length hs))
 
 -- the one that a picture more settles
 score-six : (hs : List (List (List ℕ))) (x : List (List ℕ)) (i : ℕ) → 2 ≤ i → i + 2 ≡ length hs →
-    cutScore (hs ++ x ∷ []) i ≡ leastOfSix (at hs (i - 2)) (at hs (i - 1)) (at hs i) (at hs (i + 1)) x
-unfolding cutScore
+    cut_score (hs ++ x ∷ []) i ≡ least_of_six (at hs (i - 2)) (at hs (i - 1)) (at hs i) (at hs (i + 1)) x
+unfolding cut_score
 score-six hs x i g e =
     let more : length (hs ++ x ∷ []) ≡ length hs + 1 = length-append hs (x ∷ []) in
     rw (
@@ -142,12 +142,12 @@ score-six hs x i g e =
       get_or-append hs (x ∷ []) [] i (omega arith),
       get_or-append hs (x ∷ []) [] (i + 1) (omega arith),
       e,
-      getD-last hs x [],
+      get_or-last hs x [],
     )
 
 next-six : (hs : List (List (List ℕ))) (x : List (List ℕ)) (i : ℕ) → 2 ≤ i → i + 2 ≡ length hs →
-    nextScore hs x ≡ leastOfSix (at hs (i - 2)) (at hs (i - 1)) (at hs i) (at hs (i + 1)) x
-unfolding nextScore
+    next_score hs x ≡ least_of_six (at hs (i - 2)) (at hs (i - 1)) (at hs i) (at hs (i + 1)) x
+unfolding next_score
 next-six hs x i g e =
     let a : length hs - 4 ≡ i - 2 = omega arith in
     let b : length hs - 3 ≡ i - 1 = omega arith in
@@ -155,22 +155,22 @@ next-six hs x i g e =
     let d : length hs - 1 ≡ i + 1 = omega arith in
     rw (le-leb 4 (length hs) (omega arith), a, b, c, d)
 
-score-none : (hs : List (List (List ℕ))) (i : ℕ) → i < 2 → cutScore hs i ≡ 0
-unfolding cutScore
+score-none : (hs : List (List (List ℕ))) (i : ℕ) → i < 2 → cut_score hs i ≡ 0
+unfolding cut_score
 score-none hs i h = rw (lt-leb 2 i h)
 
 pub next-some : (hs : List (List (List ℕ))) (x : List (List ℕ)) → 4 ≤ length hs →
-    nextScore hs x
-    ≡ leastOfSix (at hs (length hs - 4)) (at hs (length hs - 3)) (at hs (length hs - 2)) (at hs (length hs - 1)) x
-unfolding nextScore
+    next_score hs x
+    ≡ least_of_six (at hs (length hs - 4)) (at hs (length hs - 3)) (at hs (length hs - 2)) (at hs (length hs - 1)) x
+unfolding next_score
 next-some hs x h = rw (le-leb 4 (length hs) h)
 
-pub next-none : (hs : List (List (List ℕ))) (x : List (List ℕ)) → length hs < 4 → nextScore hs x ≡ 0
-unfolding nextScore
+pub next-none : (hs : List (List (List ℕ))) (x : List (List ℕ)) → length hs < 4 → next_score hs x ≡ 0
+unfolding next_score
 next-none hs x h = rw (lt-leb 4 (length hs) h)
 
 pub score-next : (hs : List (List (List ℕ))) (x : List (List ℕ)) (i : ℕ) → i + 2 ≡ length hs →
-    cutScore (hs ++ x ∷ []) i ≡ nextScore hs x
+    cut_score (hs ++ x ∷ []) i ≡ next_score hs x
 score-next hs x i e = elim (dec_le 2 i) [
   | no g ↦ score-none (hs ++ x ∷ []) i (lt_of_not-le g) ∙ sym (next-none hs x (omega (arith, lt_of_not-le g)))
   | yes g ↦ score-six hs x i g e ∙ sym (next-six hs x i g e)
@@ -178,8 +178,8 @@ score-next hs x i e = elim (dec_le 2 i) [
 
 -- ---- repeats and changes
 
-after_last : (b : List ℕ) (pxs : List (List ℕ)) (px : List ℕ) → lastFrom b (pxs ++ px ∷ []) ≡ px
-unfolding lastFrom
+after_last : (b : List ℕ) (pxs : List (List ℕ)) (px : List ℕ) → last_from b (pxs ++ px ∷ []) ≡ px
+unfolding last_from
 after_last b [] px = refl
 after_last b (p ∷ pxs) px = after_last p pxs px
 
@@ -187,48 +187,48 @@ pub previous-more : (pxs : List (List ℕ)) (px : List ℕ) → previous (pxs ++
 unfolding previous
 previous-more pxs px = after_last [] pxs px
 
-at_last : (b : List ℕ) (pxs : List (List ℕ)) → lastFrom b pxs ≡ get_or (b ∷ pxs) (length pxs) []
-unfolding lastFrom
+at_last : (b : List ℕ) (pxs : List (List ℕ)) → last_from b pxs ≡ get_or (b ∷ pxs) (length pxs) []
+unfolding last_from
 at_last b [] = refl
 at_last b (p ∷ pxs) = at_last p pxs
 
 pub previous-at : (pxs : List (List ℕ)) → 0 < length pxs → previous pxs ≡ get_or pxs (length pxs - 1) []
-unfolding previous lastFrom
+unfolding previous last_from
 previous-at [] h = absurd (omega arith)
 previous-at (p ∷ pxs) h = let e : suc (length pxs) - 1 ≡ length pxs = omega arith in rw e (at_last p pxs)
 
 repeats-after : (b : List ℕ) (pxs : List (List ℕ)) (px : List ℕ) →
-    repeatsAfter b (pxs ++ px ∷ []) ≡ repeatsAfter b pxs ++ same (lastFrom b pxs) px ∷ []
-unfolding repeatsAfter lastFrom
+    repeats_after b (pxs ++ px ∷ []) ≡ repeats_after b pxs ++ same (last_from b pxs) px ∷ []
+unfolding repeats_after last_from
 repeats-after b [] px = refl
 repeats-after b (p ∷ pxs) px = ap (λ (x : List Bool). same b p ∷ x) (repeats-after p pxs px)
 
 changes-after : (rounds : Bool) (b : List ℕ) (pxs : List (List ℕ)) (px : List ℕ) →
-    changesAfter rounds b (pxs ++ px ∷ []) ≡ changesAfter rounds b pxs ++ change rounds (lastFrom b pxs) px ∷ []
-unfolding changesAfter lastFrom
+    changes_after rounds b (pxs ++ px ∷ []) ≡ changes_after rounds b pxs ++ change rounds (last_from b pxs) px ∷ []
+unfolding changes_after last_from
 changes-after rounds b [] px = refl
 changes-after rounds b (p ∷ pxs) px = ap (λ (x : List ℕ). change rounds b p ∷ x) (changes-after rounds p pxs px)
 
 pub repeats-more : (pxs : List (List ℕ)) (px : List ℕ) →
-    repeats (pxs ++ px ∷ []) ≡ repeats pxs ++ nextRepeat pxs px ∷ []
-unfolding repeats repeatsAfter nextRepeat previous lastFrom
+    repeats (pxs ++ px ∷ []) ≡ repeats pxs ++ next_repeat pxs px ∷ []
+unfolding repeats repeats_after next_repeat previous last_from
 repeats-more [] px = refl
 repeats-more (p ∷ pxs) px = ap (λ (x : List Bool). false ∷ x) (repeats-after p pxs px)
 
 pub changes-more : (rounds : Bool) (pxs : List (List ℕ)) (px : List ℕ) →
-    changes rounds (pxs ++ px ∷ []) ≡ changes rounds pxs ++ nextChange rounds pxs px ∷ []
-unfolding changes changesAfter nextChange previous lastFrom
+    changes rounds (pxs ++ px ∷ []) ≡ changes rounds pxs ++ next_change rounds pxs px ∷ []
+unfolding changes changes_after next_change previous last_from
 changes-more rounds [] px = refl
 changes-more rounds (p ∷ pxs) px = ap (λ (x : List ℕ). 0 ∷ x) (changes-after rounds p pxs px)
 
-length-repeats-after : (b : List ℕ) (pxs : List (List ℕ)) → length (repeatsAfter b pxs) ≡ length pxs
-unfolding repeatsAfter
+length-repeats-after : (b : List ℕ) (pxs : List (List ℕ)) → length (repeats_after b pxs) ≡ length pxs
+unfolding repeats_after
 length-repeats-after b [] = refl
 length-repeats-after b (p ∷ pxs) = ap suc (length-repeats-after p pxs)
 
 length-changes-after : (rounds : Bool) (b : List ℕ) (pxs : List (List ℕ)) →
-    length (changesAfter rounds b pxs) ≡ length pxs
-unfolding changesAfter
+    length (changes_after rounds b pxs) ≡ length pxs
+unfolding changes_after
 length-changes-after rounds b [] = refl
 length-changes-after rounds b (p ∷ pxs) = ap suc (length-changes-after rounds p pxs)
 
@@ -244,11 +244,11 @@ length-changes rounds (p ∷ pxs) = ap suc (length-changes-after rounds p pxs)
 
 -- pictures that are not repeated
 pub fresh-more : (pxs : List (List ℕ)) (px : List ℕ) →
-    count not (repeats (pxs ++ px ∷ [])) ≡ count not (repeats pxs) + pick (nextRepeat pxs px) 0 1
+    count not (repeats (pxs ++ px ∷ [])) ≡ count not (repeats pxs) + pick (next_repeat pxs px) 0 1
 unfolding count
 fresh-more pxs px =
-    rw (repeats-more pxs px, count-append not (repeats pxs) (nextRepeat pxs px ∷ [])) (ap (λ (x : ℕ). count not
-    (repeats pxs) + x) (by-test (λ (b : Bool). pick (not b) 1 0 + 0 ≡ pick b 0 1) (nextRepeat pxs px) (λ e. refl) (λ e.
+    rw (repeats-more pxs px, count-append not (repeats pxs) (next_repeat pxs px ∷ [])) (ap (λ (x : ℕ). count not
+    (repeats pxs) + x) (by-test (λ (b : Bool). pick (not b) 1 0 + 0 ≡ pick b 0 1) (next_repeat pxs px) (λ e. refl) (λ e.
     refl)))
 
 -- ---- a map of bits
@@ -268,8 +268,8 @@ ones-more (c ∷ bs) b =
 
 -- a bit more: the word that it stands in grows by its power
 pub word_more : (bs : List Bool) (b : Bool) →
-    mapWord (bs ++ b ∷ []) (length bs / 64) ≡ mapWord bs (length bs / 64) + 2 ^ (length bs % 64) * pick b 1 0
-unfolding mapWord
+    map_word (bs ++ b ∷ []) (length bs / 64) ≡ map_word bs (length bs / 64) + 2 ^ (length bs % 64) * pick b 1 0
+unfolding map_word
 word_more bs b =
     let j = length bs / 64 in
     let d : length (drop (64 * j) bs) ≡ length bs % 64 = length-drop (64 * j) bs ∙ omega arith in
@@ -284,8 +284,8 @@ word_more bs b =
 
 -- the other words stay
 pub word-other : (bs : List Bool) (b : Bool) (j : ℕ) → (j ≡ length bs / 64 → ⊥) →
-    mapWord (bs ++ b ∷ []) j ≡ mapWord bs j
-unfolding mapWord
+    map_word (bs ++ b ∷ []) j ≡ map_word bs j
+unfolding map_word
 word-other bs b j h = elim (dec_le (64 * j) (length bs)) [
   | yes k ↦
       let full : 64 ≤ length (drop (64 * j) bs) = simp length-drop (omega (arith, h)) in
@@ -315,8 +315,8 @@ ones_bit (b ∷ bs) (suc k) =
     drops false y = omega arith
 
 -- bit i % 64 of word i / 64 is element i
-pub word-bit : (bs : List Bool) (i : ℕ) → mapWord bs (i / 64) / 2 ^ (i % 64) % 2 ≡ pick (get_or bs i false) 1 0
-unfolding mapWord
+pub word-bit : (bs : List Bool) (i : ℕ) → map_word bs (i / 64) / 2 ^ (i % 64) % 2 ≡ pick (get_or bs i false) 1 0
+unfolding map_word
 word-bit bs i =
     let j = i / 64 in
     let k = i % 64 in
@@ -336,8 +336,8 @@ ones_small (b ∷ bs) = go b (ones_small bs)
     go true h = rw (pow-suc 2 (length bs)) (omega arith)
     go false h = rw (pow-suc 2 (length bs)) (omega arith)
 
-pub word_small : (bs : List Bool) (j : ℕ) → mapWord bs j < 2 ^ 64
-unfolding mapWord
+pub word_small : (bs : List Bool) (j : ℕ) → map_word bs j < 2 ^ 64
+unfolding map_word
 word_small bs j =
     let xs = take 64 (drop (64 * j) bs) in
     let few : length xs ≤ 64 = simp length-take (omega arith) in

@@ -9,17 +9,17 @@ use mathlib.Core.Path.{◌≡◌, refl, sym, ◌∙◌}
 use mathlib.Core.List.{List, [], ◌∷◌, ◌++◌, map}
 use lib.ListN.{length, take, drop, length-append}
 use Rattle.rules.specs.declared.Opening.{Opening}
-use Rattle.rules.specs.Bytes.{total, table, parts, endToEnd, All, empty, and, Bytes}
+use Rattle.rules.specs.Bytes.{total, table, parts, end_to_end, All, empty, and, Bytes}
 use Rattle.rules.specs.Opening.{level, side, area, columns, lines}
 use Rattle.rules.specs.Refusals.{Fault, fault}
-use Rattle.rules.specs.Pictures.{pictureSize, lumaFault, rows, band, blockSum, pixelIn, pixelLine, pixels}
+use Rattle.rules.specs.Pictures.{picture_size, luma_fault, rows, band, block_sum, pixel_in, pixel_line, pixels}
 use Rattle.rules.proofs.Laws.Lists.{all_drop, length-table}
 
 -- ---- how many
 
 lines-length : (n from m : ℕ) (f : ℕ → List ℕ) → ((i : ℕ) → length (f i) ≡ m) →
-    length (endToEnd (table n from f)) ≡ n * m
-unfolding endToEnd table
+    length (end_to_end (table n from f)) ≡ n * m
+unfolding end_to_end table
 lines-length zero from m f e = sym (zero-mul m)
 lines-length (suc n) from m f e =
     let a = e from in
@@ -27,10 +27,10 @@ lines-length (suc n) from m f e =
     rw (length-append, suc-mul n m) (omega arith)
 
 pub pixels-length : (o : Opening) (picture : List ℕ) → length (pixels o picture) ≡ columns o * lines o
-unfolding pixels pixelLine
+unfolding pixels pixel_line
 pixels-length o picture =
-    lines-length (lines o) 0 (columns o) (λ r. pixelLine o (band o picture r))
-    (λ r. length-table (columns o) 0 (pixelIn o (band o picture r)))
+    lines-length (lines o) 0 (columns o) (λ r. pixel_line o (band o picture r))
+    (λ r. length-table (columns o) 0 (pixel_in o (band o picture r)))
     ∙ mul_comm (lines o) (columns o)
 
 -- ---- how large
@@ -81,8 +81,8 @@ some : (k : ℕ) → 0 < 4 ^ k
 some zero = omega arith
 some (suc k) = let h = some k in rw (pow-suc 4 k) (omega arith)
 
-pub pixel-small : (o : Opening) (picture : List ℕ) → Bytes picture → (r c : ℕ) → pixelIn o (band o picture r) c < 256
-unfolding pixelIn blockSum band rows area side
+pub pixel-small : (o : Opening) (picture : List ℕ) → Bytes picture → (r c : ℕ) → pixel_in o (band o picture r) c < 256
+unfolding pixel_in block_sum band rows area side
 pixel-small o picture h r c =
     let k = level o in
     let rs = drop (r * 2 ^ k) (parts o.height o.width picture) in
@@ -99,28 +99,28 @@ unfolding table
 all-table zero from f e = empty
 all-table (suc n) from f e = and (e from) (all-table n (suc from) f e)
 
-all_lines : (n from : ℕ) (f : ℕ → List ℕ) → ((i : ℕ) → Bytes (f i)) → Bytes (endToEnd (table n from f))
-unfolding table endToEnd
+all_lines : (n from : ℕ) (f : ℕ → List ℕ) → ((i : ℕ) → Bytes (f i)) → Bytes (end_to_end (table n from f))
+unfolding table end_to_end
 all_lines zero from f e = empty
 all_lines (suc n) from f e =
-    bytes-append (f from) (endToEnd (table n (suc from) f)) (e from) (all_lines n (suc from) f e)
+    bytes-append (f from) (end_to_end (table n (suc from) f)) (e from) (all_lines n (suc from) f e)
 
 pub pixels-small : (o : Opening) (picture : List ℕ) → Bytes picture → Bytes (pixels o picture)
-unfolding pixels pixelLine
-pixels-small o picture h = all_lines (lines o) 0 (λ r. pixelLine o (band o picture r))
-    (λ r. all-table (columns o) 0 (pixelIn o (band o picture r)) (pixel-small o picture h r))
+unfolding pixels pixel_line
+pixels-small o picture h = all_lines (lines o) 0 (λ r. pixel_line o (band o picture r))
+    (λ r. all-table (columns o) 0 (pixel_in o (band o picture r)) (pixel-small o picture h r))
 
 -- ---- refusal 10 stays
 
-pub luma-kept : (o : Opening) (s t : List ℕ) (k p : ℕ) → lumaFault o s ≡ fault k p → lumaFault o (s ++ t) ≡ fault k p
-unfolding lumaFault
-luma-kept o s t k p h = elim (dec_le (length s) (750 * pictureSize o)) [
+pub luma-kept : (o : Opening) (s t : List ℕ) (k p : ℕ) → luma_fault o s ≡ fault k p → luma_fault o (s ++ t) ≡ fault k p
+unfolding luma_fault
+luma-kept o s t k p h = elim (dec_le (length s) (750 * picture_size o)) [
   | yes g ↦
-      let e : Fault.none ≡ fault k p = rw (le-ltb (750 * pictureSize o) (length s) g) at h in
+      let e : Fault.none ≡ fault k p = rw (le-ltb (750 * picture_size o) (length s) g) at h in
       let z : ◌≡◌ {A = ℕ} 0 1 = cc in
       absurd (omega arith)
   | no g ↦
-      let e : fault 10 (750 * pictureSize o) ≡ fault k p =
-      rw (lt-ltb (750 * pictureSize o) (length s) (lt_of_not-le g)) at h in
-      rw (lt-ltb (750 * pictureSize o) (length (s ++ t)) (simp length-append (omega (arith, lt_of_not-le g)))) e
+      let e : fault 10 (750 * picture_size o) ≡ fault k p =
+      rw (lt-ltb (750 * picture_size o) (length s) (lt_of_not-le g)) at h in
+      rw (lt-ltb (750 * picture_size o) (length (s ++ t)) (simp length-append (omega (arith, lt_of_not-le g)))) e
 ]

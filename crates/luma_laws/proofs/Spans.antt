@@ -8,8 +8,8 @@ use mathlib.Core.List.{List, [], ◌∷◌}
 use mathlib.Core.Bool.{Bool, true, false, not}
 use lib.ListN.{length, get_or, take, drop, length-drop}
 use lib.Seq.{drop-cons, take-suc, get_or-drop}
-use Rattle.rules.specs.Bytes.{pick, total, greatestOf, count}
-use Rattle.rules.specs.Scenes.{span, isTrue, longestFrom}
+use Rattle.rules.specs.Bytes.{pick, total, greatest_of, count}
+use Rattle.rules.specs.Scenes.{span, is_true, longest_from}
 use Rattle.rules.proofs.Laws.Lists.{total-append, larger-max}
 
 module _ {A : Type 0} where
@@ -64,62 +64,62 @@ total-most most k j n xs f e h = go (j - k) k refl
 
 -- ---- the greatest
 
-pub peak-end : (j : ℕ) (xs : List ℕ) → greatestOf (span j j xs) ≡ 0
-unfolding greatestOf
+pub peak-end : (j : ℕ) (xs : List ℕ) → greatest_of (span j j xs) ≡ 0
+unfolding greatest_of
 peak-end j xs = rw (span_none j xs)
 
 pub peak-step : (k j : ℕ) (xs : List ℕ) → k < j → j ≤ length xs →
-    greatestOf (span k j xs) ≡ max (get_or xs k 0) (greatestOf (span (k + 1) j xs))
-unfolding greatestOf
-peak-step k j xs h g = rw (span-cons k j xs 0 h g) (larger-max (get_or xs k 0) (greatestOf (span (k + 1) j xs)))
+    greatest_of (span k j xs) ≡ max (get_or xs k 0) (greatest_of (span (k + 1) j xs))
+unfolding greatest_of
+peak-step k j xs h g = rw (span-cons k j xs 0 h g) (larger-max (get_or xs k 0) (greatest_of (span (k + 1) j xs)))
 
 -- ---- repeats
 
-pub repeated-end : (j : ℕ) (rs : List Bool) → count isTrue (span j j rs) ≡ 0
+pub repeated-end : (j : ℕ) (rs : List Bool) → count is_true (span j j rs) ≡ 0
 unfolding count
 repeated-end j rs = rw (span_none j rs)
 
 pub repeated-step : (k j : ℕ) (rs : List Bool) → k < j → j ≤ length rs →
-    count isTrue (span k j rs) ≡ pick (get_or rs k false) 1 0 + count isTrue (span (k + 1) j rs)
+    count is_true (span k j rs) ≡ pick (get_or rs k false) 1 0 + count is_true (span (k + 1) j rs)
 unfolding count
 repeated-step k j rs h g = rw (span-cons k j rs false h g)
 
-pub longest-end : (run j : ℕ) (rs : List Bool) → longestFrom run (span j j rs) ≡ run
-unfolding longestFrom
+pub longest-end : (run j : ℕ) (rs : List Bool) → longest_from run (span j j rs) ≡ run
+unfolding longest_from
 longest-end run j rs = rw (span_none j rs)
 
 pub longest-true : (run k j : ℕ) (rs : List Bool) → k < j → j ≤ length rs → get_or rs k false ≡ true →
-    longestFrom run (span k j rs) ≡ longestFrom (run + 1) (span (k + 1) j rs)
-unfolding longestFrom
+    longest_from run (span k j rs) ≡ longest_from (run + 1) (span (k + 1) j rs)
+unfolding longest_from
 longest-true run k j rs h g e = rw (span-cons k j rs false h g, e, add-one run)
 
 pub longest-false : (run k j : ℕ) (rs : List Bool) → k < j → j ≤ length rs → get_or rs k false ≡ false →
-    longestFrom run (span k j rs) ≡ max run (longestFrom 0 (span (k + 1) j rs))
-unfolding longestFrom
+    longest_from run (span k j rs) ≡ max run (longest_from 0 (span (k + 1) j rs))
+unfolding longest_from
 longest-false run k j rs h g e =
-    rw (span-cons k j rs false h g, e) (larger-max run (longestFrom 0 (span (k + 1) j rs)))
+    rw (span-cons k j rs false h g, e) (larger-max run (longest_from 0 (span (k + 1) j rs)))
 
 -- a run that goes on is no shorter
-pub longest-least : (run : ℕ) (rs : List Bool) → run ≤ longestFrom run rs
-unfolding longestFrom
+pub longest-least : (run : ℕ) (rs : List Bool) → run ≤ longest_from run rs
+unfolding longest_from
 longest-least run [] = omega arith
 longest-least run (true ∷ rs) = let h = longest-least (suc run) rs in omega arith
-longest-least run (false ∷ rs) = rw (larger-max run (longestFrom 0 rs)) (omega arith)
+longest-least run (false ∷ rs) = rw (larger-max run (longest_from 0 rs)) (omega arith)
 
 -- a run is among those that are repeated, the greatest among those that are summed
-pub longest-most : (run : ℕ) (rs : List Bool) → longestFrom run rs ≤ run + count isTrue rs
-unfolding longestFrom count
+pub longest-most : (run : ℕ) (rs : List Bool) → longest_from run rs ≤ run + count is_true rs
+unfolding longest_from count
 longest-most run [] = omega arith
 longest-most run (true ∷ rs) = let h = longest-most (suc run) rs in omega arith
-longest-most run (false ∷ rs) = let h = longest-most 0 rs in rw (larger-max run (longestFrom 0 rs)) (omega arith)
+longest-most run (false ∷ rs) = let h = longest-most 0 rs in rw (larger-max run (longest_from 0 rs)) (omega arith)
 
-pub peak-most : (xs : List ℕ) → greatestOf xs ≤ total xs
-unfolding greatestOf total
+pub peak-most : (xs : List ℕ) → greatest_of xs ≤ total xs
+unfolding greatest_of total
 peak-most [] = omega arith
-peak-most (x ∷ xs) = let h = peak-most xs in rw (larger-max x (greatestOf xs)) (omega arith)
+peak-most (x ∷ xs) = let h = peak-most xs in rw (larger-max x (greatest_of xs)) (omega arith)
 
 -- those that are repeated and those that are not are all
-pub both : (rs : List Bool) → count isTrue rs + count not rs ≡ length rs
+pub both : (rs : List Bool) → count is_true rs + count not rs ≡ length rs
 unfolding count
 both [] = refl
 both (true ∷ rs) = let h = both rs in omega arith

@@ -12,7 +12,7 @@ use lib.ListN.{length}
 use lib.Dec.{leb}
 use borrow.Author.Tests.{leb-true, leb-false}
 use Rattle.rules.specs.Bytes.{total, tally, apart, Bytes}
-use Rattle.rules.specs.Changes.{squares, spread, Nearest, changeFrom, change}
+use Rattle.rules.specs.Changes.{squares, spread, Nearest, change_from, change}
 use Rattle.luma_laws.proofs.Tally.{tally-add}
 use Rattle.luma_laws.specs.Tallies.{rise, fall, ups, downs, squared}
 use Rattle.luma_laws.proofs.Moves.{squared-most, squares-are, apart-are}
@@ -110,7 +110,7 @@ spread-most old new g h e =
 -- q is the greatest whole number with q² × n² at most 10,000 × V
 pub change-greatest : (old new : List ℕ) → Bytes old → Bytes new → length old ≡ length new → 0 < length new →
     Root (spread old new) (length new) (change false old new)
-unfolding change changeFrom
+unfolding change change_from
 change-greatest old new g h e some =
     let n = length new in
     root-greatest (spread old new) n
@@ -119,7 +119,7 @@ change-greatest old new g h e some =
 -- rounded, it is the whole number nearest to the square root of 10,000 × V / n², the upper at a tie
 pub change-nearest : (old new : List ℕ) → Bytes old → Bytes new → length old ≡ length new → 0 < length new →
     Nearest (spread old new) (length new) (change true old new)
-unfolding change changeFrom
+unfolding change change_from
 change-nearest old new g h e some =
     let n = length new in
     nearest-is (spread old new) n

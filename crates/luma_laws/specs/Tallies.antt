@@ -11,14 +11,14 @@ abbrev pub in_block : ℕ → ℕ → ℕ → ℕ → ℕ → ℕ → ℕ
 in_block W n r c q b = pick (eqb (q / W / n) r) (pick (eqb (q % W / n) c) b 0) 0
 
 -- the sum of that block, of a picture whose first bytes are p
-abbrev pub blockTally : ℕ → ℕ → ℕ → ℕ → List ℕ → ℕ
-blockTally W n r c p = tally (in_block W n r c) 0 p
+abbrev pub block_tally : ℕ → ℕ → ℕ → ℕ → List ℕ → ℕ
+block_tally W n r c p = tally (in_block W n r c) 0 p
 
 -- ---- counts of bins
 
 -- how many of a picture's first pixels p are in bin b of tile t
-abbrev pub binTally : ℕ → ℕ → ℕ → ℕ → List ℕ → ℕ
-binTally w h t b p = tally (hits w h t b) 0 p
+abbrev pub bin_tally : ℕ → ℕ → ℕ → ℕ → List ℕ → ℕ
+bin_tally w h t b p = tally (hits w h t b) 0 p
 
 -- ---- from one picture to the next
 

@@ -12,10 +12,10 @@ use lib.Bits.{bit_and, and_high}
 use lib.Pow.{pow_pos, ones_split, high, ones_lt, shl_exact, high_ones, mod-pow-add}
 use lib.Count as digits
 use Rattle.rules.specs.Bytes.{pick, count}
-use Rattle.rules.specs.Scenes.{isTrue}
-use Rattle.rules.specs.Passage.{repeatedIn}
+use Rattle.rules.specs.Scenes.{is_true}
+use Rattle.rules.specs.Passage.{repeated_in}
 use Rattle.rules.proofs.Laws.Passage.{repeated-split, repeated-end}
-use Rattle.luma_laws.specs.Past.{ones, mapWord}
+use Rattle.luma_laws.specs.Past.{ones, map_word}
 use Rattle.luma_passage.specs.Contract.{Mapped}
 
 -- ---- the number that has these bits for its digits
@@ -41,7 +41,7 @@ no_ones : digits.ones 0 ≡ 0
 no_ones = omega (arith, digits.ones-le 0 0 (pow_pos 0))
 
 -- its ones are the true bits
-ones-count : (bs : List Bool) → digits.ones (ones bs) ≡ count isTrue bs
+ones-count : (bs : List Bool) → digits.ones (ones bs) ≡ count is_true bs
 unfolding ones count
 ones-count [] = no_ones
 ones-count (b ∷ bs) = digits.ones_step (ones (b ∷ bs)) ∙ rw (first-digit b bs, later-digits b bs, ones-count bs)
@@ -79,8 +79,8 @@ module _ {A : Type 0} where
   part-inside (suc f) n (suc m) (x ∷ xs) h = part-inside f n m xs (omega arith)
 
 word-part : (rs : List Bool) (at n : ℕ) → at % 64 + n ≤ 64 →
-    digits.ones (mapWord rs (at / 64) / 2 ^ (at % 64) % 2 ^ n) ≡ count isTrue (take n (drop at rs))
-unfolding mapWord
+    digits.ones (map_word rs (at / 64) / 2 ^ (at % 64) % 2 ^ n) ≡ count is_true (take n (drop at rs))
+unfolding map_word
 word-part rs at n h =
     let j = at / 64 in
     let f = at % 64 in
@@ -126,7 +126,7 @@ part-few x n = digits.ones-le n (x % 2 ^ n) (mod-lt x (pow_pos n))
 module _ (w : List ℕ) (a b : ℕ) where
   abbrev pub Counted : ℕ → ℕ → Type 0
   Counted found at =
-      (rs : List Bool) → Mapped w rs → a ≤ b → b ≤ length rs → found + repeatedIn at b rs ≡ repeatedIn a b rs
+      (rs : List Bool) → Mapped w rs → a ≤ b → b ≤ length rs → found + repeated_in at b rs ≡ repeated_in a b rs
 
   pub counted-more : (found at n r : ℕ) → Counted found at → at < b → at + n ≤ b → at % 64 + n ≤ 64 →
       r ≡ digits.ones (get_or w (64 + at / 64) 0 / 2 ^ (at % 64) % 2 ^ n) → Counted (found + r) (at + n)
@@ -136,12 +136,12 @@ module _ (w : List ℕ) (a b : ℕ) where
       let word = m.word (at / 64) (omega arith) in
       let here = word-part rs at n f in
       let t : digits.ones (get_or w (64 + at / 64) 0 / 2 ^ (at % 64) % 2 ^ n) ≡
-      digits.ones (mapWord rs (at / 64) / 2 ^ (at % 64) % 2 ^ n) = rw word in
+      digits.ones (map_word rs (at / 64) / 2 ^ (at % 64) % 2 ^ n) = rw word in
       let q = repeated-split at n b rs h in
       omega arith
 
   pub counted-all : (found at : ℕ) → Counted found at → b ≤ at → (rs : List Bool) → Mapped w rs → a ≤ b →
-      b ≤ length rs → found ≡ repeatedIn a b rs
+      b ≤ length rs → found ≡ repeated_in a b rs
   counted-all found at s h rs m k l =
       let p = s rs m k l in
       let z = repeated-end at b rs h in

@@ -4,13 +4,13 @@ use native.Mathlib.Nat.{one-le-mul}
 use native.Mathlib.Decide.{ℕ_discrete}
 use Rattle.rules.specs.declared.Opening.{Opening}
 use Rattle.rules.specs.Bytes.{pick, parts, count, empty, and, Bytes}
-use Rattle.rules.specs.Editions.{roundsToNearest}
+use Rattle.rules.specs.Editions.{rounds_to_nearest}
 use Rattle.rules.specs.Opening.{side, columns, lines}
-use Rattle.rules.specs.Pictures.{pictureSize, pixels}
+use Rattle.rules.specs.Pictures.{picture_size, pixels}
 use Rattle.rules.specs.Changes.{repeats}
 use Rattle.luma_laws.proofs.Pictures.{pixels-small, pixels-length}
-use Rattle.luma_laws.specs.Past.{previous, nextRepeat}
-use Rattle.luma_laws.proofs.Past.{getD-last, getD-other, reduced-more, previous-more, previous-at, fresh-more}
+use Rattle.luma_laws.specs.Past.{previous, next_repeat}
+use Rattle.luma_laws.proofs.Past.{get_or-last, get_or-other, reduced-more, previous-more, previous-at, fresh-more}
 use Rattle.luma_blocks.specs.Pixels.{RowsOf}
 use Rattle.luma_blocks.proofs.Drawn.{picture-whole}
 use Rattle.luma_tiles.specs.Bins.{Counts, Cleared}
@@ -18,9 +18,9 @@ use Rattle.luma_changes.specs.Figures.{Figures}
 use Rattle.luma_state.specs.declared.Grid.{Grid}
 use Rattle.luma_state.specs.declared.Progress.{Progress}
 use Rattle.luma_picture.specs.declared.Settled.{Settled}
-use Rattle.luma_state.specs.State.{slot, openingIn, movesIn, Words, Ring, Drawn, drawing, Live}
+use Rattle.luma_state.specs.State.{slot, opening_in, moves_in, Words, Ring, Drawn, drawing, Live}
 use Rattle.luma_rows.proofs.Rows.{bytes-right, at-passing, elsewhere, apart}
-use Rattle.luma_picture.specs.Contract.{againOf, ChangeOf, ScoreOf, noted, nextPicture, AtPictureEnd}
+use Rattle.luma_picture.specs.Contract.{again_of, ChangeOf, ScoreOf, noted, next_picture, AtPictureEnd}
 use Rattle.luma_picture.specs.Contract.{PictureEnded}
 use Rattle.luma_picture.proofs.Notes.{Whole, each-px, score-is, kept-is, change-is, again-is, words_more}
 use Rattle.luma_state.proofs.Opens.{still}
@@ -45,10 +45,10 @@ module _ (g : Grid) (s : Progress) {o : Opening} {luma sums bins picture joined 
   small-cur : Bytes v.cur
   small-cur = bytes-right v.whole v.cur (rw v.split at v.bytes)
 
-  ends : length v.cur ≡ pictureSize o
+  ends : length v.cur ≡ picture_size o
   ends =
       let p = at-passing at.line v.place in
-      let b : g.bytes ≡ pictureSize o = ap (λ (x : Grid). x.bytes) v.grid in
+      let b : g.bytes ≡ picture_size o = ap (λ (x : Grid). x.bytes) v.grid in
       omega (arith, p.ends, at.left)
 
   -- the pixels that are done are the picture's
@@ -72,7 +72,7 @@ module _ (g : Grid) (s : Progress) {o : Opening} {luma sums bins picture joined 
       let e = each (length v.pxs - 1) (omega arith) in
       rw (previous-at v.pxs h) (e.small, e.size ∙ sym (pixels-length o v.cur))
 
-  moved : Figures (previous v.pxs) (pixels o v.cur) (movesIn s)
+  moved : Figures (previous v.pxs) (pixels o v.cur) (moves_in s)
   moved = rw drawn-is at v.drawn.moves
 
   counted : Counts (columns o) (lines o) (slot (length v.pxs)) (pixels o v.cur) bins
@@ -84,17 +84,17 @@ module _ (g : Grid) (s : Progress) {o : Opening} {luma sums bins picture joined 
       let b : 1 ≤ g.columns = omega (arith, at.fits.wide) in
       one-le-mul a b
 
-  again-as : againOf s ≡ pick (nextRepeat v.pxs (pixels o v.cur)) 1 0
+  again-as : again_of s ≡ pick (next_repeat v.pxs (pixels o v.cur)) 1 0
   again-as = again-is o g s (pixels o v.cur) size_is some-pixels at.fits.room
       (pixels-small o v.cur small-cur) v.pxs v.pictures moved before
 
   -- the words name the edition
-  edition-is : (openingIn luma).edition ≡ o.edition
+  edition-is : (opening_in luma).edition ≡ o.edition
   edition-is = ap (λ (x : Opening). x.edition) v.words.opening
 
-  noted-words : {q : ℕ} {t : Settled} → ChangeOf g s (roundsToNearest (openingIn luma).edition) q →
+  noted-words : {q : ℕ} {t : Settled} → ChangeOf g s (rounds_to_nearest (opening_in luma).edition) q →
       ScoreOf bins s.pictures (get_or luma 17 0) t →
-      Words o (v.pxs ++ pixels o v.cur ∷ []) (noted luma s.pictures q (againOf s) t.score t.kept)
+      Words o (v.pxs ++ pixels o v.cur ∷ []) (noted luma s.pictures q (again_of s) t.score t.kept)
   noted-words c t =
       let last : length (pixels o v.cur) < 2 ^ 32 = omega (arith, size_is, at.fits.room) in
       let few : (j : ℕ) → j < length v.pxs → length (get_or v.pxs j []) < 2 ^ 32 =
@@ -106,13 +106,13 @@ module _ (g : Grid) (s : Progress) {o : Opening} {luma sums bins picture joined 
       rw v.pictures counted in
       words_more o v.pxs (pixels o v.cur) v.pictures at.more v.words
       (change-is o g s (pixels o v.cur) size_is some-pixels at.fits.room (pixels-small o v.cur small-cur)
-      (roundsToNearest o.edition) v.pxs _ v.pictures (rw edition-is at c) moved before)
+      (rounds_to_nearest o.edition) v.pxs _ v.pictures (rw edition-is at c) moved before)
       again-as
       (score-is o v.pxs (pixels o v.cur) t v.pictures ring here few last v.words.kept)
       (kept-is o v.pxs (pixels o v.cur) t v.pictures ring here few last)
 
   next_drawn : {bins' : List ℕ} → Cleared (slot (s.pictures + 1)) bins bins' →
-      Drawn g (nextPicture s (againOf s)) (v.pxs ++ pixels o v.cur ∷ []) [] bins' picture
+      Drawn g (next_picture s (again_of s)) (v.pxs ++ pixels o v.cur ∷ []) [] bins' picture
   next_drawn {bins'} c =
       let n : s.pictures + 1 ≡ length (v.pxs ++ pixels o v.cur ∷ []) =
       omega (arith, length-append v.pxs (pixels o v.cur ∷ []), v.pictures) in
@@ -125,7 +125,7 @@ module _ (g : Grid) (s : Progress) {o : Opening} {luma sums bins picture joined 
             (sym (get_or-take (s.line * g.columns) picture q 0 l) ∙ ap (λ (x : List ℕ). get_or x q 0) drawn-is);
         counts = rw (zero-mul g.columns, ← n) (c.none v.drawn.counts.size g.columns g.lines);
         moves = rw (zero-mul g.columns)
-            (still (previous (v.pxs ++ pixels o v.cur ∷ [])) (nextPicture s (againOf s)) refl refl refl);
+            (still (previous (v.pxs ++ pixels o v.cur ∷ [])) (next_picture s (again_of s)) refl refl refl);
       }
 
   next-ring : {bins' : List ℕ} → Cleared (slot (s.pictures + 1)) bins bins' →
@@ -142,18 +142,18 @@ module _ (g : Grid) (s : Progress) {o : Opening} {luma sums bins picture joined 
           Counts g.columns g.lines (slot j) (get_or (v.pxs ++ pixels o v.cur ∷ []) j []) bins'
       go (yes e) =
           elsewhere c.kept away
-          (rw (e, getD-last v.pxs (pixels o v.cur) [], wide, high) counted)
+          (rw (e, get_or-last v.pxs (pixels o v.cur) [], wide, high) counted)
       go (no e) =
           elsewhere c.kept away
-          (rw (getD-other v.pxs (pixels o v.cur) [] j e)
+          (rw (get_or-other v.pxs (pixels o v.cur) [] j e)
           (v.ring j (omega (arith, long, v.pictures, e)) (omega (arith, long, v.pictures))))
 
   pub next-live : {luma' bins' : List ℕ} {q : ℕ} {t : Settled} →
-      ChangeOf g s (roundsToNearest (openingIn luma).edition) q →
+      ChangeOf g s (rounds_to_nearest (opening_in luma).edition) q →
       ScoreOf bins s.pictures (get_or luma 17 0) t →
-      luma' ≡ noted luma s.pictures q (againOf s) t.score t.kept →
+      luma' ≡ noted luma s.pictures q (again_of s) t.score t.kept →
       Cleared (slot (s.pictures + 1)) bins bins' →
-      Live g o (nextPicture s (againOf s)) luma' sums bins' picture (joined ++ [])
+      Live g o (next_picture s (again_of s)) luma' sums bins' picture (joined ++ [])
   next-live {luma'} {bins'} {q} {t} change scored words cleared =
       let px = pixels o v.cur in
       let long : length (v.pxs ++ px ∷ []) ≡ length v.pxs + 1 = length-append v.pxs (px ∷ []) in
@@ -170,20 +170,20 @@ module _ (g : Grid) (s : Progress) {o : Opening} {luma sums bins picture joined 
           length-append v.whole v.cur,
           v.full,
           ends,
-          add-mul (length v.pxs) 1 (pictureSize o),
+          add-mul (length v.pxs) 1 (picture_size o),
         ));
         reduced =
             ap (λ (x : List (List ℕ)). x ++ px ∷ []) v.reduced
             ∙ sym (reduced-more o (length v.pxs) v.whole v.cur v.full ends)
-            ∙ ap (λ (n : ℕ). map (pixels o) (parts n (pictureSize o) (v.whole ++ v.cur))) (sym long);
+            ∙ ap (λ (n : ℕ). map (pixels o) (parts n (picture_size o) (v.whole ++ v.cur))) (sym long);
         few = omega (arith, long, v.pictures, at.more);
         room = λ e. refl;
         bytes = v.bytes;
         status = v.status;
         fed = v.fed;
         pictures = omega (arith, long, v.pictures);
-        fresh = unrepeated (nextRepeat v.pxs px) (count not (repeats v.pxs))
-            (count not (repeats (v.pxs ++ px ∷ []))) (againOf s) s.fresh again-as (fresh-more v.pxs px)
+        fresh = unrepeated (next_repeat v.pxs px) (count not (repeats v.pxs))
+            (count not (repeats (v.pxs ++ px ∷ []))) (again_of s) s.fresh again-as (fresh-more v.pxs px)
             v.fresh;
         words = rw words (noted-words change scored);
         ring = next-ring cleared;
@@ -197,15 +197,15 @@ module _ (g : Grid) (s : Progress) {o : Opening} {luma sums bins picture joined 
       unrepeated false old new a x e f h = omega arith
 
 pub picture-ended : (g : Grid) (s : Progress) {luma bins luma' bins' : List ℕ} {r : Progress} {q : ℕ} {t : Settled} →
-    AtPictureEnd g s → ChangeOf g s (roundsToNearest (openingIn luma).edition) q →
+    AtPictureEnd g s → ChangeOf g s (rounds_to_nearest (opening_in luma).edition) q →
     ScoreOf bins s.pictures (get_or luma 17 0) t →
-    luma' ≡ noted luma s.pictures q (againOf s) t.score t.kept → Cleared (slot (s.pictures + 1)) bins bins' →
-    r ≡ nextPicture s (againOf s) →
+    luma' ≡ noted luma s.pictures q (again_of s) t.score t.kept → Cleared (slot (s.pictures + 1)) bins bins' →
+    r ≡ next_picture s (again_of s) →
     PictureEnded g s luma bins r luma' bins'
 picture-ended g s at change scored words cleared e =
     record { is = e; goes = λ sums picture o joined v. rw e (next-live g s at v change scored words cleared) }
 
-pub again-small : (s : Progress) → againOf s ≤ 1
+pub again-small : (s : Progress) → again_of s ≤ 1
 again-small s = go (eqb s.pictures 0) (eqb (s.squares % 2 ^ 32) 0)
   where
     go : (a b : Bool) → pick a 0 (pick b 1 0) ≤ 1

@@ -4,21 +4,21 @@ use native.Mathlib.Decide.{dec_le, ℕ_discrete}
 use lib.ListN.{length-map}
 use Rattle.rules.specs.declared.Opening.{Opening}
 use Rattle.rules.specs.Bytes.{pick, parts, Bytes}
-use Rattle.rules.specs.Editions.{roundsToNearest}
+use Rattle.rules.specs.Editions.{rounds_to_nearest}
 use Rattle.rules.specs.Opening.{columns, lines}
-use Rattle.rules.specs.Pictures.{pictureSize, pixels}
+use Rattle.rules.specs.Pictures.{picture_size, pixels}
 use Rattle.rules.specs.Histograms.{histograms}
-use Rattle.rules.specs.Cuts.{at, cutScore}
+use Rattle.rules.specs.Cuts.{at, cut_score}
 use Rattle.rules.specs.Changes.{change, repeats, changes}
 use Rattle.luma_laws.proofs.Pictures.{bytes_take, bytes_drop, pixels-small, pixels-length}
-use Rattle.luma_laws.proofs.Tables.{getD-mapped, parts-length, part_at}
+use Rattle.luma_laws.proofs.Tables.{get_or-mapped, parts-length, part_at}
 use Rattle.luma_laws.proofs.Moves.{squared-most}
-use Rattle.luma_laws.specs.Past.{previous, nextChange, nextRepeat, nextScore, mapWord}
-use Rattle.luma_laws.proofs.Past.{getD-last, getD-other, map-append, score-other, score-next, next-some, next-none}
+use Rattle.luma_laws.specs.Past.{previous, next_change, next_repeat, next_score, map_word}
+use Rattle.luma_laws.proofs.Past.{get_or-last, get_or-other, map-append, score-other, score-next, next-some, next-none}
 use Rattle.luma_laws.proofs.Past.{repeats-more, changes-more, length-repeats, length-changes, word_more, word-other}
 use Rattle.luma_laws.proofs.Past.{word_small}
 use Rattle.luma_changes.specs.Changes.{spread_of}
-use Rattle.luma_cuts.specs.Counts.{binsAt, tilesAt}
+use Rattle.luma_cuts.specs.Counts.{bins_at, tiles_at}
 use Rattle.luma_tiles.specs.Bins.{Counts}
 use Rattle.luma_tiles.proofs.Whole.{counts-are}
 use Rattle.luma_changes.specs.Figures.{Figures}
@@ -26,8 +26,8 @@ use Rattle.luma_changes.proofs.Whole.{Exact, exact, spread-of, same_of}
 use Rattle.luma_state.specs.declared.Grid.{Grid}
 use Rattle.luma_state.specs.declared.Progress.{Progress}
 use Rattle.luma_picture.specs.declared.Settled.{Settled}
-use Rattle.luma_state.specs.State.{slot, movesIn, keptOf, Words}
-use Rattle.luma_picture.specs.Contract.{againOf, ChangeOf, ScoreOf, bit_of, withBit, noted}
+use Rattle.luma_state.specs.State.{slot, moves_in, kept_of, Words}
+use Rattle.luma_picture.specs.Contract.{again_of, ChangeOf, ScoreOf, bit_of, with_bit, noted}
 
 -- ---- the whole pictures
 
@@ -36,23 +36,23 @@ pub record Whole (o : Opening) (px : List ℕ) : Type 0 where
   pub size : length px ≡ columns o * lines o
 
 pub each-px : (o : Opening) (pxs : List (List ℕ)) (whole : List ℕ) →
-    pxs ≡ map (pixels o) (parts (length pxs) (pictureSize o) whole) → Bytes whole → (j : ℕ) →
+    pxs ≡ map (pixels o) (parts (length pxs) (picture_size o) whole) → Bytes whole → (j : ℕ) →
     j < length pxs → Whole o (get_or pxs j [])
 each-px o pxs whole e small j h =
-    let ps = parts (length pxs) (pictureSize o) whole in
-    let n : length ps ≡ length pxs = parts-length (length pxs) (pictureSize o) whole in
+    let ps = parts (length pxs) (picture_size o) whole in
+    let n : length ps ≡ length pxs = parts-length (length pxs) (picture_size o) whole in
     let is : get_or pxs j [] ≡ pixels o (get_or ps j []) =
-    ap (λ (x : List (List ℕ)). get_or x j []) e ∙ getD-mapped (pixels o) ps j [] [] (omega arith) in
-    let bytes : Bytes (get_or ps j []) = rw (part_at (length pxs) (pictureSize o) j whole h)
-    (bytes_take (pictureSize o) (drop (j * pictureSize o) whole) (bytes_drop (j * pictureSize o) whole small)) in
+    ap (λ (x : List (List ℕ)). get_or x j []) e ∙ get_or-mapped (pixels o) ps j [] [] (omega arith) in
+    let bytes : Bytes (get_or ps j []) = rw (part_at (length pxs) (picture_size o) j whole h)
+    (bytes_take (picture_size o) (drop (j * picture_size o) whole) (bytes_drop (j * picture_size o) whole small)) in
     rw is (record { small = pixels-small o (get_or ps j []) bytes; size = pixels-length o (get_or ps j []) })
 
 -- ---- the cut score
 
 pub tiles-are : (o : Opening) (base : ℕ) (px : List ℕ) {counts : List ℕ} →
     Counts (columns o) (lines o) base px counts → length px < 2 ^ 32 →
-    ((i : ℕ) → get_or counts i 0 < 2 ^ 32) → tilesAt counts base ≡ histograms o px
-unfolding tilesAt binsAt
+    ((i : ℕ) → get_or counts i 0 < 2 ^ 32) → tiles_at counts base ≡ histograms o px
+unfolding tiles_at bins_at
 tiles-are o base px c few small = counts-are o base px c few small
 
 module _ (o : Opening) (pxs : List (List ℕ)) (px : List ℕ) {bins : List ℕ} {i kept : ℕ} {r : Settled}
@@ -64,17 +64,17 @@ module _ (o : Opening) (pxs : List (List ℕ)) (px : List ℕ) {bins : List ℕ}
   long : length (map (histograms o) pxs) ≡ i
   long = length-map pxs (histograms o) ∙ sym number
 
-  tile : (j : ℕ) → j < i → i ≤ j + 4 → tilesAt bins (slot j) ≡ at (map (histograms o) pxs) j
+  tile : (j : ℕ) → j < i → i ≤ j + 4 → tiles_at bins (slot j) ≡ at (map (histograms o) pxs) j
   tile j h k = tiles-are o (slot j) (get_or pxs j []) (ring j (omega arith) (omega arith)) (few j (omega arith))
       s.small
-      ∙ sym (getD-mapped (histograms o) pxs j [] [] (omega arith))
+      ∙ sym (get_or-mapped (histograms o) pxs j [] [] (omega arith))
 
-  own : tilesAt bins (slot i) ≡ histograms o px
+  own : tiles_at bins (slot i) ≡ histograms o px
   own = tiles-are o (slot i) px here last s.small
 
-  pub score-is : (4 ≤ length pxs → kept ≡ keptOf (map (histograms o) pxs)) →
-      r.score ≡ nextScore (map (histograms o) pxs) (histograms o px)
-  unfolding keptOf
+  pub score-is : (4 ≤ length pxs → kept ≡ kept_of (map (histograms o) pxs)) →
+      r.score ≡ next_score (map (histograms o) pxs) (histograms o px)
+  unfolding kept_of
   score-is keeps = elim (dec_le 4 i) [
     | no h ↦ s.early (lt_of_not-le h)
         ∙ sym (next-none (map (histograms o) pxs) (histograms o px) (omega (arith, long, lt_of_not-le h)))
@@ -89,8 +89,8 @@ module _ (o : Opening) (pxs : List (List ℕ)) (px : List ℕ) {bins : List ℕ}
   ]
 
   -- what it keeps is what the next one needs
-  pub kept-is : 3 ≤ length pxs → r.kept ≡ keptOf (map (histograms o) pxs ++ histograms o px ∷ [])
-  unfolding keptOf
+  pub kept-is : 3 ≤ length pxs → r.kept ≡ kept_of (map (histograms o) pxs ++ histograms o px ∷ [])
+  unfolding kept_of
   kept-is h =
       let hs = map (histograms o) pxs in
       let x = histograms o px in
@@ -107,9 +107,9 @@ module _ (o : Opening) (pxs : List (List ℕ)) (px : List ℕ) {bins : List ℕ}
         first,
         second,
         third,
-        getD-other hs x [] (i - 3) (λ e. omega arith),
-        getD-other hs x [] (i - 1) (λ e. omega arith),
-        rw n at (getD-last hs x []),
+        get_or-other hs x [] (i - 3) (λ e. omega arith),
+        get_or-other hs x [] (i - 1) (λ e. omega arith),
+        rw n at (get_or-last hs x []),
         b,
         d,
         own,
@@ -120,14 +120,14 @@ module _ (o : Opening) (pxs : List (List ℕ)) (px : List ℕ) {bins : List ℕ}
 module _ (o : Opening) (g : Grid) (s : Progress) (px : List ℕ) (size : length px ≡ g.lines * g.columns)
     (some : 1 ≤ g.lines * g.columns) (few : g.lines * g.columns ≤ 14101)
     (small : Bytes px) where
-  exactly : (pxs : List (List ℕ)) → Figures (previous pxs) px (movesIn s) → Bytes (previous pxs) →
-      Exact (previous pxs) px (movesIn s)
+  exactly : (pxs : List (List ℕ)) → Figures (previous pxs) px (moves_in s) → Bytes (previous pxs) →
+      Exact (previous pxs) px (moves_in s)
   exactly pxs f b = exact f b small (omega arith)
 
   pub change-is : (rounds : Bool) (pxs : List (List ℕ)) (r : ℕ) → s.pictures ≡ length pxs → ChangeOf g s rounds r →
-      Figures (previous pxs) px (movesIn s) →
-      (0 < length pxs → Bytes (previous pxs) × (length (previous pxs) ≡ length px)) → r ≡ nextChange rounds pxs px
-  unfolding nextChange change spread_of
+      Figures (previous pxs) px (moves_in s) →
+      (0 < length pxs → Bytes (previous pxs) × (length (previous pxs) ≡ length px)) → r ≡ next_change rounds pxs px
+  unfolding next_change change spread_of
   change-is rounds [] r n c f b = c.first n
   change-is rounds (p ∷ pxs) r n c f b =
       let all = b (omega arith) in
@@ -136,10 +136,10 @@ module _ (o : Opening) (g : Grid) (s : Progress) (px : List ℕ) (size : length 
       omega (arith, x.both, squared-most (previous (p ∷ pxs)) px all.0 small, ap (λ (k : ℕ). 65025 * k) size) in
       (c.later (λ e. omega arith)).exact some few most ∙ rw (spread-of x all.1, size)
 
-  pub again-is : (pxs : List (List ℕ)) → s.pictures ≡ length pxs → Figures (previous pxs) px (movesIn s) →
+  pub again-is : (pxs : List (List ℕ)) → s.pictures ≡ length pxs → Figures (previous pxs) px (moves_in s) →
       (0 < length pxs → Bytes (previous pxs) × (length (previous pxs) ≡ length px)) →
-      againOf s ≡ pick (nextRepeat pxs px) 1 0
-  unfolding nextRepeat
+      again_of s ≡ pick (next_repeat pxs px) 1 0
+  unfolding next_repeat
   again-is [] n f b = rw (eq-eqb s.pictures 0 n)
   again-is (p ∷ pxs) n f b =
       let all = b (omega arith) in
@@ -150,17 +150,17 @@ module _ (o : Opening) (g : Grid) (s : Progress) (px : List ℕ) (size : length 
 
 module _ (o : Opening) (pxs : List (List ℕ)) (px : List ℕ) {luma : List ℕ} {i q again score kept : ℕ}
     (number : i ≡ length pxs) (few : i < 750) (w : Words o pxs luma)
-    (is-q : q ≡ nextChange (roundsToNearest o.edition) pxs px) (is-again : again ≡ pick (nextRepeat pxs px) 1 0)
-    (is-score : score ≡ nextScore (map (histograms o) pxs) (histograms o px))
-    (is-kept : 3 ≤ length pxs → kept ≡ keptOf (map (histograms o) pxs ++ histograms o px ∷ [])) where
+    (is-q : q ≡ next_change (rounds_to_nearest o.edition) pxs px) (is-again : again ≡ pick (next_repeat pxs px) 1 0)
+    (is-score : score ≡ next_score (map (histograms o) pxs) (histograms o px))
+    (is-kept : 3 ≤ length pxs → kept ≡ kept_of (map (histograms o) pxs ++ histograms o px ∷ [])) where
   abbrev rounded : Bool
-  rounded = roundsToNearest o.edition
+  rounded = rounds_to_nearest o.edition
 
   one : List ℕ
   one = set luma (850 + i) q
 
   two : List ℕ
-  two = withBit one i again
+  two = with_bit one i again
 
   one_size : length one ≡ 1600
   unfolding one
@@ -186,14 +186,14 @@ module _ (o : Opening) (pxs : List (List ℕ)) (px : List ℕ) {luma : List ℕ}
   scalar k h = apart k (λ z. omega arith) ∙ stays k (λ z. omega arith) (λ z. omega arith) (λ z. omega arith)
 
   score-word : (k : ℕ) → k < 750 →
-      get_or (set two (98 + i) score) (100 + k) 0 ≡ cutScore (map (histograms o) (pxs ++ px ∷ [])) k
+      get_or (set two (98 + i) score) (100 + k) 0 ≡ cut_score (map (histograms o) (pxs ++ px ∷ [])) k
   score-word k h = rw (map-append (histograms o) pxs (px ∷ [])) (go (ℕ_discrete (k + 2) i))
     where
       long : length (map (histograms o) pxs) ≡ length pxs
       long = length-map pxs (histograms o)
 
       go : Dec (k + 2 ≡ i) →
-          get_or (set two (98 + i) score) (100 + k) 0 ≡ cutScore (map (histograms o) pxs ++ histograms o px ∷ []) k
+          get_or (set two (98 + i) score) (100 + k) 0 ≡ cut_score (map (histograms o) pxs ++ histograms o px ∷ []) k
       go (yes e) =
           let here : 100 + k ≡ 98 + i = omega arith in
           rw here (get_or-set_same two (98 + i) score 0 (omega (arith, two_size)) ∙ is-score
@@ -209,7 +209,7 @@ module _ (o : Opening) (pxs : List (List ℕ)) (px : List ℕ) {luma : List ℕ}
   change-word k h = rw (changes-more rounded pxs px) (go (ℕ_discrete k i))
     where
       go : Dec (k ≡ i) →
-          get_or (set two (98 + i) score) (850 + k) 0 ≡ get_or (changes rounded pxs ++ nextChange rounded pxs px ∷ []) k 0
+          get_or (set two (98 + i) score) (850 + k) 0 ≡ get_or (changes rounded pxs ++ next_change rounded pxs px ∷ []) k 0
       go (yes e) =
           let n : k ≡ length (changes rounded pxs) = omega (arith, length-changes rounded pxs) in
           let here : 850 + k ≡ 850 + i = omega arith in
@@ -219,16 +219,16 @@ module _ (o : Opening) (pxs : List (List ℕ)) (px : List ℕ) {luma : List ℕ}
           ∙ ap (λ (z : ℕ). get_or one z 0) here
           ∙ get_or-set_same luma (850 + i) q 0 (omega (arith, w.size))
           ∙ is-q
-          ∙ sym (getD-last (changes rounded pxs) (nextChange rounded pxs px) 0)
-          ∙ ap (λ (z : ℕ). get_or (changes rounded pxs ++ nextChange rounded pxs px ∷ []) z 0) (sym n)
+          ∙ sym (get_or-last (changes rounded pxs) (next_change rounded pxs px) 0)
+          ∙ ap (λ (z : ℕ). get_or (changes rounded pxs ++ next_change rounded pxs px ∷ []) z 0) (sym n)
       go (no e) =
           stays (850 + k) (λ z. e (omega arith)) (λ z. omega arith) (λ z. omega arith)
           ∙ w.changes k h
           ∙ sym
-          (getD-other (changes rounded pxs) (nextChange rounded pxs px) 0 k
+          (get_or-other (changes rounded pxs) (next_change rounded pxs px) 0 k
           (λ z. e (omega (arith, length-changes rounded pxs))))
 
-  repeat-word : (j : ℕ) → j < 12 → get_or (set two (98 + i) score) (64 + j) 0 ≡ mapWord (repeats (pxs ++ px ∷ [])) j
+  repeat-word : (j : ℕ) → j < 12 → get_or (set two (98 + i) score) (64 + j) 0 ≡ map_word (repeats (pxs ++ px ∷ [])) j
   unfolding one two
   repeat-word j h = rw (repeats-more pxs px) (go (ℕ_discrete j (i / 64)))
     where
@@ -236,27 +236,27 @@ module _ (o : Opening) (pxs : List (List ℕ)) (px : List ℕ) {luma : List ℕ}
       bits = length-repeats pxs ∙ sym number
 
       go : Dec (j ≡ i / 64) →
-          get_or (set two (98 + i) score) (64 + j) 0 ≡ mapWord (repeats pxs ++ nextRepeat pxs px ∷ []) j
+          get_or (set two (98 + i) score) (64 + j) 0 ≡ map_word (repeats pxs ++ next_repeat pxs px ∷ []) j
       go (yes e) =
           let here : 64 + j ≡ 64 + i / 64 = omega arith in
-          let old : get_or one (64 + i / 64) 0 ≡ mapWord (repeats pxs) (i / 64) =
+          let old : get_or one (64 + i / 64) 0 ≡ map_word (repeats pxs) (i / 64) =
           get_or-set_other luma (850 + i) (64 + i / 64) q 0 (λ z. omega arith) ∙ w.repeats (i / 64) (omega arith) in
-          let more : mapWord (repeats pxs ++ nextRepeat pxs px ∷ []) (i / 64)
-          ≡ mapWord (repeats pxs) (i / 64) + 2 ^ (i % 64) * pick (nextRepeat pxs px) 1 0 =
-          rw bits at (word_more (repeats pxs) (nextRepeat pxs px)) in
-          let most = word_small (repeats pxs ++ nextRepeat pxs px ∷ []) (i / 64) in
-          let power : again * 2 ^ (i % 64) ≡ 2 ^ (i % 64) * pick (nextRepeat pxs px) 1 0 =
+          let more : map_word (repeats pxs ++ next_repeat pxs px ∷ []) (i / 64)
+          ≡ map_word (repeats pxs) (i / 64) + 2 ^ (i % 64) * pick (next_repeat pxs px) 1 0 =
+          rw bits at (word_more (repeats pxs) (next_repeat pxs px)) in
+          let most = word_small (repeats pxs ++ next_repeat pxs px ∷ []) (i / 64) in
+          let power : again * 2 ^ (i % 64) ≡ 2 ^ (i % 64) * pick (next_repeat pxs px) 1 0 =
           mul_comm again (2 ^ (i % 64)) ∙ ap (λ (z : ℕ). 2 ^ (i % 64) * z) is-again in
           get_or-set_other two (98 + i) (64 + j) score 0 (λ z. omega arith)
           ∙ ap (λ (z : ℕ). get_or two z 0) here
           ∙ get_or-set_same one (64 + i / 64) ((get_or one (64 + i / 64) 0 + bit_of i again) % 2 ^ 64) 0
           (omega (arith, one_size))
           ∙ omega (arith, old, more, most, power)
-          ∙ ap (λ (z : ℕ). mapWord (repeats pxs ++ nextRepeat pxs px ∷ []) z) (sym e)
+          ∙ ap (λ (z : ℕ). map_word (repeats pxs ++ next_repeat pxs px ∷ []) z) (sym e)
       go (no e) =
           stays (64 + j) (λ z. omega arith) (λ z. e (omega arith)) (λ z. omega arith)
           ∙ w.repeats j h
-          ∙ sym (word-other (repeats pxs) (nextRepeat pxs px) j (λ z. e (z ∙ ap (λ (k : ℕ). k / 64) bits)))
+          ∙ sym (word-other (repeats pxs) (next_repeat pxs px) j (λ z. e (z ∙ ap (λ (k : ℕ). k / 64) bits)))
 
   pub words_more : Words o (pxs ++ px ∷ []) (noted luma i q again score kept)
   unfolding one two

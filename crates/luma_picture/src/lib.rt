@@ -2,7 +2,7 @@
 // in the ring for the next.
 ghost use Rattle.std.specs.Prelude.{◌≡◌, ℕ, ◌+◌, ◌*◌, ◌%◌, ◌^◌, ◌<◌, ◌≤◌, length, slice_index};
 ghost use Rattle.luma_state.specs.State.{Fits};
-ghost use Rattle.luma_picture.specs.Contract.{againOf, ChangeOf, ScoreOf, noted, nextPicture, AtPictureEnd};
+ghost use Rattle.luma_picture.specs.Contract.{again_of, ChangeOf, ScoreOf, noted, next_picture, AtPictureEnd};
 ghost use Rattle.luma_picture.specs.Contract.{PictureEnded};
 
 use luma_state::{Grid, Progress, Words, layout, slot_of};
@@ -10,7 +10,7 @@ use luma_tiles::Bins;
 
 // 1 if no pixel moved since the previous picture.
 fn again_of(s: Progress) -> u64
-    ensures { result ≡ againOf s }
+    ensures { result ≡ again_of s }
 {
     if s.pictures == 0 {
         return 0;
@@ -92,7 +92,7 @@ fn note(luma: &mut Words, i: usize, q: u64, again: u64, score: u64, kept: u64)
 
 fn next_picture(s: Progress, again: u64) -> Progress
     requires { (s.pictures < 750) × (again ≤ 1) }
-    ensures { result ≡ nextPicture s again }
+    ensures { result ≡ next_picture s again }
 {
     let mut r = s;
     r.pictures = s.pictures + 1;

@@ -6,11 +6,11 @@ use lib.ListN.{get_or-append}
 use Rattle.rules.specs.declared.Opening.{Opening}
 use Rattle.rules.specs.Bytes.{tally}
 use Rattle.luma_laws.specs.Past.{previous}
-use Rattle.luma_laws.specs.Tallies.{in_block, blockTally}
+use Rattle.luma_laws.specs.Tallies.{in_block, block_tally}
 use Rattle.luma_laws.proofs.Pictures.{bytes-append, bytes_take}
 use Rattle.luma_laws.proofs.Tally.{tally-cut, tally-shift}
 use Rattle.luma_laws.proofs.Blocks.{earlier, row_of, column-of}
-use Rattle.luma_sums.specs.Sums.{run, inColumn}
+use Rattle.luma_sums.specs.Sums.{run, in_column}
 use Rattle.luma_blocks.specs.Rows.{SumsOf}
 use Rattle.luma_blocks.specs.Pixels.{RowsOf}
 use Rattle.luma_tiles.specs.Bins.{CountedRow}
@@ -19,7 +19,7 @@ use Rattle.luma_changes.specs.Figures.{Compared}
 use Rattle.luma_state.specs.declared.Grid.{Grid}
 use Rattle.luma_state.specs.declared.Progress.{Progress}
 use Rattle.luma_state.specs.State.{slot, Drawn, Place, drawing, passing, Live}
-use Rattle.luma_rows.specs.Contract.{moved_to, nextRow, Puts, AtPlainRows, CountedRows, PlainRows, Taking, Took}
+use Rattle.luma_rows.specs.Contract.{moved_to, next_row, Puts, AtPlainRows, CountedRows, PlainRows, Taking, Took}
 use Rattle.luma_rows.proofs.Rows.{at-drawing, bytes_of, elsewhere, apart, figures-in}
 
 -- ---- the loops
@@ -100,16 +100,16 @@ counted-one {w} size f = record { kept = f.kept; more = λ p e c. rw (one-mul w)
 
 -- ---- blocks of one byte
 
-one_byte : (c : ℕ) (t : List ℕ) → c < length t → tally (inColumn 1 c) 0 t ≡ get_or t c 0
+one_byte : (c : ℕ) (t : List ℕ) → c < length t → tally (in_column 1 c) 0 t ≡ get_or t c 0
 unfolding tally
 one_byte c t h =
     tally-cut 1 c (λ b. b) t (omega arith) ∙ rw (mul-one c, drop-cons t c 0 h) (omega arith)
 
 -- the block in row r and column c is the byte at place r × W + c
-alone : (W r c q b : ℕ) → c < W → in_block W 1 r c q b ≡ inColumn 1 (r * W + c) q b
+alone : (W r c q b : ℕ) → c < W → in_block W 1 r c q b ≡ in_column 1 (r * W + c) q b
 alone W r c q b h = go (ℕ_discrete q (r * W + c))
   where
-    go : Dec (q ≡ r * W + c) → in_block W 1 r c q b ≡ inColumn 1 (r * W + c) q b
+    go : Dec (q ≡ r * W + c) → in_block W 1 r c q b ≡ in_column 1 (r * W + c) q b
     go (yes e) =
         let row : q / W ≡ r = ap (λ (x : ℕ). x / W) e ∙ row_of W r c h in
         let col : q % W ≡ c = ap (λ (x : ℕ). x % W) e ∙ column-of W r c h in
@@ -129,9 +129,9 @@ alone W r c q b h = go (ℕ_discrete q (r * W + c))
               ne_eqb (q % W / 1) c (λ e. n (omega (arith, rw k at whole))),
             )
 
-block-byte : (W r c : ℕ) (p : List ℕ) → c < W → r * W + c < length p → blockTally W 1 r c p ≡ get_or p (r * W + c) 0
+block-byte : (W r c : ℕ) (p : List ℕ) → c < W → r * W + c < length p → block_tally W 1 r c p ≡ get_or p (r * W + c) 0
 block-byte W r c p h k =
-    tally-shift (in_block W 1 r c) (inColumn 1 (r * W + c)) 0 0 p (λ j b l. alone W r c (0 + j) b h)
+    tally-shift (in_block W 1 r c) (in_column 1 (r * W + c)) 0 0 p (λ j b l. alone W r c (0 + j) b h)
     ∙ one_byte (r * W + c) p k
 
 -- sums of nothing stand for every row that is to come
@@ -154,7 +154,7 @@ module _ (w b j : ℕ) (cur rest : List ℕ) {picture picture' : List ℕ} (long
   up = add-mul b j w
 
   new-pixel : (i c : ℕ) (t : List ℕ) → c < w → i < j →
-      blockTally w 1 (b + i) c ((cur ++ take (j * w) rest) ++ t) ≡ get_or rest (i * w + c) 0
+      block_tally w 1 (b + i) c ((cur ++ take (j * w) rest) ++ t) ≡ get_or rest (i * w + c) 0
   new-pixel i c t hc hi =
       let chunk = take (j * w) rest in
       let size : length chunk ≡ j * w = length-take-le (j * w) rest there in
@@ -176,7 +176,7 @@ module _ (w b j : ℕ) (cur rest : List ℕ) {picture picture' : List ℕ} (long
       }
     where
       go : (r c : ℕ) → r < b + j → c < w → (t : List ℕ) → Dec (b ≤ r) →
-          get_or picture' (r * w + c) 0 ≡ blockTally w 1 r c ((cur ++ take (j * w) rest) ++ t) / (1 * 1)
+          get_or picture' (r * w + c) 0 ≡ block_tally w 1 r c ((cur ++ take (j * w) rest) ++ t) / (1 * 1)
       go r c hr hc t (no k) =
           let less : r < b = lt_of_not-le k in
           let next : r + 1 ≤ b = omega arith in
@@ -249,7 +249,7 @@ module _ (g : Grid) (s : Progress) {j : ℕ} {bins picture rest bins' picture' :
 
   plain-drawn : (pxs : List (List ℕ)) (cur : List ℕ) → s.pictures ≡ length pxs →
       length cur ≡ s.line * g.columns → Drawn g s pxs cur bins picture →
-      Drawn g (nextRow g (moved_to s 0 0 (j * g.columns)) j m) pxs (cur ++ take (j * g.columns) rest) bins' picture'
+      Drawn g (next_row g (moved_to s 0 0 (j * g.columns)) j m) pxs (cur ++ take (j * g.columns) rest) bins' picture'
   plain-drawn pxs cur number long d =
       let b = s.line in
       let w = g.columns in
@@ -275,7 +275,7 @@ module _ (g : Grid) (s : Progress) {j : ℕ} {bins picture rest bins' picture' :
 
   plain-place : (cur sums : List ℕ) → length cur ≡ s.line * g.columns →
       SumsOf g.width g.side g.columns s.line cur sums →
-      Place g (nextRow g (moved_to s 0 0 (j * g.columns)) j m) (cur ++ take (j * g.columns) rest) sums
+      Place g (next_row g (moved_to s 0 0 (j * g.columns)) j m) (cur ++ take (j * g.columns) rest) sums
   plain-place cur sums long sum = go (dec_le g.lines (s.line + j))
     where
       chunk : List ℕ
@@ -297,7 +297,7 @@ module _ (g : Grid) (s : Progress) {j : ℕ} {bins picture rest bins' picture' :
           (sums_on some own (rw (mul-one b) h) (rw (at.same, at.side) at sum))
 
       go : Dec (g.lines ≤ s.line + j) →
-          Place g (nextRow g (moved_to s 0 0 (j * g.columns)) j m) (cur ++ take (j * g.columns) rest) sums
+          Place g (next_row g (moved_to s 0 0 (j * g.columns)) j m) (cur ++ take (j * g.columns) rest) sums
       go (no k) =
           drawing (lt_of_not-le k) (omega (arith, all, wide (s.line + j), place (s.line + j)))
           (nothing (s.line + j) (cur ++ take (j * g.columns) rest) (omega (arith, all)))
@@ -312,7 +312,7 @@ module _ (g : Grid) (s : Progress) {j : ℕ} {bins picture rest bins' picture' :
           (nothing 0 [] (omega arith))
 
   plain-live : (o : Opening) (luma sums joined : List ℕ) → Live g o s luma sums bins picture joined →
-      Live g o (nextRow g (moved_to s 0 0 (j * g.columns)) j m) luma sums bins' picture'
+      Live g o (next_row g (moved_to s 0 0 (j * g.columns)) j m) luma sums bins' picture'
       (joined ++ take (j * g.columns) rest)
   plain-live o luma sums joined v =
       let chunk = take (j * g.columns) rest in
@@ -344,7 +344,7 @@ module _ (g : Grid) (s : Progress) {j : ℕ} {bins picture rest bins' picture' :
         place = plain-place v.cur sums (omega arith) p.1;
       }
 
-  pub plain_rows : (r : Progress) → r ≡ nextRow g (moved_to s 0 0 (j * g.columns)) j m →
+  pub plain_rows : (r : Progress) → r ≡ next_row g (moved_to s 0 0 (j * g.columns)) j m →
       PlainRows g s j bins picture rest r bins' picture'
   plain_rows r e = record { state = m; is = e; goes = λ luma sums o joined v. rw e (plain-live o luma sums joined v) }
 

@@ -14,8 +14,8 @@ use Rattle.luma_changes.specs.declared.sums.Moves.{Moves}
 use Rattle.luma_changes.specs.Figures.{Figures, Compared}
 use Rattle.luma_state.specs.declared.Grid.{Grid}
 use Rattle.luma_state.specs.declared.Progress.{Progress}
-use Rattle.luma_state.specs.State.{movesIn, slot, Drawn, Place, drawing, passing, Live, Fits}
-use Rattle.luma_rows.specs.Contract.{Keeps, moved_to, nextRow, AtRowEnd, RowEnded, Took, Taking}
+use Rattle.luma_state.specs.State.{moves_in, slot, Drawn, Place, drawing, passing, Live, Fits}
+use Rattle.luma_rows.specs.Contract.{Keeps, moved_to, next_row, AtRowEnd, RowEnded, Took, Taking}
 
 -- ---- the old pixels
 
@@ -113,7 +113,7 @@ apart i j h k = elim (dec_le (i % 5) (j % 5)) [
 
 pub figures-in : {old p : List ℕ} (s : Progress) {m : Moves} →
     (m.up ≡ s.ups % 2 ^ 32) × (m.down ≡ s.downs % 2 ^ 32) × (m.squares ≡ s.squares % 2 ^ 32) →
-    Figures old p (movesIn s) → Figures old p m
+    Figures old p (moves_in s) → Figures old p m
 figures-in s e f = record {
   up = omega (arith, e.0, f.up);
   down = omega (arith, e.1, f.down);
@@ -140,7 +140,7 @@ module _ (g : Grid) (s : Progress) {sums bins picture before kept sums' bins' pi
   row-drawn : (pxs : List (List ℕ)) (cur : List ℕ) → s.pictures ≡ length pxs → Bytes cur →
       length cur ≡ (s.line * g.side + s.row) * g.width + s.col →
       SumsOf g.width g.side g.columns s.line cur sums → Drawn g s pxs cur bins picture →
-      Drawn g (nextRow g s 1 m) pxs cur bins' picture'
+      Drawn g (next_row g s 1 m) pxs cur bins' picture'
   row-drawn pxs cur number small long sum d =
       let b = s.line in
       let n = g.columns in
@@ -170,7 +170,7 @@ module _ (g : Grid) (s : Progress) {sums bins picture before kept sums' bins' pi
 
   row-place : (cur : List ℕ) → length cur ≡ (s.line * g.side + s.row) * g.width + s.col →
       SumsOf g.width g.side g.columns s.line cur sums →
-      Place g (nextRow g s 1 m) cur sums'
+      Place g (next_row g s 1 m) cur sums'
   row-place cur long sum = go (dec_le g.lines (s.line + 1))
     where
       wide : 0 < g.width
@@ -185,7 +185,7 @@ module _ (g : Grid) (s : Progress) {sums bins picture before kept sums' bins' pi
       rows : (s.line + 1) * g.side ≡ s.line * g.side + g.side
       rows = omega (arith, add-mul s.line 1 g.side)
 
-      go : Dec (g.lines ≤ s.line + 1) → Place g (nextRow g s 1 m) cur sums'
+      go : Dec (g.lines ≤ s.line + 1) → Place g (next_row g s 1 m) cur sums'
       go (no k) = drawing (lt_of_not-le k) (rw (rows, add-zero) (omega (arith, whole))) next
       go (yes k) =
           let last : s.line + 1 ≡ g.lines = omega arith in
@@ -204,7 +204,7 @@ module _ (g : Grid) (s : Progress) {sums bins picture before kept sums' bins' pi
           })
 
   pub row-live : (o : Opening) (luma joined : List ℕ) → Live g o s luma sums bins picture joined →
-      Live g o (nextRow g s 1 m) luma sums' bins' picture' (joined ++ [])
+      Live g o (next_row g s 1 m) luma sums' bins' picture' (joined ++ [])
   row-live o luma joined v =
       let p = at-drawing line v.place in
       let small : Bytes v.cur = bytes-right v.whole v.cur (rw v.split at v.bytes) in
@@ -231,7 +231,7 @@ module _ (g : Grid) (s : Progress) {sums bins picture before kept sums' bins' pi
         place = row-place v.cur p.0 p.1;
       })
 
-  pub row-ended : (r : Progress) → r ≡ nextRow g s 1 m → RowEnded g s sums bins picture r sums' bins' picture'
+  pub row-ended : (r : Progress) → r ≡ next_row g s 1 m → RowEnded g s sums bins picture r sums' bins' picture'
   row-ended r e = record { state = m; is = e; goes = λ luma o joined v. rw e (row-live o luma joined v) }
 
 -- ---- bytes of a block row
@@ -342,8 +342,8 @@ module _ (g : Grid) (s : Progress) {sums bins picture rest sums' : List ℕ} {p 
       Took g s sums bins picture rest (record { used = p.used; state = r }) sums'' bins' picture'
   to-row-end t {r} {bins'} {picture'} {sums''} e ended =
       let fed = bytes_take p.used rest (bytes_of rest small) in
-      let at : r ≡ nextRow g (moved_to s p.row p.col p.used) 1 ended.state =
-      ended.is ∙ ap (λ (x : Progress). nextRow g x 1 ended.state) e in
+      let at : r ≡ next_row g (moved_to s p.row p.col p.used) 1 ended.state =
+      ended.is ∙ ap (λ (x : Progress). next_row g x 1 ended.state) e in
       record {
         some = some-used f (taking.sane.row line) (taking.sane.col line) taking.some;
         most = f.going.used;

@@ -6,7 +6,7 @@ use Rattle.luma_changes.specs.declared.sums.Moves.{Moves}
 use Rattle.luma_state.specs.declared.Grid.{Grid}
 use Rattle.luma_state.specs.declared.Progress.{Progress}
 use Rattle.luma_rows.specs.declared.Taken.{Taken}
-use Rattle.luma_state.specs.State.{Sane, movesIn, Fits, Goes}
+use Rattle.luma_state.specs.State.{Sane, moves_in, Fits, Goes}
 use Rattle.luma_state.specs.Steps.{placed_at}
 
 -- a block row's old pixels
@@ -16,11 +16,11 @@ pub record Keeps (base w : ℕ) (picture before kept : List ℕ) : Type 0 where
 
 -- the place and the count of bytes after `used` more
 abbrev pub moved_to : Progress → ℕ → ℕ → ℕ → Progress
-moved_to s row col used = placed_at s ((s.fed + used) % 2 ^ 64) s.line row col s.left (movesIn s)
+moved_to s row col used = placed_at s ((s.fed + used) % 2 ^ 64) s.line row col s.left (moves_in s)
 
 -- the start of the block row j on, or of the surplus rows
-abbrev pub nextRow : Grid → Progress → ℕ → Moves → Progress
-nextRow g s j m = placed_at s s.fed (s.line + j) 0 0 (g.bytes - g.lines * g.side * g.width) m
+abbrev pub next_row : Grid → Progress → ℕ → Moves → Progress
+next_row g s j m = placed_at s s.fed (s.line + j) 0 0 (g.bytes - g.lines * g.side * g.width) m
 
 -- the end of a block row: asked for and promised
 pub record AtRowEnd (g : Grid) (s : Progress) : Type 0 where
@@ -33,7 +33,7 @@ pub record AtRowEnd (g : Grid) (s : Progress) : Type 0 where
 pub record RowEnded (g : Grid) (s : Progress) (sums bins picture : List ℕ) (r : Progress)
     (sums' bins' picture' : List ℕ) : Type 0 where
   pub state : Moves
-  pub is : r ≡ nextRow g s 1 state
+  pub is : r ≡ next_row g s 1 state
   pub goes : (luma : List ℕ) → Goes g s luma sums bins picture [] r luma sums' bins' picture'
 
 -- the w pixels from `base` on are the first w bytes of the string
@@ -64,7 +64,7 @@ pub record CountedRows (w h r j base : ℕ) (pixels before after : List ℕ) : T
 pub record PlainRows (g : Grid) (s : Progress) (j : ℕ) (bins picture rest : List ℕ) (r : Progress)
     (bins' picture' : List ℕ) : Type 0 where
   pub state : Moves
-  pub is : r ≡ nextRow g (moved_to s 0 0 (j * g.columns)) j state
+  pub is : r ≡ next_row g (moved_to s 0 0 (j * g.columns)) j state
   pub goes : (luma sums : List ℕ) →
       Goes g s luma sums bins picture (take (j * g.columns) rest) r luma sums bins' picture'
 

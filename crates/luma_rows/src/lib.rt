@@ -3,7 +3,7 @@
 ghost use Rattle.std.specs.Prelude.{◌≡◌, ◌+◌, ◌<◌, ◌≤◌, length};
 ghost use Rattle.luma_changes.specs.Figures.{Compared};
 ghost use Rattle.luma_state.specs.State.{Fits, slot};
-ghost use Rattle.luma_rows.specs.Contract.{Keeps, moved_to, nextRow, AtRowEnd, RowEnded, Puts, AtPlainRows};
+ghost use Rattle.luma_rows.specs.Contract.{Keeps, moved_to, next_row, AtRowEnd, RowEnded, Puts, AtPlainRows};
 ghost use Rattle.luma_rows.specs.Contract.{CountedRows, PlainRows, Took, Taking};
 
 use luma_blocks::{Picture, Sums};
@@ -36,7 +36,7 @@ fn moved_to(s: Progress, row: usize, col: usize, used: usize) -> Progress
 // The place behind j block rows, whose pixels have moved so.
 fn next_row(g: Grid, s: Progress, j: usize, m: Moves) -> Progress
     requires { (Fits g) × (s.line + j ≤ g.lines) }
-    ensures { result ≡ nextRow g s j m }
+    ensures { result ≡ next_row g s j m }
 {
     let mut r = s;
     r.line = s.line + j;

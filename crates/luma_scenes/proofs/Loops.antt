@@ -6,10 +6,10 @@ use mathlib.Core.List.{List}
 use mathlib.Core.Bool.{Bool, true, false}
 use lib.ListN.{length, get_or}
 use Rattle.rules.specs.declared.SceneRow.{SceneRow}
-use Rattle.rules.specs.Bytes.{total, greatestOf, count}
-use Rattle.rules.specs.Scenes.{span, isTrue, longestFrom, startsScene, isStart, scene_of, scenesOf}
+use Rattle.rules.specs.Bytes.{total, greatest_of, count}
+use Rattle.rules.specs.Scenes.{span, is_true, longest_from, starts_scene, is_start, scene_of, scenes_of}
 use Rattle.luma_scenes.specs.Words.{Column, Bits, Holds, bit_at}
-use Rattle.luma_scenes.specs.Next.{nextStart, scenesFrom}
+use Rattle.luma_scenes.specs.Next.{next_start, scenes_from}
 use Rattle.luma_scenes.specs.Contract.{NextPost, RowPost, CountPost, TotalPost, PeakPost, RepeatedPost}
 use Rattle.luma_scenes.specs.Contract.{LongestPost}
 use Rattle.luma_laws.proofs.Spans.{total-end, total-step, total-more, peak-end, peak-step, repeated-end, repeated-step}
@@ -46,7 +46,7 @@ module _ (w : List ℕ) (i j : ℕ) where
 
   abbrev pub Highest : ℕ → ℕ → Type 0
   Highest top k = (n most : ℕ) (xs : List ℕ) → Column w 100 n most xs → most < 2 ^ 32 → i ≤ j → j ≤ n →
-      (k ≤ j) × (max top (greatestOf (span k j xs)) ≡ greatestOf (span i j xs))
+      (k ≤ j) × (max top (greatest_of (span k j xs)) ≡ greatest_of (span i j xs))
 
   pub highest-more : (top k r next : ℕ) → Highest top k → k < j → r ≡ get_or w (100 + k) 0 % 2 ^ 32 → next ≡ max top r →
       Highest next (k + 1)
@@ -61,14 +61,14 @@ module _ (w : List ℕ) (i j : ℕ) where
   highest-all top k s h n most xs c m g f =
       let p = s n most xs c m g f in
       let e : k ≡ j = omega arith in
-      let z : greatestOf (span k j xs) ≡ 0 = rw e (peak-end j xs) in
+      let z : greatest_of (span k j xs) ≡ 0 = rw e (peak-end j xs) in
       omega arith
 
   -- ---- how many are repeated
 
   abbrev pub Counted : ℕ → ℕ → Type 0
   Counted found k = (n : ℕ) (rs : List Bool) → Bits w n rs → i ≤ j → j ≤ n →
-      (k ≤ j) × (found + count isTrue (span k j rs) ≡ count isTrue (span i j rs))
+      (k ≤ j) × (found + count is_true (span k j rs) ≡ count is_true (span i j rs))
 
   pub counted-more : (found k r : ℕ) → Counted found k → k < j → r ≡ bit_at w k → Counted (found + r) (k + 1)
   counted-more found k r s h e n rs c g f =
@@ -79,18 +79,18 @@ module _ (w : List ℕ) (i j : ℕ) where
       (omega arith, omega arith)
 
   pub counted-all : (found k : ℕ) → Counted found k → j ≤ k → (n : ℕ) (rs : List Bool) → Bits w n rs → i ≤ j → j ≤ n →
-      found ≡ count isTrue (span i j rs)
+      found ≡ count is_true (span i j rs)
   counted-all found k s h n rs c g f =
       let p = s n rs c g f in
       let e : k ≡ j = omega arith in
-      let z : count isTrue (span k j rs) ≡ 0 = rw e (repeated-end j rs) in
+      let z : count is_true (span k j rs) ≡ 0 = rw e (repeated-end j rs) in
       omega arith
 
   -- ---- the longest run: `run` repeated ones end just before picture k
 
   abbrev pub Longest : ℕ → ℕ → ℕ → Type 0
   Longest most run k = (n : ℕ) (rs : List Bool) → Bits w n rs → i ≤ j → j ≤ n →
-      (k ≤ j) × (max most (longestFrom run (span k j rs)) ≡ longestFrom 0 (span i j rs))
+      (k ≤ j) × (max most (longest_from run (span k j rs)) ≡ longest_from 0 (span i j rs))
 
   pub longest-on : (most run k next : ℕ) → Longest most run k → k < j → bit_at w k ≡ 1 → next ≡ max most (run + 1) →
       Longest next (run + 1) (k + 1)
@@ -113,7 +113,7 @@ module _ (w : List ℕ) (i j : ℕ) where
   longest-all most run k s h l n rs c g f =
       let p = s n rs c g f in
       let e : k ≡ j = omega arith in
-      let z : longestFrom run (span k j rs) ≡ run = rw e (longest-end run j rs) in
+      let z : longest_from run (span k j rs) ≡ run = rw e (longest-end run j rs) in
       omega arith
 
 pub bit-small : (w : List ℕ) (k : ℕ) → bit_at w k ≤ 1
@@ -138,11 +138,11 @@ module _ (w : List ℕ) (n d b sum i : ℕ) (seeks : Seeks w n d b sum i) (after
       in-scores : i < length ss
       in-scores = let z = h.scores.size in omega arith
 
-      is-start : startsScene time (i - b) r sum ≡ isStart d ss b i
-      unfolding isStart
+      is-start : starts_scene time (i - b) r sum ≡ is_start d ss b i
+      unfolding is_start
       is-start = let t : time ≡ d = omega arith in rw (t, score, (seeks ss rs qs h k).0)
 
-    pub seeks-more : false ≡ startsScene time (i - b) r sum → Seeks w n d b (sum + r) (i + 1)
+    pub seeks-more : false ≡ starts_scene time (i - b) r sum → Seeks w n d b (sum + r) (i + 1)
     seeks-more f ss rs qs h k =
         let a = total-more (b + 1) i ss (omega arith) (in-scores ss rs qs h k) in
         let c = (seeks ss rs qs h k).0 in
@@ -151,8 +151,8 @@ module _ (w : List ℕ) (n d b sum i : ℕ) (seeks : Seeks w n d b sum i) (after
           sought-more d ss b i (seeks ss rs qs h k).1 (in-scores ss rs qs h k) (sym (f ∙ is-start ss rs qs h k)),
         )
 
-    pub seeks-found : true ≡ startsScene time (i - b) r sum → NextPost w n d b i
-    unfolding nextStart
+    pub seeks-found : true ≡ starts_scene time (i - b) r sum → NextPost w n d b i
+    unfolding next_start
     seeks-found f =
         record {
           most = omega arith;
@@ -162,7 +162,7 @@ module _ (w : List ℕ) (n d b sum i : ℕ) (seeks : Seeks w n d b sum i) (after
         }
 
   pub seeks-none : i ≡ n → NextPost w n d b n
-  unfolding nextStart
+  unfolding next_start
   seeks-none e =
       record {
         most = omega arith;
@@ -175,7 +175,7 @@ module _ (w : List ℕ) (n d b sum i : ℕ) (seeks : Seeks w n d b sum i) (after
 
 abbrev pub Tallied : List ℕ → ℕ → ℕ → ℕ → ℕ → Type 0
 Tallied w n d scenes b = (ss : List ℕ) (rs : List Bool) (qs : List ℕ) → Holds w n ss rs qs → d < 2 ^ 32 →
-    scenes + length (scenesFrom d ss rs qs b) ≡ length (scenesOf d ss rs qs)
+    scenes + length (scenes_from d ss rs qs b) ≡ length (scenes_of d ss rs qs)
 
 pub tallied-first : (w : List ℕ) (n d : ℕ) → Tallied w n d 0 0
 tallied-first w n d ss rs qs h k = rw (scenes-first d ss rs qs) (omega arith)
@@ -229,9 +229,9 @@ module _ (w : List ℕ) (i j p l t k q : ℕ) (repeats : RepeatedPost w i j p) (
       let e' = total-most 25500 i j n qs h.changes.bound h.changes.size f in
       let b' = longest-most 0 (span i j rs) in
       let d' = peak-most (span i j ss) in
-      let a'' : p % 2 ^ 32 ≡ count isTrue (span i j rs) = omega (arith, repeats.most) in
-      let b'' : l % 2 ^ 32 ≡ longestFrom 0 (span i j rs) = omega (arith, repeats.most) in
+      let a'' : p % 2 ^ 32 ≡ count is_true (span i j rs) = omega (arith, repeats.most) in
+      let b'' : l % 2 ^ 32 ≡ longest_from 0 (span i j rs) = omega (arith, repeats.most) in
       let c'' : t % 2 ^ 32 ≡ total (span i j ss) = omega arith in
-      let d'' : k % 2 ^ 32 ≡ greatestOf (span i j ss) = omega arith in
+      let d'' : k % 2 ^ 32 ≡ greatest_of (span i j ss) = omega arith in
       let e'' : q % 2 ^ 32 ≡ total (span i j qs) = omega arith in
       rw (a'', b'', c'', d'', e'')

@@ -9,20 +9,20 @@ use lib.ListN.{length, get_or}
 use Rattle.rules.specs.declared.Opening.{Opening}
 use Rattle.rules.specs.Bytes.{pick, All, and, Bytes}
 use Rattle.rules.specs.Refusals.{none}
-use Rattle.rules.specs.Opening.{openingFault}
-use Rattle.rules.specs.Pictures.{pictureCount}
+use Rattle.rules.specs.Opening.{opening_fault}
+use Rattle.rules.specs.Pictures.{picture_count}
 use Rattle.rules.specs.Histograms.{histograms}
-use Rattle.rules.specs.Cuts.{cutScore, cutScores}
+use Rattle.rules.specs.Cuts.{cut_score, cut_scores}
 use Rattle.rules.specs.Changes.{repeats, changes}
 use Rattle.rules.specs.Seal.{reduced}
 use Rattle.luma_laws.proofs.Scenes.{score-at, sample-scores, scores-length, pictures-most, reduced-length}
 use Rattle.luma_laws.proofs.Ranges.{AtMost, sample-scored, sample-changed}
-use Rattle.luma_laws.specs.Past.{mapWord}
+use Rattle.luma_laws.specs.Past.{map_word}
 use Rattle.luma_laws.proofs.Past.{length-repeats, length-changes, word-bit}
 use Rattle.luma_scenes.specs.Words.{Bits, Holds, bit_at}
 
 map-bits : (w : List ℕ) (n : ℕ) (rs : List Bool) → n ≤ 750 → length rs ≡ n →
-    ((j : ℕ) → j < 12 → get_or w (64 + j) 0 ≡ mapWord rs j) → Bits w n rs
+    ((j : ℕ) → j < 12 → get_or w (64 + j) 0 ≡ map_word rs j) → Bits w n rs
 unfolding bit_at
 map-bits w n rs few e f = record { size = e; bit = at }
   where
@@ -34,11 +34,11 @@ all-at most (and h hs) zero g = h
 all-at most (and h hs) (suc i) g = all-at most hs i (omega arith)
 
 -- the words of a luma side that was fed these bytes hold the figures of its whole pictures
-pub sample-holds : (rounds : Bool) (o : Opening) (luma w : List ℕ) → openingFault o ≡ none → Bytes luma →
-    ((i : ℕ) → i < 750 → get_or w (100 + i) 0 ≡ cutScore (map (histograms o) (reduced o luma)) i) →
+pub sample-holds : (rounds : Bool) (o : Opening) (luma w : List ℕ) → opening_fault o ≡ none → Bytes luma →
+    ((i : ℕ) → i < 750 → get_or w (100 + i) 0 ≡ cut_score (map (histograms o) (reduced o luma)) i) →
     ((i : ℕ) → i < 750 → get_or w (850 + i) 0 ≡ get_or (changes rounds (reduced o luma)) i 0) →
-    ((j : ℕ) → j < 12 → get_or w (64 + j) 0 ≡ mapWord (repeats (reduced o luma)) j) →
-    Holds w (pictureCount o luma) (cutScores (map (histograms o) (reduced o luma))) (repeats (reduced o luma))
+    ((j : ℕ) → j < 12 → get_or w (64 + j) 0 ≡ map_word (repeats (reduced o luma)) j) →
+    Holds w (picture_count o luma) (cut_scores (map (histograms o) (reduced o luma))) (repeats (reduced o luma))
     (changes rounds (reduced o luma))
 sample-holds rounds o luma w h b fs fq fr =
     let pxs = reduced o luma in
@@ -47,7 +47,7 @@ sample-holds rounds o luma w h b fs fq fr =
     let n = reduced-length o luma in
     let s = sample-scores o luma in
     let l = scores-length hs in
-    let q : length (changes rounds pxs) ≡ pictureCount o luma = length-changes rounds pxs ∙ n in
+    let q : length (changes rounds pxs) ≡ picture_count o luma = length-changes rounds pxs ∙ n in
     record {
       few = few;
       scores = record {
@@ -55,7 +55,7 @@ sample-holds rounds o luma w h b fs fq fr =
         word = λ i g. fs i (omega arith) ∙ sym (score-at hs i (omega arith));
         bound = λ i g. all-at 1000000 (sample-scored o luma b) i (omega arith);
       };
-      repeats = map-bits w (pictureCount o luma) (repeats pxs) few (length-repeats pxs ∙ n) fr;
+      repeats = map-bits w (picture_count o luma) (repeats pxs) few (length-repeats pxs ∙ n) fr;
       changes = record {
         size = q;
         word = λ i g. fq i (omega arith);

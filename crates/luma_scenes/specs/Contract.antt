@@ -1,18 +1,18 @@
 -- What each function promises of the luma words w.
 use Rattle.std.specs.Prelude.{ℕ, ◌-◌, ◌^◌, ◌≤◌, ◌<◌, ◌≡◌, List, Bool, length}
 use Rattle.rules.specs.declared.SceneRow.{SceneRow}
-use Rattle.rules.specs.Bytes.{total, greatestOf, count}
-use Rattle.rules.specs.Scenes.{span, isTrue, longestFrom, scene_of, scenesOf}
-use Rattle.luma_state.specs.Layout.{scoresAt}
+use Rattle.rules.specs.Bytes.{total, greatest_of, count}
+use Rattle.rules.specs.Scenes.{span, is_true, longest_from, scene_of, scenes_of}
+use Rattle.luma_state.specs.Layout.{scores_at}
 use Rattle.luma_scenes.specs.Words.{Column, Bits, Holds}
-use Rattle.luma_scenes.specs.Next.{nextStart}
+use Rattle.luma_scenes.specs.Next.{next_start}
 
 -- the start behind the start b: above b, n at most, and the rule's where the words hold n pictures
 pub record NextPost (w : List ℕ) (n d b r : ℕ) : Type 0 where
   pub most : r ≤ n
   pub more : b < n → b < r
   pub next : (ss : List ℕ) (rs : List Bool) (qs : List ℕ) → Holds w n ss rs qs → d < 2 ^ 32 → b < n →
-      r ≡ nextStart d ss b
+      r ≡ next_start d ss b
 
 -- the scene from picture i to before picture j
 abbrev pub RowPost : List ℕ → ℕ → ℕ → SceneRow → Type 0
@@ -23,7 +23,7 @@ RowPost w i j r = (n : ℕ) (ss : List ℕ) (rs : List Bool) (qs : List ℕ) →
 pub record CountPost (w : List ℕ) (n d r : ℕ) : Type 0 where
   pub most : r ≤ n
   pub scenes : (ss : List ℕ) (rs : List Bool) (qs : List ℕ) → Holds w n ss rs qs → d < 2 ^ 32 →
-      r ≡ length (scenesOf d ss rs qs)
+      r ≡ length (scenes_of d ss rs qs)
 
 -- ---- of the functions within
 
@@ -32,12 +32,12 @@ TotalPost w base i j r =
     (n most : ℕ) (xs : List ℕ) → Column w base n most xs → most < 2 ^ 32 → i ≤ j → j ≤ n → r ≡ total (span i j xs)
 
 abbrev pub PeakPost : List ℕ → ℕ → ℕ → ℕ → Type 0
-PeakPost w i j r = (n most : ℕ) (xs : List ℕ) → Column w scoresAt n most xs → most < 2 ^ 32 → i ≤ j → j ≤ n →
-    r ≡ greatestOf (span i j xs)
+PeakPost w i j r = (n most : ℕ) (xs : List ℕ) → Column w scores_at n most xs → most < 2 ^ 32 → i ≤ j → j ≤ n →
+    r ≡ greatest_of (span i j xs)
 
 pub record RepeatedPost (w : List ℕ) (i j r : ℕ) : Type 0 where
   pub most : r ≤ j - i
-  pub repeated : (n : ℕ) (rs : List Bool) → Bits w n rs → i ≤ j → j ≤ n → r ≡ count isTrue (span i j rs)
+  pub repeated : (n : ℕ) (rs : List Bool) → Bits w n rs → i ≤ j → j ≤ n → r ≡ count is_true (span i j rs)
 
 abbrev pub LongestPost : List ℕ → ℕ → ℕ → ℕ → Type 0
-LongestPost w i j r = (n : ℕ) (rs : List Bool) → Bits w n rs → i ≤ j → j ≤ n → r ≡ longestFrom 0 (span i j rs)
+LongestPost w i j r = (n : ℕ) (rs : List Bool) → Bits w n rs → i ≤ j → j ≤ n → r ≡ longest_from 0 (span i j rs)

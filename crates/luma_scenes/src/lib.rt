@@ -1,7 +1,7 @@
 // Scene starts and scene rows from the luma words: cut scores, changes, the map of repeats.
 // Every call is safe and ends on any contents of the words; a cut score or change is taken below 2^32.
 ghost use Rattle.std.specs.Prelude.{◌≡◌, ◌*◌, ◌%◌, ◌^◌, ◌<◌, ◌≤◌, get_or};
-ghost use Rattle.rules.specs.Scenes.{startsScene};
+ghost use Rattle.rules.specs.Scenes.{starts_scene};
 ghost use Rattle.luma_scenes.specs.Words.{bit_at};
 ghost use Rattle.luma_scenes.specs.Contract.{NextPost, RowPost, CountPost, TotalPost, PeakPost, RepeatedPost};
 ghost use Rattle.luma_scenes.specs.Contract.{LongestPost};
@@ -30,7 +30,7 @@ fn repeat_bit(luma: &Words, i: usize) -> u64
 // that of the scores between.
 fn starts_scene(d: u64, n: u64, s: u64, sum: u64) -> bool
     requires { (d < 2 ^ 32) × (1 ≤ n) × (n ≤ 750) × (s < 2 ^ 32) × (sum ≤ 750 * 2 ^ 32) }
-    ensures { result ≡ startsScene d n s sum }
+    ensures { result ≡ starts_scene d n s sum }
 {
     if n * d < 600000 {
         return false;

@@ -9,8 +9,8 @@ use lib.ListN.{length, get_or, set, length-append, length-set}
 use lib.Seq.{sets, sets-eq, get_or-set_other}
 use Rattle.rules.specs.declared.Opening.{Opening}
 use Rattle.rules.specs.Refusals.{none}
-use Rattle.rules.specs.Opening.{openingFault, side, columns, lines, pixelCount}
-use Rattle.rules.specs.Pictures.{pictureSize}
+use Rattle.rules.specs.Opening.{opening_fault, side, columns, lines, pixel_count}
+use Rattle.rules.specs.Pictures.{picture_size}
 use Rattle.luma_laws.proofs.Blocks.{side-some}
 use Rattle.rules.specs.Seal.{reduced}
 use Rattle.luma_laws.proofs.Sizes.{good, sizes}
@@ -18,31 +18,31 @@ use Rattle.luma_laws.proofs.Columns.{boundary-is}
 use Rattle.luma_laws.proofs.Full.{full-reduced}
 use Rattle.luma_state.specs.declared.Grid.{Grid}
 use Rattle.luma_state.specs.declared.Progress.{Progress}
-use Rattle.luma_state.specs.State.{Holding, Full, Fits, loaded, openingIn, gridOf, Words, Live, Sane, Stands}
+use Rattle.luma_state.specs.State.{Holding, Full, Fits, loaded, opening_in, grid_of, Words, Live, Sane, Stands}
 use Rattle.luma_state.specs.State.{refused, live, Means}
 use Rattle.luma_state.specs.Contract.{Stored, Placed}
 
 -- ---- the sizes of an opening that is not refused
 
-pub fits-of : (o : Opening) → openingFault o ≡ none → Fits (gridOf o)
-unfolding pixelCount pictureSize lines
+pub fits-of : (o : Opening) → opening_fault o ≡ none → Fits (grid_of o)
+unfolding pixel_count picture_size lines
 fits-of o e =
     let g = good o e in
     let z = sizes o g in
     record {
       some = side-some o;
-      few = z.side-high;
-      wide = z.columns-low;
-      narrow = z.columns-high;
-      high = z.lines-low;
-      low = z.lines-high;
+      few = z.side_high;
+      wide = z.columns_low;
+      narrow = z.columns_high;
+      high = z.lines_low;
+      low = z.lines_high;
       least = g.width_low;
-      most = g.width-high;
-      room = rw (mul_comm (o.height / side o) (columns o)) z.pixels-high;
+      most = g.width_high;
+      room = rw (mul_comm (o.height / side o) (columns o)) z.pixels_high;
       rows = rw (mul_comm o.width o.height) (mul-le-mul_right o.width (div-mul-le_self o.height (side o)));
-      small = mul-le-mul g.width-high g.height-high;
+      small = mul-le-mul g.width_high g.height_high;
       boundary = boundary-is 1 (columns o);
-      boundary-2 = boundary-is 2 (columns o);
+      boundary_2 = boundary-is 2 (columns o);
     }
 
 -- of a refused opening too
@@ -89,7 +89,7 @@ stored w s =
       kept = λ i h. sets-kept (listed s) w 0 i (omega arith);
     }
 
-opening-kept : (w z : List ℕ) → ((i : ℕ) → 12 ≤ i → get_or z i 0 ≡ get_or w i 0) → openingIn z ≡ openingIn w
+opening-kept : (w z : List ℕ) → ((i : ℕ) → 12 ≤ i → get_or z i 0 ≡ get_or w i 0) → opening_in z ≡ opening_in w
 opening-kept w z k =
     rw (k 12 (omega arith), k 13 (omega arith), k 14 (omega arith), k 15 (omega arith), k 16 (omega arith))
 
@@ -139,7 +139,7 @@ stands-kept n k (refused e h f) =
 stands-kept n k (live e sane v) = live e sane (live-kept n k v)
 
 -- bytes behind 750 pictures
-pub full-more : {o : Opening} {s : Progress} {luma joined : List ℕ} (piece : List ℕ) → openingFault o ≡ none →
+pub full-more : {o : Opening} {s : Progress} {luma joined : List ℕ} (piece : List ℕ) → opening_fault o ≡ none →
     Full o s luma joined → Full o s luma (joined ++ piece)
 full-more {o} {s} {luma} {joined} piece g f =
     let same : reduced o (joined ++ piece) ≡ reduced o joined = full-reduced o g joined piece f.there in

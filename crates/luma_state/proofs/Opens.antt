@@ -12,21 +12,21 @@ use lib.Seq.{get_or-set_other, drop-nil}
 use Rattle.rules.specs.declared.Opening.{Opening}
 use Rattle.rules.specs.Bytes.{tally, parts, count, All}
 use Rattle.rules.specs.Refusals.{none, fault}
-use Rattle.rules.specs.Opening.{openingFault, side, columns}
-use Rattle.rules.specs.Pictures.{pictureSize}
+use Rattle.rules.specs.Opening.{opening_fault, side, columns}
+use Rattle.rules.specs.Pictures.{picture_size}
 use Rattle.rules.specs.Histograms.{histograms}
-use Rattle.rules.specs.Cuts.{cutScore}
+use Rattle.rules.specs.Cuts.{cut_score}
 use Rattle.rules.specs.Changes.{repeats, changes}
-use Rattle.luma_laws.specs.Past.{previous, lastFrom, ones, mapWord}
+use Rattle.luma_laws.specs.Past.{previous, last_from, ones, map_word}
 use Rattle.figures.specs.Opening.{numbered, OpeningFault}
 use Rattle.luma_changes.specs.Figures.{Figures}
 use Rattle.luma_state.specs.declared.Progress.{Progress}
-use Rattle.luma_state.specs.State.{Fits, Means, movesIn, openingIn, gridOf, slot, Words, drawing, Live, refused}
+use Rattle.luma_state.specs.State.{Fits, Means, moves_in, opening_in, grid_of, slot, Words, drawing, Live, refused}
 use Rattle.luma_state.specs.State.{live}
 use Rattle.luma_state.proofs.Kept.{fits-of}
 
 -- no pixel has moved
-pub still : (old : List ℕ) (s : Progress) → s.ups ≡ 0 → s.downs ≡ 0 → s.squares ≡ 0 → Figures old [] (movesIn s)
+pub still : (old : List ℕ) (s : Progress) → s.ups ≡ 0 → s.downs ≡ 0 → s.squares ≡ 0 → Figures old [] (moves_in s)
 unfolding tally
 still old s a b c = record { up = rw a; down = rw b; both = rw c }
 
@@ -57,9 +57,9 @@ started =
       squares = 0;
     }
 
-no_words : (o : Opening) (luma : List ℕ) → length luma ≡ 1600 → openingIn luma ≡ o →
+no_words : (o : Opening) (luma : List ℕ) → length luma ≡ 1600 → opening_in luma ≡ o →
     ((i : ℕ) → 17 ≤ i → get_or luma i 0 ≡ 0) → Words o [] luma
-unfolding cutScore changes repeats mapWord ones
+unfolding cut_score changes repeats map_word ones
 no_words o luma n e z =
     record {
       size = n;
@@ -70,19 +70,19 @@ no_words o luma n e z =
       kept = λ h. absurd (omega arith);
     }
   where
-    none_yet : (i : ℕ) → cutScore (map (histograms o) []) i ≡ 0
+    none_yet : (i : ℕ) → cut_score (map (histograms o) []) i ≡ 0
     none_yet i = elim (dec_le 2 i) [
       | yes h ↦ rw (le-leb 2 i h, le-ltb (i + 2) 0 (omega arith))
       | no h ↦ rw (lt-leb 2 i (lt_of_not-le h))
     ]
 
-    no_bits : (j : ℕ) → mapWord [] j ≡ 0
+    no_bits : (j : ℕ) → map_word [] j ≡ 0
     no_bits j = rw (drop-nil {A = Bool} (64 * j))
 
-open-live : (o : Opening) {luma sums bins picture : List ℕ} → Fits (gridOf o) → Words o [] luma → length sums ≡ 240 →
+open-live : (o : Opening) {luma sums bins picture : List ℕ} → Fits (grid_of o) → Words o [] luma → length sums ≡ 240 →
     length bins ≡ 720 → length picture ≡ 14104 →
-    Zeros sums → Zeros bins → Zeros picture → Live (gridOf o) o started luma sums bins picture []
-unfolding Zeros tally parts count repeats previous lastFrom
+    Zeros sums → Zeros bins → Zeros picture → Live (grid_of o) o started luma sums bins picture []
+unfolding Zeros tally parts count repeats previous last_from
 open-live o {luma} {sums} {bins} {picture} f w ls lb lp zs zb zp =
     record {
       whole = [];
@@ -90,7 +90,7 @@ open-live o {luma} {sums} {bins} {picture} f w ls lb lp zs zb zp =
       pxs = [];
       grid = refl;
       split = refl;
-      full = sym (zero-mul (pictureSize o));
+      full = sym (zero-mul (picture_size o));
       reduced = refl;
       few = omega arith;
       room = λ e. refl;
@@ -114,8 +114,8 @@ open-live o {luma} {sums} {bins} {picture} f w ls lb lp zs zb zp =
 
 -- ---- what `open` leaves
 
-abbrev pub openedWords : Opening → ℕ → List ℕ
-openedWords o f =
+abbrev pub opened_words : Opening → ℕ → List ℕ
+opened_words o f =
     set (set (set (set (set (set (replicate 1600 0) 0 f) 12 o.width) 13 o.height) 14 o.time) 15 o.pid)
     16 o.edition
 
@@ -127,10 +127,10 @@ pub record Small (o : Opening) : Type 0 where
   pub edition : o.edition < 2 ^ 32
 
 module _ (o : Opening) (f : ℕ) (small : Small o) where
-  size : length (openedWords o f) ≡ 1600
+  size : length (opened_words o f) ≡ 1600
   size = simp length-set (length-replicate {A = ℕ} 1600 0)
 
-  behind : (i : ℕ) → 17 ≤ i → get_or (openedWords o f) i 0 ≡ 0
+  behind : (i : ℕ) → 17 ≤ i → get_or (opened_words o f) i 0 ≡ 0
   unfolding Zeros
   behind i h =
       let l : List ℕ = replicate 1600 0 in
@@ -144,7 +144,7 @@ module _ (o : Opening) (f : ℕ) (small : Small o) where
       ∙ get_or-set_other l 0 i f 0 (λ e. omega arith)
       ∙ zeros 1600 i
 
-  opening-in : openingIn (openedWords o f) ≡ o
+  opening-in : opening_in (opened_words o f) ≡ o
   opening-in = rw (
     mod-eq_of_lt small.width,
     mod-eq_of_lt small.height,
@@ -154,9 +154,9 @@ module _ (o : Opening) (f : ℕ) (small : Small o) where
   )
 
   pub opened-live : OpeningFault o f → f ≡ 0 →
-      Means (openedWords o f) (replicate 240 0) (replicate 720 0) (replicate 14104 0) o []
+      Means (opened_words o f) (replicate 240 0) (replicate 720 0) (replicate 14104 0) o []
   opened-live w z =
-      let e : openingFault o ≡ none = w.shown ∙ ap numbered z in
+      let e : opening_fault o ≡ none = w.shown ∙ ap numbered z in
       let fits = fits-of o e in
       record {
         size = size;
@@ -170,7 +170,7 @@ module _ (o : Opening) (f : ℕ) (small : Small o) where
               col = λ h. omega (arith, fits.least);
               left = λ h. absurd (omega (arith, fits.high));
             })
-            (open-live o fits (rw z at (no_words o (openedWords o f) size opening-in behind))
+            (open-live o fits (rw z at (no_words o (opened_words o f) size opening-in behind))
             (length-replicate {A = ℕ} 240 0)
             (length-replicate {A = ℕ} 720 0) (length-replicate {A = ℕ} 14104 0) (zeros 240) (zeros 720)
             (zeros 14104)));
@@ -180,7 +180,7 @@ never : {p q : ℕ} → fault p q ≡ none → ⊥
 never e = let z : ◌≡◌ {A = ℕ} 0 1 = cc in omega arith
 
 pub opened : (o : Opening) (f : ℕ) → Small o → OpeningFault o f →
-    Means (openedWords o f) (replicate 240 0) (replicate 720 0) (replicate 14104 0) o []
+    Means (opened_words o f) (replicate 240 0) (replicate 720 0) (replicate 14104 0) o []
 opened o zero small w = opened-live o 0 small w refl
 opened o (suc k) small w =
     record {

@@ -2,21 +2,21 @@
 use Rattle.std.specs.Prelude.{ℕ}
 
 -- how many words there are
-abbrev pub wordCount : ℕ
-wordCount = 1600
+abbrev pub word_count : ℕ
+word_count = 1600
 
 -- the smaller of two differences that the next cut score needs again
 abbrev pub kept_at : ℕ
 kept_at = 17
 
 -- the map of repeats, a bit a picture
-abbrev pub repeatsAt : ℕ
-repeatsAt = 64
+abbrev pub repeats_at : ℕ
+repeats_at = 64
 
 -- the cut scores, a word a picture
-abbrev pub scoresAt : ℕ
-scoresAt = 100
+abbrev pub scores_at : ℕ
+scores_at = 100
 
 -- the changes, a word a picture
-abbrev pub changesAt : ℕ
-changesAt = 850
+abbrev pub changes_at : ℕ
+changes_at = 850

@@ -5,16 +5,16 @@
 use Rattle.std.specs.Prelude.{ℕ, ◌+◌, ◌-◌, ◌*◌, ◌/◌, ◌%◌, ◌^◌, ◌≤◌, ◌<◌, ◌≡◌, List, [], ◌++◌, map, not, length, get_or, take}
 use Rattle.rules.specs.declared.Opening.{Opening}
 use Rattle.rules.specs.Bytes.{smaller, count, parts, Bytes}
-use Rattle.rules.specs.Refusals.{none, fault, ◌orElse◌}
-use Rattle.rules.specs.Editions.{roundsToNearest}
-use Rattle.rules.specs.Opening.{openingFault, side, columns, lines}
-use Rattle.rules.specs.Pictures.{pictureSize, lumaFault, pixels}
+use Rattle.rules.specs.Refusals.{none, fault, ◌or_else◌}
+use Rattle.rules.specs.Editions.{rounds_to_nearest}
+use Rattle.rules.specs.Opening.{opening_fault, side, columns, lines}
+use Rattle.rules.specs.Pictures.{picture_size, luma_fault, pixels}
 use Rattle.rules.specs.Histograms.{histograms}
 use Rattle.rules.specs.Columns.{Boundary}
-use Rattle.rules.specs.Cuts.{at, difference, cutScore}
+use Rattle.rules.specs.Cuts.{at, difference, cut_score}
 use Rattle.rules.specs.Changes.{repeats, changes}
 use Rattle.rules.specs.Seal.{reduced}
-use Rattle.luma_laws.specs.Past.{previous, mapWord}
+use Rattle.luma_laws.specs.Past.{previous, map_word}
 use Rattle.luma_blocks.specs.Rows.{SumsOf}
 use Rattle.luma_blocks.specs.Pixels.{RowsOf}
 use Rattle.luma_tiles.specs.Bins.{Counts}
@@ -22,7 +22,7 @@ use Rattle.luma_changes.specs.declared.sums.Moves.{Moves}
 use Rattle.luma_changes.specs.Figures.{Figures}
 use Rattle.luma_state.specs.declared.Grid.{Grid}
 use Rattle.luma_state.specs.declared.Progress.{Progress}
-use Rattle.luma_state.specs.Layout.{wordCount, kept_at, repeatsAt, scoresAt, changesAt}
+use Rattle.luma_state.specs.Layout.{word_count, kept_at, repeats_at, scores_at, changes_at}
 
 -- ---- the scalars
 
@@ -47,8 +47,8 @@ loaded w =
     }
 
 -- the opening's values, words 12 to 16
-abbrev pub openingIn : List ℕ → Opening
-openingIn w =
+abbrev pub opening_in : List ℕ → Opening
+opening_in w =
     record {
       width = get_or w 12 0 % 2 ^ 32;
       height = get_or w 13 0 % 2 ^ 32;
@@ -58,25 +58,25 @@ openingIn w =
     }
 
 -- the number of boundary k of w columns (`Fits` has that it is the boundary)
-abbrev pub boundaryAt : ℕ → ℕ → ℕ
-boundaryAt k w = (k * w + 2) / 3
+abbrev pub boundary_at : ℕ → ℕ → ℕ
+boundary_at k w = (k * w + 2) / 3
 
 -- W, 2^k, w, h, a picture's bytes, and the tiles' boundaries
-abbrev pub gridOf : Opening → Grid
-gridOf o =
+abbrev pub grid_of : Opening → Grid
+grid_of o =
     record {
       width = o.width;
       side = side o;
       columns = columns o;
       lines = lines o;
-      bytes = pictureSize o;
-      second = boundaryAt 1 (columns o);
-      third = boundaryAt 2 (columns o);
+      bytes = picture_size o;
+      second = boundary_at 1 (columns o);
+      third = boundary_at 2 (columns o);
     }
 
 -- how the pixels of the block rows that are done moved against the previous picture's
-abbrev pub movesIn : Progress → Moves
-movesIn s = record { up = s.ups; down = s.downs; squares = s.squares }
+abbrev pub moves_in : Progress → Moves
+moves_in s = record { up = s.ups; down = s.downs; squares = s.squares }
 
 -- what a grid's numbers may be: those of every opening that is not refused are such
 pub record Fits (g : Grid) : Type 0 where
@@ -92,25 +92,25 @@ pub record Fits (g : Grid) : Type 0 where
   pub rows : g.lines * g.side * g.width ≤ g.bytes
   pub small : g.bytes ≤ 2088960
   pub boundary : Boundary 1 g.columns g.second
-  pub boundary-2 : Boundary 2 g.columns g.third
+  pub boundary_2 : Boundary 2 g.columns g.third
 
 -- ---- whole pictures, with the pixels pxs
 
 -- of all pictures' histograms, the smaller of the differences of the last but three and the last two
-unfoldable pub keptOf : List (List (List ℕ)) → ℕ
-keptOf hs =
+unfoldable pub kept_of : List (List (List ℕ)) → ℕ
+kept_of hs =
     smaller (difference (at hs (length hs - 4)) (at hs (length hs - 2)))
     (difference (at hs (length hs - 4)) (at hs (length hs - 1)))
 
 -- what the words hold: the opening, and of the pictures every cut score that is settled and every change, 0 elsewhere,
 -- the map of repeats, and from the fourth picture on what the next cut score needs of the earlier ones
 pub record Words (o : Opening) (pxs : List (List ℕ)) (luma : List ℕ) : Type 0 where
-  pub size : length luma ≡ wordCount
-  pub opening : openingIn luma ≡ o
-  pub scores : (i : ℕ) → i < 750 → get_or luma (scoresAt + i) 0 ≡ cutScore (map (histograms o) pxs) i
-  pub changes : (i : ℕ) → i < 750 → get_or luma (changesAt + i) 0 ≡ get_or (changes (roundsToNearest o.edition) pxs) i 0
-  pub repeats : (j : ℕ) → j < 12 → get_or luma (repeatsAt + j) 0 ≡ mapWord (repeats pxs) j
-  pub kept : 4 ≤ length pxs → get_or luma kept_at 0 ≡ keptOf (map (histograms o) pxs)
+  pub size : length luma ≡ word_count
+  pub opening : opening_in luma ≡ o
+  pub scores : (i : ℕ) → i < 750 → get_or luma (scores_at + i) 0 ≡ cut_score (map (histograms o) pxs) i
+  pub changes : (i : ℕ) → i < 750 → get_or luma (changes_at + i) 0 ≡ get_or (changes (rounds_to_nearest o.edition) pxs) i 0
+  pub repeats : (j : ℕ) → j < 12 → get_or luma (repeats_at + j) 0 ≡ map_word (repeats pxs) j
+  pub kept : 4 ≤ length pxs → get_or luma kept_at 0 ≡ kept_of (map (histograms o) pxs)
 
 -- the first place of picture i's histograms in the ring
 abbrev pub slot : ℕ → ℕ
@@ -130,7 +130,7 @@ pub record Drawn (g : Grid) (s : Progress) (pxs : List (List ℕ)) (cur bins pic
   pub rest : (q : ℕ) → s.line * g.columns ≤ q → q < g.lines * g.columns →
       get_or picture q 0 ≡ get_or (previous pxs) q 0
   pub counts : Counts g.columns g.lines (slot (length pxs)) (take (s.line * g.columns) picture) bins
-  pub moves : Figures (previous pxs) (take (s.line * g.columns) picture) (movesIn s)
+  pub moves : Figures (previous pxs) (take (s.line * g.columns) picture) (moves_in s)
 
 -- where it ends: in a block row, whose block sums these are, or in the surplus rows behind the last block row, of
 -- which `left` bytes are to come
@@ -147,10 +147,10 @@ pub record Live (g : Grid) (o : Opening) (s : Progress) (luma sums bins picture 
   pub whole : List ℕ
   pub cur : List ℕ
   pub pxs : List (List ℕ)
-  pub grid : g ≡ gridOf o
+  pub grid : g ≡ grid_of o
   pub split : joined ≡ whole ++ cur
-  pub full : length whole ≡ length pxs * pictureSize o
-  pub reduced : pxs ≡ map (pixels o) (parts (length pxs) (pictureSize o) whole)
+  pub full : length whole ≡ length pxs * picture_size o
+  pub reduced : pxs ≡ map (pixels o) (parts (length pxs) (picture_size o) whole)
   pub few : length pxs ≤ 750
   pub room : length pxs ≡ 750 → cur ≡ []
   pub bytes : Bytes joined
@@ -173,7 +173,7 @@ pub record Sane (g : Grid) (s : Progress) : Type 0 where
 
 -- 750 pictures are there, and what the words and the scalars know of them stays: refusal 10 takes none of it away
 pub record Full (o : Opening) (s : Progress) (luma joined : List ℕ) : Type 0 where
-  pub there : 750 * pictureSize o ≤ length joined
+  pub there : 750 * picture_size o ≤ length joined
   pub pictures : s.pictures ≡ 750
   pub fresh : s.fresh ≡ count not (repeats (reduced o joined)) % 2 ^ 64
   pub words : Words o (reduced o joined) luma
@@ -181,24 +181,24 @@ pub record Full (o : Opening) (s : Progress) (luma joined : List ℕ) : Type 0 w
 -- The arrays stand for the opening o and the joined bytes: a refusal stands, the opening's or
 -- 10, with its place; or none
 pub data Stands (o : Opening) (s : Progress) (luma sums bins picture joined : List ℕ) : Type 0 where
-  refused : openingFault o or_else lumaFault o joined ≡ fault s.status s.place → 0 < s.status →
-      (openingFault o ≡ none → Full o s luma joined) →
+  refused : opening_fault o or_else luma_fault o joined ≡ fault s.status s.place → 0 < s.status →
+      (opening_fault o ≡ none → Full o s luma joined) →
       Stands o s luma sums bins picture joined
-  live : openingFault o ≡ none → Sane (gridOf o) s → Live (gridOf o) o s luma sums bins picture joined →
+  live : opening_fault o ≡ none → Sane (grid_of o) s → Live (grid_of o) o s luma sums bins picture joined →
       Stands o s luma sums bins picture joined
 
 -- what the lent arrays stand for: the opening and the joined bytes
 pub record Means (luma sums bins picture : List ℕ) (o : Opening) (joined : List ℕ) : Type 0 where
-  pub size : length luma ≡ wordCount
-  pub opening : openingIn luma ≡ o
+  pub size : length luma ≡ word_count
+  pub opening : opening_in luma ≡ o
   pub stands : Stands o (loaded luma) luma sums bins picture joined
 
 -- ---- on the way through a piece
 
 -- the arrays, but for the scalars in the words, which are s
 pub record Holding (o : Opening) (s : Progress) (luma sums bins picture joined : List ℕ) : Type 0 where
-  pub size : length luma ≡ wordCount
-  pub opening : openingIn luma ≡ o
+  pub size : length luma ≡ word_count
+  pub opening : opening_in luma ≡ o
   pub stands : Stands o s luma sums bins picture joined
 
 -- from one state of the arrays, by the bytes of chunk, to another, whatever the opening and the joined bytes

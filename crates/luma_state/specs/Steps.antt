@@ -22,8 +22,8 @@ placed_at s fed line row col left m =
     }
 
 -- the refusal that stands, whole pictures, and those of them that are not repeated
-abbrev pub countedAs : Progress → ℕ → ℕ → ℕ → ℕ → Progress
-countedAs s status place pictures fresh =
+abbrev pub counted_as : Progress → ℕ → ℕ → ℕ → ℕ → Progress
+counted_as s status place pictures fresh =
     record {
       status = status;
       place = place;

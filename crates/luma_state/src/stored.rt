@@ -1,7 +1,7 @@
 // What stands in the lent words between calls: the luma side's numbers and its opening.
 ghost use Rattle.std.specs.Prelude.{◌≡◌, ◌^◌, ◌≤◌, ◌<◌};
 ghost use Rattle.rules.specs.Columns.{Boundary};
-ghost use Rattle.luma_state.specs.State.{loaded, openingIn, gridOf};
+ghost use Rattle.luma_state.specs.State.{loaded, opening_in, grid_of};
 ghost use Rattle.luma_state.specs.Contract.{Stored, Placed};
 
 use crate::layout::Words;
@@ -45,7 +45,7 @@ pub fn store(luma: &mut Words, s: Progress)
 }
 
 pub fn opening_in(luma: &Words) -> Opening
-    ensures { result ≡ openingIn luma.now }
+    ensures { result ≡ opening_in luma.now }
 {
     let width = figures::low(luma[layout::WIDTH]);
     let height = figures::low(luma[layout::HEIGHT]);
@@ -70,7 +70,7 @@ fn boundary(k: u64, w: u64) -> u64
 }
 
 pub fn grid_of(o: Opening) -> Grid
-    ensures { result ≡ gridOf o }
+    ensures { result ≡ grid_of o }
 {
     let z = figures::sizes_of(o);
     let second = boundary(1, z.columns);

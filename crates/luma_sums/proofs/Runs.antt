@@ -4,7 +4,7 @@ use native.Mathlib.Nat.{div-eq_of_lt-le}
 use borrow.Author.Tests.{eqb-false}
 use Rattle.rules.specs.Bytes.{total, tally}
 use Rattle.luma_laws.proofs.Tally.{tally-append, tally-all, tally-none}
-use Rattle.luma_sums.specs.Sums.{run, inColumn, Added, Part, Blocks, Both}
+use Rattle.luma_sums.specs.Sums.{run, in_column, Added, Part, Blocks, Both}
 
 pub run_length : (s : List ℕ) (at m : ℕ) → at + m ≤ length s → length (run s at m) ≡ m
 run_length s at m h = length-take-le m (drop at s) (simp length-drop (omega arith))
@@ -17,20 +17,20 @@ pub column : (n c q : ℕ) → c * n ≤ q → q < c * n + n → q / n ≡ c
 column n c q a b = div-eq_of_lt-le n a (omega (arith, add-mul c 1 n))
 
 -- a run within the block column c gives all to it
-pub own : (n c q : ℕ) (t : List ℕ) → c * n ≤ q → q + length t ≤ c * n + n → tally (inColumn n c) q t ≡ total t
+pub own : (n c q : ℕ) (t : List ℕ) → c * n ≤ q → q + length t ≤ c * n + n → tally (in_column n c) q t ≡ total t
 own n c q t a h =
-    tally-all (inColumn n c) q t (λ j b k. rw (column n c (q + j) (omega arith) (omega arith), eq-eqb c c refl))
+    tally-all (in_column n c) q t (λ j b k. rw (column n c (q + j) (omega arith) (omega arith), eq-eqb c c refl))
 
 -- and nothing to another
 pub others : (n c d q : ℕ) (t : List ℕ) → c * n ≤ q → q + length t ≤ c * n + n → (c ≡ d → ⊥) →
-    tally (inColumn n d) q t ≡ 0
+    tally (in_column n d) q t ≡ 0
 others n c d q t a h e =
-    tally-none (inColumn n d) q t (λ j b k. rw (column n c (q + j) (omega arith) (omega arith), ne_eqb c d e))
+    tally-none (in_column n d) q t (λ j b k. rw (column n c (q + j) (omega arith) (omega arith), ne_eqb c d e))
 
 -- a run from the block column c on gives nothing to those before
-pub past : (n c d q : ℕ) (t : List ℕ) → 0 < n → c * n ≤ q → d < c → tally (inColumn n d) q t ≡ 0
+pub past : (n c d q : ℕ) (t : List ℕ) → 0 < n → c * n ≤ q → d < c → tally (in_column n d) q t ≡ 0
 past n c d q t p a h =
-    tally-none (inColumn n d) q t
+    tally-none (in_column n d) q t
     (λ j b k.
     let above : c ≤ (q + j) / n = (le-div_iff_mul-le p).1 (omega arith) in
     rw (ne_eqb ((q + j) / n) d (λ e. omega arith)))
@@ -45,7 +45,7 @@ added-append : {n w x : ℕ} {p t b a z : List ℕ} → Added n w x p b a → Ad
 added-append {n} {w} {x} {p} {t} {b} {a} {z} f g =
     record {
       size = g.size ∙ f.size;
-      grown = λ e d h. omega (arith, tally-append (inColumn n d) x p t, f.grown e d h, g.grown (f.size ∙ e) d h);
+      grown = λ e d h. omega (arith, tally-append (in_column n d) x p t, f.grown e d h, g.grown (f.size ∙ e) d h);
       other = λ d h. g.other d h ∙ f.other d h;
     }
 
@@ -66,7 +66,7 @@ added-one n w q c v t a h k lo hi e =
     }
   where
     grows : length a ≡ 240 → (d : ℕ) (r : Bool) → eqb c d ≡ r →
-        get_or (set a c v) d 0 % 2 ^ 32 ≡ (get_or a d 0 + tally (inColumn n d) q t) % 2 ^ 32
+        get_or (set a c v) d 0 % 2 ^ 32 ≡ (get_or a d 0 + tally (in_column n d) q t) % 2 ^ 32
     grows z d true y =
         rw (← eqb-true c d y, get_or-set_same a c v 0 (omega arith), own n c q t lo hi) (omega arith)
     grows z d false y =
@@ -184,8 +184,8 @@ both-more {n} {w} {j} {v} s at below {b} {a} f h k l m e =
 
     grows : length b ≡ 240 → (d : ℕ) → d < w → (r : Bool) → eqb j d ≡ r →
         get_or (set a j v) d 0 % 2 ^ 32
-        ≡ (get_or b d 0 + tally (inColumn n d) 0 (run s at (j * n) ++ run s (at + j * n) n)
-        + tally (inColumn n d) 0 (run s below (j * n) ++ run s (below + j * n) n)) % 2 ^ 32
+        ≡ (get_or b d 0 + tally (in_column n d) 0 (run s at (j * n) ++ run s (at + j * n) n)
+        + tally (in_column n d) 0 (run s below (j * n) ++ run s (below + j * n) n)) % 2 ^ 32
     grows z d y true q =
         let same : j ≡ d = eqb-true j d q in
         let t = run s (at + j * n) n in
@@ -195,15 +195,15 @@ both-more {n} {w} {j} {v} s at below {b} {a} f h k l m e =
         let long : length t ≡ n = run_length s (at + j * n) n (omega arith) in
         let long-2 : length u ≡ n = run_length s (below + j * n) n (omega arith) in
         let zero : 0 + j * n ≡ j * n = omega arith in
-        let gives : tally (inColumn n j) 0 (run s at (j * n) ++ t)
-        ≡ tally (inColumn n j) 0 (run s at (j * n)) + total t =
-        rw (first, zero) at (tally-append (inColumn n j) 0 (run s at (j * n)) t)
-        ∙ ap (λ (x : ℕ). tally (inColumn n j) 0 (run s at (j * n)) + x)
+        let gives : tally (in_column n j) 0 (run s at (j * n) ++ t)
+        ≡ tally (in_column n j) 0 (run s at (j * n)) + total t =
+        rw (first, zero) at (tally-append (in_column n j) 0 (run s at (j * n)) t)
+        ∙ ap (λ (x : ℕ). tally (in_column n j) 0 (run s at (j * n)) + x)
         (own n j (j * n) t (omega arith) (omega arith)) in
-        let gives-2 : tally (inColumn n j) 0 (run s below (j * n) ++ u)
-        ≡ tally (inColumn n j) 0 (run s below (j * n)) + total u =
-        rw (second, zero) at (tally-append (inColumn n j) 0 (run s below (j * n)) u)
-        ∙ ap (λ (x : ℕ). tally (inColumn n j) 0 (run s below (j * n)) + x)
+        let gives-2 : tally (in_column n j) 0 (run s below (j * n) ++ u)
+        ≡ tally (in_column n j) 0 (run s below (j * n)) + total u =
+        rw (second, zero) at (tally-append (in_column n j) 0 (run s below (j * n)) u)
+        ∙ ap (λ (x : ℕ). tally (in_column n j) 0 (run s below (j * n)) + x)
         (own n j (j * n) u (omega arith) (omega arith)) in
         rw (← same, get_or-set_same a j v 0 (omega (arith, f.size)))
         (joined v (get_or a j 0) (get_or b j 0) _ _ _ _ _ _ e (f.grown z j h) gives gives-2)
@@ -219,15 +219,15 @@ both-more {n} {w} {j} {v} s at below {b} {a} f h k l m e =
         (omega (
           arith,
           f.grown z d y,
-          rw (first, zero) at (tally-append (inColumn n d) 0 (run s at (j * n)) t),
-          rw (second, zero) at (tally-append (inColumn n d) 0 (run s below (j * n)) u),
+          rw (first, zero) at (tally-append (in_column n d) 0 (run s at (j * n)) t),
+          rw (second, zero) at (tally-append (in_column n d) 0 (run s below (j * n)) u),
           others n j d (j * n) t (omega arith) (omega arith) (eqb-false j d q),
           others n j d (j * n) u (omega arith) (omega arith) (eqb-false j d q),
         ))
 
 -- all of a row gives to the first w block columns what their w × n bytes give
 pub row_gives : (n w c W : ℕ) (s : List ℕ) (at : ℕ) → 0 < n → c < w → w * n ≤ W → at + W ≤ length s →
-    tally (inColumn n c) 0 (run s at W) ≡ tally (inColumn n c) 0 (run s at (w * n))
+    tally (in_column n c) 0 (run s at W) ≡ tally (in_column n c) 0 (run s at (w * n))
 row_gives n w c W s at some h k l =
     let rest = W - w * n in
     let e : W ≡ w * n + rest = omega arith in
@@ -238,6 +238,6 @@ row_gives n w c W s at some h k l =
     rw split
     (omega (
       arith,
-      rw (long, zero) at (tally-append (inColumn n c) 0 (run s at (w * n)) (run s (at + w * n) rest)),
+      rw (long, zero) at (tally-append (in_column n c) 0 (run s at (w * n)) (run s (at + w * n) rest)),
       past n w c (w * n) (run s (at + w * n) rest) some (omega arith) h,
     ))

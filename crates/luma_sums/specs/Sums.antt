@@ -4,8 +4,8 @@ use Rattle.std.specs.Prelude.{◌≡◌, ℕ, ◌+◌, ◌*◌, ◌/◌, ◌%◌
 use Rattle.rules.specs.Bytes.{pick, tally}
 
 -- what the byte b at column x gives to block column c, where a block is n columns wide
-abbrev pub inColumn : ℕ → ℕ → ℕ → ℕ → ℕ
-inColumn n c x b = pick (x / n == c) b 0
+abbrev pub in_column : ℕ → ℕ → ℕ → ℕ → ℕ
+in_column n c x b = pick (x / n == c) b 0
 
 -- m bytes from `at` on
 abbrev pub run : List ℕ → ℕ → ℕ → List ℕ
@@ -16,7 +16,7 @@ run s at m = take m (drop at s)
 pub record Added (n w x : ℕ) (t before after : List ℕ) : Type 0 where
   pub size : length after ≡ length before
   pub grown : length before ≡ 240 → (c : ℕ) → c < w →
-      slice_index after c % 2 ^ 32 ≡ (slice_index before c + tally (inColumn n c) x t) % 2 ^ 32
+      slice_index after c % 2 ^ 32 ≡ (slice_index before c + tally (in_column n c) x t) % 2 ^ 32
   pub other : (c : ℕ) → w ≤ c → slice_index after c ≡ slice_index before c
 
 -- what `add_run` asks: blocks of n columns, w of them; m bytes of the slice s from `at` on, at column x
@@ -58,7 +58,7 @@ pub record Both (n w : ℕ) (t u before after : List ℕ) : Type 0 where
   pub size : length after ≡ length before
   pub grown : length before ≡ 240 → (c : ℕ) → c < w →
       slice_index after c % 2 ^ 32
-      ≡ (slice_index before c + tally (inColumn n c) 0 t + tally (inColumn n c) 0 u) % 2 ^ 32
+      ≡ (slice_index before c + tally (in_column n c) 0 t + tally (in_column n c) 0 u) % 2 ^ 32
 
 -- what `whole_two` asks: k blocks of n bytes, of s from `at` on and from `below` on
 pub record Stacked (n k : ℕ) (s : List ℕ) (at below : ℕ) : Type 0 where
@@ -66,7 +66,7 @@ pub record Stacked (n k : ℕ) (s : List ℕ) (at below : ℕ) : Type 0 where
   pub few : n ≤ 64
   pub room : k ≤ 240
   pub inside : at + k * n ≤ length s
-  pub inside-2 : below + k * n ≤ length s
+  pub inside_2 : below + k * n ≤ length s
 
 -- t bytes within block column c, wherever they stand in it and however wide it is
 abbrev pub Part : ℕ → ℕ → List ℕ → ℕ → ℕ → List ℕ → List ℕ → Type 0

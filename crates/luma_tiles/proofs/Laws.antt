@@ -2,15 +2,15 @@
 use Rattle.std.proofs.Common.{◌≡◌, ℕ, ◌+◌, ◌-◌, ◌*◌, ◌/◌, ◌%◌, ◌^◌, ◌<◌, ◌≤◌, Bool, true, false, eqb, List, [], ◌∷◌, ◌++◌, length, get_or, drop, set, sym, refl, ap, ◌∙◌, append_assoc, append-nil, one-mul, zero-mul, add-one, arith, length-append, length-drop, length-set, get_or-drop, get_or-set_other, take-suc, get_or-set_same, below_more, eqb-true}
 use borrow.Author.Tests.{eqb-false}
 use Rattle.rules.specs.Bytes.{pick, count, tally}
-use Rattle.rules.specs.Histograms.{third, tileAt, bin, inBin}
+use Rattle.rules.specs.Histograms.{third, tile_at, bin, in_bin}
 use Rattle.rules.proofs.Laws.Lists.{count-append}
 use Rattle.rules.specs.Counted.{hits}
-use Rattle.luma_laws.specs.Tallies.{binTally}
+use Rattle.luma_laws.specs.Tallies.{bin_tally}
 use Rattle.luma_laws.proofs.Tiles.{bin-more}
 use Rattle.luma_laws.proofs.Thirds.{tile-of}
 use Rattle.luma_sums.specs.Sums.{run}
 use Rattle.luma_sums.proofs.Runs.{run_length, run-split, column}
-use Rattle.luma_tiles.specs.Bins.{Kept, Cleared, inTile, Grown, Three, CountedRow}
+use Rattle.luma_tiles.specs.Bins.{Kept, Cleared, in_tile, Grown, Three, CountedRow}
 
 kept-none : (base : ℕ) (a : List ℕ) → Kept base a a
 kept-none base a = record { size = refl; low = λ i h. refl; high = λ i h. refl }
@@ -48,8 +48,8 @@ grown-more s r =
 -- one pixel
 pub counted : (base v t k x : ℕ) {a : List ℕ} → base + 144 ≤ 720 → t < 9 → (k ≡ bin v) × (k < 16) →
     x ≡ (get_or a (base + (16 * t + k)) 0 + 1) % 2 ^ 32 →
-    Grown base (inTile t (v ∷ [])) a (set a (base + (16 * t + k)) x)
-unfolding inBin count
+    Grown base (in_tile t (v ∷ [])) a (set a (base + (16 * t + k)) x)
+unfolding in_bin count
 counted base v t k x {a} hs ht hk e =
     record {
       kept = kept_set base (16 * t + k) x a (omega arith);
@@ -75,16 +75,16 @@ counted base v t k x {a} hs ht hk e =
 
 -- ---- pixels of one tile
 
-in-none : (u t b : ℕ) → inTile u [] t b ≡ 0
-unfolding inBin count
+in-none : (u t b : ℕ) → in_tile u [] t b ≡ 0
+unfolding in_bin count
 in-none u t b = go (eqb u t)
   where
     go : (x : Bool) → ◌≡◌ {A = ℕ} (pick x 0 0) 0
     go true = refl
     go false = refl
 
-pub in-append : (u t b : ℕ) (xs ys : List ℕ) → inTile u (xs ++ ys) t b ≡ inTile u xs t b + inTile u ys t b
-unfolding inBin
+pub in-append : (u t b : ℕ) (xs ys : List ℕ) → in_tile u (xs ++ ys) t b ≡ in_tile u xs t b + in_tile u ys t b
+unfolding in_bin
 in-append u t b xs ys = rw (count-append (λ v. eqb (bin v) b) xs ys)
     (go (eqb u t) (count (λ v. eqb (bin v) b) xs) (count (λ v. eqb (bin v) b) ys))
   where
@@ -92,8 +92,8 @@ in-append u t b xs ys = rw (count-append (λ v. eqb (bin v) b) xs ys)
     go true m n = refl
     go false m n = refl
 
-in_one : (t b u v : ℕ) → pick (eqb u t) (pick (eqb (bin v) b) 1 0) 0 ≡ inTile u (v ∷ []) t b
-unfolding inBin count
+in_one : (t b u v : ℕ) → pick (eqb u t) (pick (eqb (bin v) b) 1 0) 0 ≡ in_tile u (v ∷ []) t b
+unfolding in_bin count
 in_one t b u v = go (eqb u t) (pick (eqb (bin v) b) 1 0)
   where
     go : (x : Bool) (n : ℕ) → ◌≡◌ {A = ℕ} (pick x n 0) (pick x (n + 0) 0)
@@ -101,17 +101,17 @@ in_one t b u v = go (eqb u t) (pick (eqb (bin v) b) 1 0)
     go false n = refl
 
 -- pixels that stand in one tile of the picture, behind the first pixels p
-in-picture : (w h t b u : ℕ) (p xs : List ℕ) → ((i : ℕ) → i < length xs → tileAt w h (length p + i) ≡ u) →
-    binTally w h t b (p ++ xs) ≡ binTally w h t b p + inTile u xs t b
+in-picture : (w h t b u : ℕ) (p xs : List ℕ) → ((i : ℕ) → i < length xs → tile_at w h (length p + i) ≡ u) →
+    bin_tally w h t b (p ++ xs) ≡ bin_tally w h t b p + in_tile u xs t b
 in-picture w h t b u p [] e = rw append-nil (omega (arith, in-none u t b))
 in-picture w h t b u p (v ∷ xs) e =
     let q = p ++ v ∷ [] in
     let l = length-append p (v ∷ []) in
     let at : length p ≡ length p + 0 = omega arith in
-    let here : tileAt w h (length p) ≡ u = ap (tileAt w h) at ∙ e 0 (omega arith) in
+    let here : tile_at w h (length p) ≡ u = ap (tile_at w h) at ∙ e 0 (omega arith) in
     let more = in-picture w h t b u q xs (λ i k. let next : length q + i ≡ length p + (i + 1) = omega arith in
-    ap (tileAt w h) next ∙ e (i + 1) (omega arith)) in
-    let one : hits w h t b (length p) v ≡ inTile u (v ∷ []) t b = rw here (in_one t b u v) in
+    ap (tile_at w h) next ∙ e (i + 1) (omega arith)) in
+    let one : hits w h t b (length p) v ≡ in_tile u (v ∷ []) t b = rw here (in_one t b u v) in
     rw (← append_assoc p (v ∷ []) xs) (omega (arith, more, bin-more w h t b v p, one, in-append u t b (v ∷ []) xs))
 
 -- ---- the pixels of a row
@@ -127,7 +127,7 @@ run-one s at m few some h =
     let z : at + 0 ≡ at = omega arith in
     rw (e, run_more s at 0 (omega arith), z) refl
 
-pub last_none : (base t at m : ℕ) (pixels a : List ℕ) → m ≡ 0 → Grown base (inTile t (run pixels at m)) a a
+pub last_none : (base t at m : ℕ) (pixels a : List ℕ) → m ≡ 0 → Grown base (in_tile t (run pixels at m)) a a
 last_none base t at m pixels a e = rw e (grown-same (λ u b. omega (arith, in-none t u b)) (grown-none base a))
 
 pub three-none : (base t x y z : ℕ) (pixels a : List ℕ) → Three base t pixels x y z 0 a a
@@ -136,9 +136,9 @@ three-none base t x y z pixels a =
 
 pub three-more : (base t x y z i : ℕ) (pixels : List ℕ) {a b c d e : List ℕ} → Three base t pixels x y z i a b →
     x + i < length pixels → y + i < length pixels → z + i < length pixels →
-    Grown base (inTile t (get_or pixels (x + i) 0 ∷ [])) b c →
-    Grown base (inTile (t + 1) (get_or pixels (y + i) 0 ∷ [])) c d →
-    Grown base (inTile (t + 2) (get_or pixels (z + i) 0 ∷ [])) d e → Three base t pixels x y z (i + 1) a e
+    Grown base (in_tile t (get_or pixels (x + i) 0 ∷ [])) b c →
+    Grown base (in_tile (t + 1) (get_or pixels (y + i) 0 ∷ [])) c d →
+    Grown base (in_tile (t + 2) (get_or pixels (z + i) 0 ∷ [])) d e → Three base t pixels x y z (i + 1) a e
 three-more base t x y z i pixels s hx hy hz f g k =
     rw (run_more pixels x i hx, run_more pixels y i hy, run_more pixels z i hz)
     (grown-same
@@ -152,15 +152,15 @@ three-more base t x y z i pixels s hx hy hz f g k =
     (grown-more (grown-more (grown-more s f) g) k))
 
 -- the columns of one tile column
-column-is : (w h r j c : ℕ) → c < w → j * w ≤ 3 * c → 3 * c < j * w + w → tileAt w h (r * w + c) ≡ 3 * third h r + j
+column-is : (w h r j c : ℕ) → c < w → j * w ≤ 3 * c → 3 * c < j * w + w → tile_at w h (r * w + c) ≡ 3 * third h r + j
 unfolding third
 column-is w h r j c k lo hi = tile-of w h r c k ∙ ap (λ (z : ℕ). 3 * third h r + z) (column w j (3 * c) lo hi)
 
 -- pixels of row r behind the first pixels p, of the columns from c on
 in-columns : (w h r j c m t b : ℕ) (p pixels : List ℕ) → length p ≡ r * w + c → c + m ≤ w →
     r * w + c + m ≤ length pixels → j * w ≤ 3 * c → 3 * (c + m) < j * w + w + 3 →
-    binTally w h t b (p ++ run pixels (r * w + c) m)
-    ≡ binTally w h t b p + inTile (3 * third h r + j) (run pixels (r * w + c) m) t b
+    bin_tally w h t b (p ++ run pixels (r * w + c) m)
+    ≡ bin_tally w h t b p + in_tile (3 * third h r + j) (run pixels (r * w + c) m) t b
 in-columns w h r j c m t b p pixels l inside there lo hi =
     let n = run_length pixels (r * w + c) m there in
     in-picture w h t b (3 * third h r + j) p (run pixels (r * w + c) m)
@@ -204,8 +204,8 @@ module _ (w h r base second third' m : ℕ) (pixels : List ℕ) (is2 : second �
 
   -- what the row gives to bin b of tile t
   row_gives : (t b : ℕ) (p : List ℕ) → length p ≡ r * w →
-      binTally w h t b (p ++ run pixels (r * w) w)
-      ≡ binTally w h t b p + inTile tile first t b + inTile (tile + 1) middle t b + inTile (tile + 2) last t b
+      bin_tally w h t b (p ++ run pixels (r * w) w)
+      ≡ bin_tally w h t b p + in_tile tile first t b + in_tile (tile + 1) middle t b + in_tile (tile + 2) last t b
   row_gives t b p l =
       let lf = run_length pixels (r * w) second (omega arith) in
       let lm = run_length pixels (r * w + second) (third' - second) (omega arith) in
@@ -223,8 +223,8 @@ module _ (w h r base second third' m : ℕ) (pixels : List ℕ) (is2 : second �
 
   -- the three tile columns as far as all go, and the rest of the first two
   pub row-counted : {a b c d : List ℕ} → Three base tile pixels (r * w) (r * w + second) (r * w + third') m a b →
-      Grown base (inTile tile (run pixels (r * w + m) (second - m))) b c →
-      Grown base (inTile (tile + 1) (run pixels (r * w + second + m) (third' - second - m))) c d →
+      Grown base (in_tile tile (run pixels (r * w + m) (second - m))) b c →
+      Grown base (in_tile (tile + 1) (run pixels (r * w + second + m) (third' - second - m))) c d →
       CountedRow w h r base pixels a d
   row-counted {a} {b} {c} {d} f g k =
       record {
@@ -236,23 +236,23 @@ module _ (w h r base second third' m : ℕ) (pixels : List ℕ) (is2 : second �
                   let all = (grown-more (grown-more f g) k).each s.size t u ht hu in
                   let e : second ≡ m + (second - m) = omega arith in
                   let e2 : third' - second ≡ m + (third' - second - m) = omega arith in
-                  let x : inTile tile first t u
-                  ≡ inTile tile (run pixels (r * w) m) t u + inTile tile (run pixels (r * w + m) (second - m)) t u =
-                  ap (λ (n : ℕ). inTile tile (run pixels (r * w) n) t u) e
-                  ∙ ap (λ (y : List ℕ). inTile tile y t u) (run-split pixels (r * w) m (second - m))
+                  let x : in_tile tile first t u
+                  ≡ in_tile tile (run pixels (r * w) m) t u + in_tile tile (run pixels (r * w + m) (second - m)) t u =
+                  ap (λ (n : ℕ). in_tile tile (run pixels (r * w) n) t u) e
+                  ∙ ap (λ (y : List ℕ). in_tile tile y t u) (run-split pixels (r * w) m (second - m))
                   ∙ in-append tile t u (run pixels (r * w) m) (run pixels (r * w + m) (second - m)) in
-                  let y : inTile (tile + 1) middle t u ≡ inTile (tile + 1) (run pixels (r * w + second) m) t u
-                  + inTile (tile + 1) (run pixels (r * w + second + m) (third' - second - m)) t u =
-                  ap (λ (n : ℕ). inTile (tile + 1) (run pixels (r * w + second) n) t u) e2
-                  ∙ ap (λ (y : List ℕ). inTile (tile + 1) y t u)
+                  let y : in_tile (tile + 1) middle t u ≡ in_tile (tile + 1) (run pixels (r * w + second) m) t u
+                  + in_tile (tile + 1) (run pixels (r * w + second + m) (third' - second - m)) t u =
+                  ap (λ (n : ℕ). in_tile (tile + 1) (run pixels (r * w + second) n) t u) e2
+                  ∙ ap (λ (y : List ℕ). in_tile (tile + 1) y t u)
                   (run-split pixels (r * w + second) m (third' - second - m)) ∙ in-append (tile + 1) t u
                   (run pixels (r * w + second) m) (run pixels (r * w + second + m) (third' - second - m)) in
                   let sum = row_gives t u p l in
-                  carried_on _ _ (binTally w h t u p) _ _ all (s.each t u ht hu) (added-up
-                  (inTile tile (run pixels (r * w) m) t u) (inTile (tile + 1) (run pixels (r * w + second) m) t u)
-                  (inTile (tile + 2) last t u) (inTile tile (run pixels (r * w + m) (second - m)) t u)
-                  (inTile (tile + 1) (run pixels (r * w + second + m) (third' - second - m)) t u)
-                  (inTile tile first t u) (inTile (tile + 1) middle t u) (binTally w h t u p) _ x y sum);
+                  carried_on _ _ (bin_tally w h t u p) _ _ all (s.each t u ht hu) (added-up
+                  (in_tile tile (run pixels (r * w) m) t u) (in_tile (tile + 1) (run pixels (r * w + second) m) t u)
+                  (in_tile (tile + 2) last t u) (in_tile tile (run pixels (r * w + m) (second - m)) t u)
+                  (in_tile (tile + 1) (run pixels (r * w + second + m) (third' - second - m)) t u)
+                  (in_tile tile first t u) (in_tile (tile + 1) middle t u) (bin_tally w h t u p) _ x y sum);
             };
       }
 

@@ -2,16 +2,16 @@
 -- pictures' bins, 144 each, lie in one ring.
 use Rattle.std.specs.Prelude.{◌≡◌, ℕ, ◌+◌, ◌*◌, ◌%◌, ◌^◌, ◌<◌, ◌≤◌, List, [], ◌++◌, length, ◌==◌, slice_index}
 use Rattle.rules.specs.Bytes.{pick}
-use Rattle.rules.specs.Histograms.{inBin}
+use Rattle.rules.specs.Histograms.{in_bin}
 use Rattle.rules.specs.Columns.{Boundary}
-use Rattle.luma_laws.specs.Tallies.{binTally}
+use Rattle.luma_laws.specs.Tallies.{bin_tally}
 use Rattle.luma_sums.specs.Sums.{run}
 
 -- The 144 counts from `base` on stand for the first pixels p of a picture: bin b of tile t is
 -- count 16 t + b, modulo 2 ^ 32
 pub record Counts (w h base : ℕ) (p counts : List ℕ) : Type 0 where
   pub size : length counts ≡ 720
-  pub each : (t b : ℕ) → t < 9 → b < 16 → slice_index counts (base + (16 * t + b)) % 2 ^ 32 ≡ binTally w h t b p % 2 ^ 32
+  pub each : (t b : ℕ) → t < 9 → b < 16 → slice_index counts (base + (16 * t + b)) % 2 ^ 32 ≡ bin_tally w h t b p % 2 ^ 32
 
 -- nothing but the 144 counts from `base` on changed
 pub record Kept (base : ℕ) (before after : List ℕ) : Type 0 where
@@ -25,8 +25,8 @@ pub record Cleared (base : ℕ) (before after : List ℕ) : Type 0 where
   pub none : length before ≡ 720 → (w h : ℕ) → Counts w h base [] after
 
 -- what the pixels vs, which all lie in tile u, give to bin b of tile t
-abbrev pub inTile : ℕ → List ℕ → ℕ → ℕ → ℕ
-inTile u vs t b = pick (u == t) (inBin vs b) 0
+abbrev pub in_tile : ℕ → List ℕ → ℕ → ℕ → ℕ
+in_tile u vs t b = pick (u == t) (in_bin vs b) 0
 
 -- bin b of tile t grew by f t b, modulo 2 ^ 32
 pub record Grown (base : ℕ) (f : ℕ → ℕ → ℕ) (before after : List ℕ) : Type 0 where
@@ -38,7 +38,7 @@ pub record Grown (base : ℕ) (f : ℕ → ℕ → ℕ) (before after : List ℕ
 abbrev pub Three : ℕ → ℕ → List ℕ → ℕ → ℕ → ℕ → ℕ → List ℕ → List ℕ → Type 0
 Three base t pixels x y z m =
     Grown base
-    (λ u b. inTile t (run pixels x m) u b + inTile (t + 1) (run pixels y m) u b + inTile (t + 2) (run pixels z m) u b)
+    (λ u b. in_tile t (run pixels x m) u b + in_tile (t + 1) (run pixels y m) u b + in_tile (t + 2) (run pixels z m) u b)
 
 -- a row of pixels more
 pub record CountedRow (w h r base : ℕ) (pixels before after : List ℕ) : Type 0 where
@@ -49,7 +49,7 @@ pub record CountedRow (w h r base : ℕ) (pixels before after : List ℕ) : Type
 -- what `count_row` asks
 pub record Row (w h r base second third : ℕ) (pixels : List ℕ) : Type 0 where
   pub boundary : Boundary 1 w second
-  pub boundary-2 : Boundary 2 w third
+  pub boundary_2 : Boundary 2 w third
   pub wide : 3 ≤ w
   pub few : w ≤ 240
   pub inside : r < h

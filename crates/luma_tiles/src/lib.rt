@@ -3,7 +3,7 @@
 ghost use Rattle.std.specs.Prelude.{◌≡◌, ◌+◌, ◌<◌, ◌≤◌, [], ◌∷◌, length};
 ghost use Rattle.rules.specs.Histograms.{bin};
 ghost use Rattle.luma_sums.specs.Sums.{run};
-ghost use Rattle.luma_tiles.specs.Bins.{Cleared, inTile, Grown, Three, Columns, CountedRow, Row};
+ghost use Rattle.luma_tiles.specs.Bins.{Cleared, in_tile, Grown, Three, Columns, CountedRow, Row};
 
 // How many bins a tile and a picture's nine tiles have, how many pictures the ring has, and the counts in all.
 pub const TILE_BINS: usize = 16;
@@ -39,7 +39,7 @@ pub fn clear(counts: &mut Bins, base: usize)
 // One pixel of value v more, in tile t of the counts from `base` on.
 fn count(counts: &mut Bins, base: usize, t: usize, v: u8)
     requires { (base + 144 ≤ 720) × (t < 9) }
-    ensures { Grown base (inTile t (v ∷ [])) counts.old counts.new }
+    ensures { Grown base (in_tile t (v ∷ [])) counts.old counts.new }
 {
     let i = base + (TILE_BINS * t + bin_of(v));
     counts[i] = std::num::wrapping_add_u32(counts[i], 1);
@@ -72,7 +72,7 @@ fn count_columns(
 // The pixel that a tile has more than the others in a row, or none: m from `from` on.
 fn count_last(counts: &mut Bins, base: usize, t: usize, pixels: &[u8], from: usize, m: usize)
     requires { (base + 144 ≤ 720) × (t < 9) × (m ≤ 1) × (from + m ≤ length pixels.now) }
-    ensures { Grown base (inTile t (run pixels.now from m)) counts.old
+    ensures { Grown base (in_tile t (run pixels.now from m)) counts.old
         counts.new }
 {
     if 0 < m {

@@ -3,8 +3,8 @@
 ghost use Rattle.std.specs.Prelude.{◌≡◌, ◌+◌, ◌*◌, ◌≤◌, ◌<◌, length};
 ghost use Rattle.io.specs.Counts.{IsPrefixLen};
 ghost use Rattle.rules.specs.Seal.{over};
-ghost use Rattle.program_text.specs.Text.{line_of, answerText, bitsText, hexText};
-ghost use Rattle.program_text.specs.Text.{digit as digitOf};
+ghost use Rattle.program_text.specs.Text.{line_of, answer_text, bits_text, hex_text};
+ghost use Rattle.program_text.specs.Text.{digit as digit_of};
 
 use rules::Answer;
 
@@ -25,10 +25,10 @@ fn put_line(line: &mut [u8], word: &[u8], numbers: &[u64], end: &[u8]) -> usize
 fn put_answer(line: &mut [u8], done: &[u8], refused: &[u8], a: Answer, end: &[u8]) -> usize
     requires end_in_bounds { length done.now + 42 + length end.now ≤ length line.old }
     requires end_in_bounds_2 { length refused.now + 42 + length end.now ≤ length line.old }
-    ensures { (result ≡ length (answerText done.now refused.now a end.now))
+    ensures { (result ≡ length (answer_text done.now refused.now a end.now))
         × IsPrefixLen result line.new
         × (line.new
-        ≡ over (answerText done.now refused.now a end.now) line.old) }
+        ≡ over (answer_text done.now refused.now a end.now) line.old) }
 {
     match a {
         Answer::Done(n) => put_line(line, done, &[n], end),
@@ -50,8 +50,8 @@ pub fn print_answer(done: &[u8], refused: &[u8], a: Answer, end: &[u8])
 // A word, 16 hexadecimal digits with capital letters and an end, at the front of the line.
 fn put_bits(line: &mut [u8], word: &[u8], bits: u64, end: &[u8]) -> usize
     requires { length word.now + 17 + length end.now ≤ length line.old }
-    ensures { (result ≡ length (bitsText word.now bits end.now)) × IsPrefixLen result line.new
-        × (line.new ≡ over (bitsText word.now bits end.now) line.old) }
+    ensures { (result ≡ length (bits_text word.now bits end.now)) × IsPrefixLen result line.new
+        × (line.new ≡ over (bits_text word.now bits end.now) line.old) }
 {
     let start = record_text::put_text(line, 0, word);
     let digits = record_text::put_hex(line, start, bits);
@@ -70,7 +70,7 @@ pub fn print_bits(word: &[u8], bits: u64)
 // The hexadecimal digit of a number below 16, in lower case.
 fn digit(d: u8) -> u8
     requires { d < 16 }
-    ensures { result ≡ digitOf d }
+    ensures { result ≡ digit_of d }
 {
     if d < 10 { 48 + d } else { 87 + d }
 }
@@ -80,7 +80,7 @@ fn put_hex(text: &mut [u8], bytes: &[u8]) -> usize
     requires { 2 * length bytes.now ≤ length text.old }
     ensures { (result ≡ 2 * length bytes.now)
         × IsPrefixLen result text.new
-        × (text.new ≡ over (hexText bytes.now) text.old) }
+        × (text.new ≡ over (hex_text bytes.now) text.old) }
 {
     let mut i = 0;
     while i < bytes.len() {

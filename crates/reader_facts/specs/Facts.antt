@@ -7,10 +7,10 @@ use Rattle.rules.specs.declared.Opening.{Opening}
 use Rattle.rules.specs.declared.Answer.{Answer}
 use Rattle.rules.specs.declared.Answer.TheVariants.{Done}
 use Rattle.rules.specs.Bytes.{Bytes, word32, word64, total, only, table}
-use Rattle.rules.specs.Packets.{udpLength, carries, packets, other_of}
-use Rattle.rules.specs.Capture.{wholeFrames}
+use Rattle.rules.specs.Packets.{udp_length, carries, packets, other_of}
+use Rattle.rules.specs.Capture.{whole_frames}
 use Rattle.rules.specs.Index.{float}
-use Rattle.rules.specs.Calls.{seal, sealedInto, Call, ask, Outcome, replied, captureFed, lumaFed}
+use Rattle.rules.specs.Calls.{seal, sealed_into, Call, ask, Outcome, replied, capture_fed, luma_fed}
 use Rattle.sample_questions.specs.State.{State}
 use Rattle.sample.specs.Contract.{OpenPost}
 use Rattle.sample.specs.Calls.{Runs}
@@ -18,30 +18,30 @@ use Rattle.sample.specs.Calls.{Runs}
 -- ---- the words of a record
 
 -- word k of every unit row, added up: unit j's row stands at 64 + 32 j, and word 8 is the number of units
-unfoldable pub unitWords : List ℕ → ℕ → ℕ
-unitWords r k = total (table (word32 r 8) 0 (λ j. word32 r (64 + 32 * j + k)))
+unfoldable pub unit_words : List ℕ → ℕ → ℕ
+unit_words r k = total (table (word32 r 8) 0 (λ j. word32 r (64 + 32 * j + k)))
 
 -- the unit rows' bytes
-unfoldable pub unitRows : List ℕ → List ℕ
-unitRows r = take (32 * word32 r 8) (drop 64 r)
+unfoldable pub unit_rows : List ℕ → List ℕ
+unit_rows r = take (32 * word32 r 8) (drop 64 r)
 
 -- the index, as the number whose f64 bits stand at 56
-unfoldable pub indexIn : List ℕ → Float
-indexIn r = of_bits binary64 (word64 r 56)
+unfoldable pub index_in : List ℕ → Float
+index_in r = of_bits binary64 (word64 r 56)
 
 -- ---- the capture's records and cells
 
 -- the capture records that carry
 unfoldable pub carrying : List ℕ → List (List ℕ)
-carrying capture = only carries (wholeFrames capture)
+carrying capture = only carries (whole_frames capture)
 
 -- the cells in all of them: one for each 188 of the U − 8 bytes that a record carries
-unfoldable pub carriedCells : List ℕ → ℕ
-carriedCells capture = total (map (λ f. (udpLength f - 8) / 188) (carrying capture))
+unfoldable pub carried_cells : List ℕ → ℕ
+carried_cells capture = total (map (λ f. (udp_length f - 8) / 188) (carrying capture))
 
 -- how many of them start with 0x47 under another identifier
-unfoldable pub foreignCells : Opening → List ℕ → ℕ
-foreignCells o capture = other_of o (packets 24 (wholeFrames capture))
+unfoldable pub foreign_cells : Opening → List ℕ → ℕ
+foreign_cells o capture = other_of o (packets 24 (whole_frames capture))
 
 -- ---- the facts
 
@@ -49,18 +49,18 @@ foreignCells o capture = other_of o (packets 24 (wholeFrames capture))
 -- (word 52), under another identifier, in a unit (words 20), or damaged in a unit (words 28)
 pub record AllCounted (o : Opening) (capture r : List ℕ) : Type 0 where
   pub records : word32 r 44 ≡ length (carrying capture) + word32 r 48
-  pub cells : carriedCells capture ≡ word32 r 52 + foreignCells o capture + unitWords r 20 + unitWords r 28
+  pub cells : carried_cells capture ≡ word32 r 52 + foreign_cells o capture + unit_words r 20 + unit_words r 28
 
 -- 2: the index is a number from 1 to 5, rounding included
 pub record OneToFive (r : List ℕ) : Type 0 where
-  pub number : T (not (is_nan (indexIn r)))
-  pub least : T (le (float 1) (indexIn r))
-  pub most : T (le (indexIn r) (float 5))
+  pub number : T (not (is_nan (index_in r)))
+  pub least : T (le (float 1) (index_in r))
+  pub most : T (le (index_in r) (float 5))
 
 -- 3: two records have the same units, byte by byte
 pub record SameUnits (r r' : List ℕ) : Type 0 where
   pub units : word32 r 8 ≡ word32 r' 8
-  pub rows : unitRows r ≡ unitRows r'
+  pub rows : unit_rows r ≡ unit_rows r'
 
 -- ---- at every successful seal
 
@@ -76,11 +76,11 @@ pub record SealedBy (o : Opening) (capture luma r : List ℕ) : Type 0 where
   pub answer : ℕ
   pub opens : OpenPost o opened first
   pub runs : Runs first (calls ++ ask (seal before) ∷ [])
-      (outcomes ++ replied (sealedInto (Done answer) after) ∷ []) last
-  pub capture-is : captureFed calls ≡ capture
-  pub luma-is : lumaFed calls ≡ luma
-  pub capture-bytes : Bytes capture
-  pub luma-bytes : Bytes luma
+      (outcomes ++ replied (sealed_into (Done answer) after) ∷ []) last
+  pub capture_is : capture_fed calls ≡ capture
+  pub luma_is : luma_fed calls ≡ luma
+  pub capture_bytes : Bytes capture
+  pub luma_bytes : Bytes luma
   pub is : r ≡ take answer after
 
 -- THE STATEMENTS

@@ -1,8 +1,8 @@
 // Whether the rules allow a record: its header and its rows, test by test.
 ghost use Rattle.std.specs.Prelude.{◌≡◌, ◌+◌, ◌*◌, ◌≤◌, ◌<◌, length, drop};
 ghost use Rattle.rules.specs.Bytes.{word32 as rule32};
-ghost use Rattle.rules.specs.Reading.{allowedHeader, allowedUnit, allowedUnits};
-ghost use Rattle.rules.specs.Reading.{allowedScene, allowedScenes, allowed as ruleAllowed};
+ghost use Rattle.rules.specs.Reading.{allowed_header, allowed_unit, allowed_units};
+ghost use Rattle.rules.specs.Reading.{allowed_scene, allowed_scenes, allowed as rule_allowed};
 
 use figures::{good_pid, good_size, good_time, is_edition, knows_damage};
 
@@ -17,7 +17,7 @@ fn word(bytes: &[u8], at: usize) -> u64
 // The header's conditions.
 fn allowed_header(bytes: &[u8]) -> bool
     requires { 64 ≤ length bytes.now }
-    ensures { result ≡ allowedHeader (length bytes.now) bytes.now }
+    ensures { result ≡ allowed_header (length bytes.now) bytes.now }
 {
     let size = word(bytes, 4);
     let units = word(bytes, 8);
@@ -42,7 +42,7 @@ fn allowed_header(bytes: &[u8]) -> bool
 // A unit row's conditions, by whether the record's edition knows damage.
 fn allowed_unit(row: &[u8], known: bool) -> bool
     requires { 32 ≤ length row.now }
-    ensures { result ≡ allowedUnit known row.now }
+    ensures { result ≡ allowed_unit known row.now }
 {
     let packets = word(row, 20);
     (words::word64(row, 0) <= words::word64(row, 8))
@@ -54,7 +54,7 @@ fn allowed_unit(row: &[u8], known: bool) -> bool
 // The conditions of n unit rows.
 fn allowed_units(bytes: &[u8], n: usize, known: bool) -> bool
     requires { 64 + 32 * n ≤ length bytes.now }
-    ensures { result ≡ allowedUnits known n (drop 64 bytes.now) }
+    ensures { result ≡ allowed_units known n (drop 64 bytes.now) }
 {
     let mut j = 0;
     while j < n {
@@ -70,7 +70,7 @@ fn allowed_units(bytes: &[u8], n: usize, known: bool) -> bool
 // A scene row's conditions, where the scene is to begin at picture `from`.
 fn allowed_scene(row: &[u8], from: u64) -> bool
     requires { 32 ≤ length row.now }
-    ensures { result ≡ allowedScene from row.now }
+    ensures { result ≡ allowed_scene from row.now }
 {
     (word(row, 0) == from) & (1 <= word(row, 4)) & (word(row, 28) == 0)
 }
@@ -78,7 +78,7 @@ fn allowed_scene(row: &[u8], from: u64) -> bool
 // The conditions of n scene rows from a place on, which are to total the pictures.
 fn allowed_scenes(bytes: &[u8], place: usize, n: usize, pictures: u64) -> bool
     requires { (place + 32 * n ≤ length bytes.now) × (n ≤ 250) }
-    ensures { result ≡ allowedScenes pictures n 0 (drop place bytes.now) }
+    ensures { result ≡ allowed_scenes pictures n 0 (drop place bytes.now) }
 {
     let mut from: u64 = 0;
     let mut j = 0;
@@ -97,7 +97,7 @@ fn allowed_scenes(bytes: &[u8], place: usize, n: usize, pictures: u64) -> bool
 // Whether the rules allow a record of 64 bytes or more.
 pub fn allowed(bytes: &[u8]) -> bool
     requires { 64 ≤ length bytes.now }
-    ensures { result ≡ ruleAllowed bytes.now }
+    ensures { result ≡ rule_allowed bytes.now }
 {
     if !allowed_header(bytes) {
         return false;

@@ -10,16 +10,16 @@ use lib.ListN.{length, take, set, get_or, replicate, length-append, length-repli
 use lib.Seq.{take-suc, take_all}
 use lib.Dec.{ltb}
 use borrow.Author.Tests.{lt-ltb}
-use Rattle.rules.specs.Bytes.{pick, table, endToEnd, All, empty, and}
-use Rattle.rules.proofs.Laws.Lists.{endToEnd-append}
+use Rattle.rules.specs.Bytes.{pick, table, end_to_end, All, empty, and}
+use Rattle.rules.proofs.Laws.Lists.{end_to_end-append}
 use Rattle.words.specs.Written.{written}
 use Rattle.words.proofs.Laws.{written-sets}
 use Rattle.words.proofs.Behind.{next}
-use Rattle.rules.specs.Digits.{decimalIn, decimal, hexIn}
+use Rattle.rules.specs.Digits.{decimal_in, decimal, hex_in}
 use Rattle.record_text.proofs.Texts.{none_yet, length-hex, decimal-digits}
 use Rattle.io.specs.Digits.{last_digits, IsDigitCount}
 use Rattle.io.specs.Counts.{IsPrefixLen}
-use Rattle.record_lines.specs.Put.{Put, Fits, linesTo}
+use Rattle.record_lines.specs.Put.{Put, Fits, lines_to}
 use Rattle.rules.specs.Sheet.{aligned, columns, ending, line}
 
 -- ---- any texts
@@ -58,8 +58,8 @@ space-more at i s t p h k =
 -- ---- fields
 
 -- a number below 10 ^ w has w digits at most
-pub few-digits : (k n w : ℕ) → 1 ≤ w → n < 10 ^ w → length (decimalIn k n) ≤ w
-unfolding decimalIn
+pub few-digits : (k n w : ℕ) → 1 ≤ w → n < 10 ^ w → length (decimal_in k n) ≤ w
+unfolding decimal_in
 few-digits zero n w a b = omega arith
 few-digits (suc k) n zero a b = absurd (omega arith)
 few-digits (suc k) n (suc zero) a b = rw (lt-ltb n 10 (omega (arith, pow-suc 10 0))) (omega arith)
@@ -69,10 +69,10 @@ few-digits (suc k) n (suc (suc w)) a b =
     in
     go (ltb n 10) (few-digits k (n / 10) (suc w) (omega arith) less)
   where
-    go : (b : Bool) → length (decimalIn k (n / 10)) ≤ suc w →
-        length (pick b ((48 + n) ∷ []) (decimalIn k (n / 10) ++ ((48 + n % 10) ∷ []))) ≤ suc (suc w)
+    go : (b : Bool) → length (decimal_in k (n / 10)) ≤ suc w →
+        length (pick b ((48 + n) ∷ []) (decimal_in k (n / 10) ++ ((48 + n % 10) ∷ []))) ≤ suc (suc w)
     go true h = omega arith
-    go false h = rw (length-append (decimalIn k (n / 10)) ((48 + n % 10) ∷ [])) (omega arith)
+    go false h = rw (length-append (decimal_in k (n / 10)) ((48 + n % 10) ∷ [])) (omega arith)
 
 pub length-aligned : (w : ℕ) (text : List ℕ) → length text ≤ w → length (aligned w text) ≡ w
 unfolding aligned
@@ -110,14 +110,14 @@ module _ (n w k : ℕ) (t : List ℕ) (wide : 1 ≤ w) (small : n < 10 ^ w) (fit
       (ap (λ (i : ℕ). replicate i 32 ++ decimal n) d)
 
 pub bits_put : {at m r : ℕ} {s s₁ s₂ : List ℕ} (n : ℕ) → Put at 4 (replicate 4 32) s m s₁ →
-    (r ≡ m + 17) × (s₂ ≡ written m (32 ∷ hexIn 16 n) s₁) → at + 21 ≤ length s →
-    Put at 21 (aligned 21 (hexIn 16 n)) s r s₂
+    (r ≡ m + 17) × (s₂ ≡ written m (32 ∷ hex_in 16 n) s₁) → at + 21 ≤ length s →
+    Put at 21 (aligned 21 (hex_in 16 n)) s r s₂
 unfolding aligned
 bits_put {at} {m} {r} {s} {s₁} {s₂} n p e room =
-    let q : Put m 17 (32 ∷ hexIn 16 n) s₁ r s₂ =
+    let q : Put m 17 (32 ∷ hex_in 16 n) s₁ r s₂ =
     record { ends = e.0; size = omega (arith, length-hex 16 n); puts = e.1 }
     in
-    same-put 21 r (aligned 21 (hexIn 16 n)) (join p q (omega arith)) refl refl (rw (length-hex 16 n))
+    same-put 21 r (aligned 21 (hex_in 16 n)) (join p q (omega arith)) refl refl (rw (length-hex 16 n))
 
 -- numbers one by one
 
@@ -139,16 +139,16 @@ part-fits w i n h = rw (← mul-suc w i) (mul-le-mul_left w (omega arith))
 
 columns-more : (w : ℕ) (ns : List ℕ) (i : ℕ) → i < length ns →
     columns w (take (i + 1) ns) ≡ columns w (take i ns) ++ aligned w (decimal (get_or ns i 0))
-unfolding columns endToEnd
+unfolding columns end_to_end
 columns-more w ns i h =
     let f : ℕ → List ℕ = λ n. aligned w (decimal n) in
     let last = get_or ns i 0 in
-    let joined = endToEnd-append (map f (take i ns)) (f last ∷ []) in
+    let joined = end_to_end-append (map f (take i ns)) (f last ∷ []) in
     rw (add-one i, take-suc ns i 0 h, map-append f (take i ns) (last ∷ []), joined)
-    (ap (λ (x : List ℕ). endToEnd (map f (take i ns)) ++ x) (append-nil (f last)))
+    (ap (λ (x : List ℕ). end_to_end (map f (take i ns)) ++ x) (append-nil (f last)))
 
 pub no-columns : (at w : ℕ) (ns s : List ℕ) → Put at (w * 0) (columns w (take 0 ns)) s at s
-unfolding columns endToEnd
+unfolding columns end_to_end
 no-columns at w ns s = same-put (w * 0) at (columns w (take 0 ns)) (put-none at s) (omega arith) refl refl
 
 pub column-more : {at m e : ℕ} {s s₁ s₂ : List ℕ} (w : ℕ) (ns : List ℕ) (i : ℕ) → i < length ns →
@@ -189,24 +189,24 @@ line-put {e = e} mark fields used u h room p q r =
 -- lines one by one
 
 table_more : (f : ℕ → List ℕ) (n from : ℕ) →
-    endToEnd (table (suc n) from f) ≡ endToEnd (table n from f) ++ f (from + n)
-unfolding table endToEnd
+    end_to_end (table (suc n) from f) ≡ end_to_end (table n from f) ++ f (from + n)
+unfolding table end_to_end
 table_more f zero from = rw (add-zero from) (append-nil (f from))
 table_more f (suc n) from =
     let e : suc from + n ≡ from + suc n = omega arith in
     ap (λ (x : List ℕ). f from ++ x) (table_more f n (suc from))
-    ∙ (rw e (sym (append_assoc (f from) (endToEnd (table n (suc from) f)) (f (from + suc n)))))
+    ∙ (rw e (sym (append_assoc (f from) (end_to_end (table n (suc from) f)) (f (from + suc n)))))
 
-pub no_lines : (f : ℕ → List ℕ) (at : ℕ) (s : List ℕ) → Put at (101 * 0) (linesTo 0 f) s at s
-unfolding linesTo table endToEnd
+pub no_lines : (f : ℕ → List ℕ) (at : ℕ) (s : List ℕ) → Put at (101 * 0) (lines_to 0 f) s at s
+unfolding lines_to table end_to_end
 no_lines f at s = put-none at s
 
 pub line-more : {at m e : ℕ} {s s₁ s₂ : List ℕ} (f : ℕ → List ℕ) (j : ℕ) → at + 101 * j ≤ length s →
-    Put at (101 * j) (linesTo j f) s m s₁ → Put m 101 (f j) s₁ e s₂ →
-    Put at (101 * (j + 1)) (linesTo (j + 1) f) s e s₂
-unfolding linesTo
+    Put at (101 * j) (lines_to j f) s m s₁ → Put m 101 (f j) s₁ e s₂ →
+    Put at (101 * (j + 1)) (lines_to (j + 1) f) s e s₂
+unfolding lines_to
 line-more {e = e} f j room p q =
-    let d : endToEnd (table j 0 f) ++ f j ≡ endToEnd (table (j + 1) 0 f) =
+    let d : end_to_end (table j 0 f) ++ f j ≡ end_to_end (table (j + 1) 0 f) =
     rw (add-one j) (sym (rw (zero-add j) at (table_more f j 0)))
     in
-    same-put (101 * (j + 1)) e (linesTo (j + 1) f) (join p q room) (omega arith) refl d
+    same-put (101 * (j + 1)) e (lines_to (j + 1) f) (join p q room) (omega arith) refl d

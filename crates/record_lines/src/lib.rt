@@ -3,9 +3,9 @@
 ghost use Rattle.std.specs.Prelude.{◌≡◌, ◌∷◌, [], ◌+◌, ◌-◌, ◌*◌, ◌^◌, ◌≤◌, ◌<◌, length, replicate};
 ghost use Rattle.rules.specs.Bytes.{word32, All};
 ghost use Rattle.rules.specs.Reading.{unit_at, scene_at};
-ghost use Rattle.rules.specs.Digits.{decimal, hexIn};
-ghost use Rattle.record_lines.specs.Put.{Put, Fits, linesTo};
-ghost use Rattle.rules.specs.Sheet.{aligned, columns, ending, headerLine, unitLine, sceneLine, blankLine};
+ghost use Rattle.rules.specs.Digits.{decimal, hex_in};
+ghost use Rattle.record_lines.specs.Put.{Put, Fits, lines_to};
+ghost use Rattle.rules.specs.Sheet.{aligned, columns, ending, header_line, unit_line, scene_line, blank_line};
 
 use rules::{Header, SceneRow, UnitRow};
 
@@ -61,7 +61,7 @@ fn put_numbers(buffer: &mut [u8], at: usize, width: usize, numbers: &[u64]) -> u
 // A number's 16 hexadecimal digits, right-aligned in 21 columns.
 fn put_bits(buffer: &mut [u8], at: usize, n: u64) -> usize
     requires { at + 21 ≤ length buffer.old }
-    ensures { Put at 21 (aligned 21 (hexIn 16 n)) buffer.old result buffer.new }
+    ensures { Put at 21 (aligned 21 (hex_in 16 n)) buffer.old result buffer.new }
 {
     let start = put_spaces(buffer, at, 4);
     record_text::put_hex(buffer, start, n)
@@ -79,7 +79,7 @@ fn end_line(buffer: &mut [u8], at: usize, used: usize) -> usize
 // Line 1: W, H, N and the index bits.
 pub fn header_line(buffer: &mut [u8], at: usize, h: Header) -> usize
     requires { at + 101 ≤ length buffer.old }
-    ensures { Put at 101 (headerLine h) buffer.old result buffer.new }
+    ensures { Put at 101 (header_line h) buffer.old result buffer.new }
 {
     let figures = [h.width as u64, h.height as u64, h.pictures as u64];
     let first = put_byte(buffer, at, b' ');
@@ -91,7 +91,7 @@ pub fn header_line(buffer: &mut [u8], at: usize, h: Header) -> usize
 // The line of unit row j, with its damaged cells where the record's edition knows damage.
 fn unit_line(buffer: &mut [u8], at: usize, known: bool, j: u32, u: UnitRow) -> usize
     requires { at + 101 ≤ length buffer.old }
-    ensures { Put at 101 (unitLine known j u) buffer.old result buffer.new }
+    ensures { Put at 101 (unit_line known j u) buffer.old result buffer.new }
 {
     let number = [j as u64];
     let times = [u.least, u.greatest];
@@ -111,7 +111,7 @@ fn unit_line(buffer: &mut [u8], at: usize, known: bool, j: u32, u: UnitRow) -> u
 // The line of scene row j.
 fn scene_line(buffer: &mut [u8], at: usize, j: u32, s: SceneRow) -> usize
     requires { at + 101 ≤ length buffer.old }
-    ensures { Put at 101 (sceneLine j s) buffer.old result buffer.new }
+    ensures { Put at 101 (scene_line j s) buffer.old result buffer.new }
 {
     let figures = [
         j as u64,
@@ -132,7 +132,7 @@ fn scene_line(buffer: &mut [u8], at: usize, j: u32, s: SceneRow) -> usize
 pub fn put_units(buffer: &mut [u8], at: usize, bytes: &[u8], units: usize, known: bool) -> usize
     requires units_bound { (units ≤ 750) × (64 + 32 * units ≤ length bytes.now) }
     requires units_in_bounds { at + 101 * units ≤ length buffer.old }
-    ensures { Put at (101 * units) (linesTo units (λ j. unitLine known j (unit_at bytes.now j)))
+    ensures { Put at (101 * units) (lines_to units (λ j. unit_line known j (unit_at bytes.now j)))
         buffer.old result buffer.new }
 {
     let mut end = at;
@@ -150,7 +150,7 @@ pub fn put_scenes(buffer: &mut [u8], at: usize, bytes: &[u8], units: usize, scen
     requires units_value { (units ≡ word32 bytes.now 8) × (scenes ≤ 250) }
     requires scenes_in_bounds { 64 + 32 * (units + scenes) ≤ length bytes.now }
     requires scenes_in_bounds_2 { at + 101 * scenes ≤ length buffer.old }
-    ensures { Put at (101 * scenes) (linesTo scenes (λ j. sceneLine j (scene_at bytes.now j)))
+    ensures { Put at (101 * scenes) (lines_to scenes (λ j. scene_line j (scene_at bytes.now j)))
         buffer.old result buffer.new }
 {
     let mut end = at;
@@ -166,7 +166,7 @@ pub fn put_scenes(buffer: &mut [u8], at: usize, bytes: &[u8], units: usize, scen
 // So many blank lines.
 pub fn put_blanks(buffer: &mut [u8], at: usize, n: usize) -> usize
     requires { at + 101 * n ≤ length buffer.old }
-    ensures { Put at (101 * n) (linesTo n (λ j. blankLine)) buffer.old result buffer.new }
+    ensures { Put at (101 * n) (lines_to n (λ j. blank_line)) buffer.old result buffer.new }
 {
     let mut end = at;
     let mut j = 0;

@@ -14,38 +14,38 @@ use Rattle.rules.specs.declared.HeaderAnswer.TheVariants as of-header
 use Rattle.rules.specs.declared.UnitAnswer.TheVariants as of-unit
 use Rattle.rules.specs.declared.SceneAnswer.TheVariants as of-scene
 use Rattle.rules.specs.Bytes.{word32}
-use Rattle.rules.specs.Refusals.{Fault, none, fault, unless, ◌orElse◌}
-use Rattle.rules.specs.Record.{recordLength}
-use Rattle.rules.specs.Editions.{isEdition}
-use Rattle.rules.specs.Reading.{headerOf, unit_at, scene_at, allowed, readingFault, rowFault, unitFault, sceneFault}
-use Rattle.rules.specs.Reading.{headerAnswer, unitAnswer, sceneAnswer}
+use Rattle.rules.specs.Refusals.{Fault, none, fault, unless, ◌or_else◌}
+use Rattle.rules.specs.Record.{record_length}
+use Rattle.rules.specs.Editions.{is_edition}
+use Rattle.rules.specs.Reading.{header_of, unit_at, scene_at, allowed, reading_fault, row_fault, unit_fault, scene_fault}
+use Rattle.rules.specs.Reading.{header_answer, unit_answer, scene_answer}
 use Rattle.record_laws.proofs.Allowed.{record-allowed}
 use Rattle.record_reader.specs.declared.Opened.{Opened}
 use Rattle.record_reader.specs.declared.Opened.TheVariants.{Accepted, Refused}
-use Rattle.record_reader.specs.Opened.{orOpened, openedAs}
+use Rattle.record_reader.specs.Opened.{or_opened, opened_as}
 
 -- ---- opening, test by test
 
-pub edition-is : {b : Bool} {w x : ℕ} → b ≡ isEdition w → w ≡ x → b ≡ isEdition x
+pub edition-is : {b : Bool} {w x : ℕ} → b ≡ is_edition w → w ≡ x → b ≡ is_edition x
 edition-is e f = rw (← f) e
 
 module _ (r : List ℕ) where
-  pub opened-short : length r < 64 → Refused 16 0 ≡ openedAs r
-  unfolding openedAs readingFault
+  pub opened-short : length r < 64 → Refused 16 0 ≡ opened_as r
+  unfolding opened_as reading_fault
   opened-short h = rw (lt-leb 64 (length r) h)
 
-  module _ (h : 64 ≤ length r) (w : Bool) (is-w : w ≡ isEdition (word32 r 0)) where
-    pub opened-edition : w ≡ false → Refused 17 0 ≡ openedAs r
-    unfolding openedAs readingFault
+  module _ (h : 64 ≤ length r) (w : Bool) (is-w : w ≡ is_edition (word32 r 0)) where
+    pub opened-edition : w ≡ false → Refused 17 0 ≡ opened_as r
+    unfolding opened_as reading_fault
     opened-edition k = rw (le-leb 64 (length r) h, ← is-w, k)
 
     module _ (k : w ≡ true) (b : Bool) (is_b : b ≡ allowed r) where
-      pub opened-wrong : b ≡ false → Refused 18 0 ≡ openedAs r
-      unfolding openedAs readingFault
+      pub opened-wrong : b ≡ false → Refused 18 0 ≡ opened_as r
+      unfolding opened_as reading_fault
       opened-wrong f = rw (le-leb 64 (length r) h, ← is-w, k, ← is_b, f)
 
-      pub opened-right : (u s : ℕ) → u ≡ word32 r 8 → s ≡ word32 r 16 → b ≡ true → Accepted u s ≡ openedAs r
-      unfolding openedAs readingFault
+      pub opened-right : (u s : ℕ) → u ≡ word32 r 8 → s ≡ word32 r 16 → b ≡ true → Accepted u s ≡ opened_as r
+      unfolding opened_as reading_fault
       opened-right u s is-u is-s f = rw (le-leb 64 (length r) h, ← is-w, k, ← is_b, f, is-u, is-s)
 
 -- ---- what an answer shows
@@ -54,35 +54,35 @@ module _ (r : List ℕ) where
 pub record AcceptedAs (r : List ℕ) (u s : ℕ) : Type 0 where
   pub units : u ≡ word32 r 8
   pub scenes : s ≡ word32 r 16
-  pub fault : readingFault r ≡ none
+  pub fault : reading_fault r ≡ none
   pub allowed : allowed r ≡ true
   pub size : length r ≡ 64 + 32 * (u + s)
-  pub unitsMore : 1 ≤ u
-  pub unitsLess : u ≤ 750
-  pub scenesLess : s ≤ 250
+  pub units_more : 1 ≤ u
+  pub units_less : u ≤ 750
+  pub scenes_less : s ≤ 250
 
-no-fault : (a b c : Bool) → (unless a 16 or_else unless b 17 or_else unless c 18) ≡ none → c ≡ true
-no-fault false b c e = absurd (let z : ◌≡◌ {A = ℕ} 0 1 = cc in omega arith)
-no-fault true false c e = absurd (let z : ◌≡◌ {A = ℕ} 0 1 = cc in omega arith)
-no-fault true true true e = refl
-no-fault true true false e = absurd (let z : ◌≡◌ {A = ℕ} 0 1 = cc in omega arith)
+no_fault : (a b c : Bool) → (unless a 16 or_else unless b 17 or_else unless c 18) ≡ none → c ≡ true
+no_fault false b c e = absurd (let z : ◌≡◌ {A = ℕ} 0 1 = cc in omega arith)
+no_fault true false c e = absurd (let z : ◌≡◌ {A = ℕ} 0 1 = cc in omega arith)
+no_fault true true true e = refl
+no_fault true true false e = absurd (let z : ◌≡◌ {A = ℕ} 0 1 = cc in omega arith)
 
-pub fault-allowed : (r : List ℕ) → readingFault r ≡ none → allowed r ≡ true
-unfolding readingFault
-fault-allowed r e = no-fault (leb 64 (length r)) (isEdition (word32 r 0)) (allowed r) e
+pub fault-allowed : (r : List ℕ) → reading_fault r ≡ none → allowed r ≡ true
+unfolding reading_fault
+fault-allowed r e = no_fault (leb 64 (length r)) (is_edition (word32 r 0)) (allowed r) e
 
-fault-none : (f : Fault) (a b u s : ℕ) → orOpened f a b ≡ Accepted u s → (f ≡ none) × (u ≡ a) × (s ≡ b)
+fault-none : (f : Fault) (a b u s : ℕ) → or_opened f a b ≡ Accepted u s → (f ≡ none) × (u ≡ a) × (s ≡ b)
 fault-none none a b u s e = (refl, (cc), (cc))
 fault-none (fault k p) a b u s e = absurd (let z : ◌≡◌ {A = ℕ} 0 1 = cc in omega arith)
 
-fault-some : (f : Fault) (a b k p : ℕ) → orOpened f a b ≡ Refused k p → f ≡ fault k p
+fault-some : (f : Fault) (a b k p : ℕ) → or_opened f a b ≡ Refused k p → f ≡ fault k p
 fault-some none a b k p e = absurd (let z : ◌≡◌ {A = ℕ} 0 1 = cc in omega arith)
 fault-some (fault i j) a b k p e = cc
 
-pub accepted-as : (r : List ℕ) (u s : ℕ) → openedAs r ≡ Accepted u s → AcceptedAs r u s
-unfolding openedAs recordLength
+pub accepted-as : (r : List ℕ) (u s : ℕ) → opened_as r ≡ Accepted u s → AcceptedAs r u s
+unfolding opened_as record_length
 accepted-as r u s e =
-    let f = fault-none (readingFault r) (word32 r 8) (word32 r 16) u s e in
+    let f = fault-none (reading_fault r) (word32 r 8) (word32 r 16) u s e in
     let g = fault-allowed r f.0 in
     let h = (record-allowed r g).header in
     let n : length r ≡ 64 + 32 * (word32 r 8 + word32 r 16) = sym h.length ∙ h.whole in
@@ -92,54 +92,54 @@ accepted-as r u s e =
       fault = f.0;
       allowed = g;
       size = omega (arith, f.1, f.2, n);
-      unitsMore = omega (arith, f.1, h.unitsMore);
-      unitsLess = omega (arith, f.1, h.unitsLess);
-      scenesLess = omega (arith, f.2, h.scenesLess);
+      units_more = omega (arith, f.1, h.units_more);
+      units_less = omega (arith, f.1, h.units_less);
+      scenes_less = omega (arith, f.2, h.scenes_less);
     }
 
 -- of an answer o of opening
-module _ (r : List ℕ) (o : Opened) (e : o ≡ openedAs r) where
+module _ (r : List ℕ) (o : Opened) (e : o ≡ opened_as r) where
   pub accepted : (u s : ℕ) → o ≡ Accepted u s → AcceptedAs r u s
   accepted u s a = accepted-as r u s (sym e ∙ a)
 
-  pub refused : (k p : ℕ) → o ≡ Refused k p → readingFault r ≡ fault k p
-  unfolding openedAs
-  refused k p a = fault-some (readingFault r) (word32 r 8) (word32 r 16) k p (sym e ∙ a)
+  pub refused : (k p : ℕ) → o ≡ Refused k p → reading_fault r ≡ fault k p
+  unfolding opened_as
+  refused k p a = fault-some (reading_fault r) (word32 r 8) (word32 r 16) k p (sym e ∙ a)
 
 -- ---- the answers of reading
 
-pub header-given : (r : List ℕ) (h : Header) → readingFault r ≡ none → h ≡ headerOf r →
-    of-header.Given h ≡ headerAnswer r
-unfolding headerAnswer
+pub header-given : (r : List ℕ) (h : Header) → reading_fault r ≡ none → h ≡ header_of r →
+    of-header.Given h ≡ header_answer r
+unfolding header_answer
 header-given r h e g = rw (e, g)
 
-pub header_refused : (r : List ℕ) (k p : ℕ) → readingFault r ≡ fault k p → of-header.Refused k p ≡ headerAnswer r
-unfolding headerAnswer
+pub header_refused : (r : List ℕ) (k p : ℕ) → reading_fault r ≡ fault k p → of-header.Refused k p ≡ header_answer r
+unfolding header_answer
 header_refused r k p e = rw e
 
 module _ (r : List ℕ) (j : ℕ) where
   pub unit-given : (u s : ℕ) (x : UnitRow) → AcceptedAs r u s → j < u → x ≡ unit_at r j →
-      of-unit.Given x ≡ unitAnswer r j
-  unfolding unitAnswer unitFault rowFault
+      of-unit.Given x ≡ unit_answer r j
+  unfolding unit_answer unit_fault row_fault
   unit-given u s x a h g = rw (a.fault, lt-ltb j (word32 r 8) (omega (arith, a.units)), g)
 
-  pub unit-missing : (u s : ℕ) → AcceptedAs r u s → u ≤ j → of-unit.Refused 19 0 ≡ unitAnswer r j
-  unfolding unitAnswer unitFault rowFault
+  pub unit-missing : (u s : ℕ) → AcceptedAs r u s → u ≤ j → of-unit.Refused 19 0 ≡ unit_answer r j
+  unfolding unit_answer unit_fault row_fault
   unit-missing u s a h = rw (a.fault, le-ltb j (word32 r 8) (omega (arith, a.units)))
 
-  pub unit-refused : (k p : ℕ) → readingFault r ≡ fault k p → of-unit.Refused k p ≡ unitAnswer r j
-  unfolding unitAnswer unitFault
+  pub unit-refused : (k p : ℕ) → reading_fault r ≡ fault k p → of-unit.Refused k p ≡ unit_answer r j
+  unfolding unit_answer unit_fault
   unit-refused k p e = rw e
 
   pub scene-given : (u s : ℕ) (x : SceneRow) → AcceptedAs r u s → j < s → x ≡ scene_at r j →
-      of-scene.Given x ≡ sceneAnswer r j
-  unfolding sceneAnswer sceneFault rowFault
+      of-scene.Given x ≡ scene_answer r j
+  unfolding scene_answer scene_fault row_fault
   scene-given u s x a h g = rw (a.fault, lt-ltb j (word32 r 16) (omega (arith, a.scenes)), g)
 
-  pub scene-missing : (u s : ℕ) → AcceptedAs r u s → s ≤ j → of-scene.Refused 19 0 ≡ sceneAnswer r j
-  unfolding sceneAnswer sceneFault rowFault
+  pub scene-missing : (u s : ℕ) → AcceptedAs r u s → s ≤ j → of-scene.Refused 19 0 ≡ scene_answer r j
+  unfolding scene_answer scene_fault row_fault
   scene-missing u s a h = rw (a.fault, le-ltb j (word32 r 16) (omega (arith, a.scenes)))
 
-  pub scene-refused : (k p : ℕ) → readingFault r ≡ fault k p → of-scene.Refused k p ≡ sceneAnswer r j
-  unfolding sceneAnswer sceneFault
+  pub scene-refused : (k p : ℕ) → reading_fault r ≡ fault k p → of-scene.Refused k p ≡ scene_answer r j
+  unfolding scene_answer scene_fault
   scene-refused k p e = rw e

@@ -1,10 +1,10 @@
 // Reading a record: opening it where the rules allow it (`record_allowed`), its header's figures and its rows.
 ghost use Rattle.std.specs.Prelude.{◌≡◌, ◌+◌, ◌*◌, ◌≤◌, ◌<◌, length};
 ghost use Rattle.rules.specs.Bytes.{word32 as rule32};
-ghost use Rattle.rules.specs.Record.{sceneOffset};
-ghost use Rattle.rules.specs.Reading.{headerOf, unitPlace, unit_at, scene_at, headerAnswer, unitAnswer, sceneAnswer};
-ghost use Rattle.rules.specs.Reading.{unitIn, sceneIn};
-ghost use Rattle.record_reader.specs.Opened.{openedAs};
+ghost use Rattle.rules.specs.Record.{scene_offset};
+ghost use Rattle.rules.specs.Reading.{header_of, unit_place, unit_at, scene_at, header_answer, unit_answer, scene_answer};
+ghost use Rattle.rules.specs.Reading.{unit_in, scene_in};
+ghost use Rattle.record_reader.specs.Opened.{opened_as};
 
 use figures::is_edition;
 use rules::{Header, HeaderAnswer, SceneAnswer, SceneRow, UnitAnswer, UnitRow};
@@ -18,7 +18,7 @@ pub enum Opened {
 
 // Opens a record: accepted exactly if the rules allow it, otherwise 16, 17 or 18, tried in this order.
 pub fn open(bytes: &[u8]) -> Opened
-    ensures { result ≡ openedAs bytes.now }
+    ensures { result ≡ opened_as bytes.now }
 {
     if bytes.len() < 64 {
         return Opened::Refused {
@@ -49,7 +49,7 @@ pub fn open(bytes: &[u8]) -> Opened
 // The header's figures, of a record that was accepted.
 pub fn header_figures(bytes: &[u8]) -> Header
     requires { 64 ≤ length bytes.now }
-    ensures { result ≡ headerOf bytes.now }
+    ensures { result ≡ header_of bytes.now }
 {
     Header {
         edition: words::word32(bytes, 0),
@@ -70,7 +70,7 @@ pub fn header_figures(bytes: &[u8]) -> Header
 // The unit row at a string's front.
 fn unit_in(row: &[u8]) -> UnitRow
     requires { 32 ≤ length row.now }
-    ensures { result ≡ unitIn row.now }
+    ensures { result ≡ unit_in row.now }
 {
     UnitRow {
         least: words::word64(row, 0),
@@ -85,7 +85,7 @@ fn unit_in(row: &[u8]) -> UnitRow
 // The scene row at a string's front.
 fn scene_in(row: &[u8]) -> SceneRow
     requires { 32 ≤ length row.now }
-    ensures { result ≡ sceneIn row.now }
+    ensures { result ≡ scene_in row.now }
 {
     SceneRow {
         first: words::word32(row, 0),
@@ -100,7 +100,7 @@ fn scene_in(row: &[u8]) -> SceneRow
 
 // Unit row j, of a record that was accepted and has it.
 pub fn unit_row(bytes: &[u8], j: usize) -> UnitRow
-    requires { unitPlace j + 32 ≤ length bytes.now }
+    requires { unit_place j + 32 ≤ length bytes.now }
     ensures { result ≡ unit_at bytes.now j }
 {
     let at = 64 + 32 * j;
@@ -109,7 +109,7 @@ pub fn unit_row(bytes: &[u8], j: usize) -> UnitRow
 
 // Scene row j, of a record that was accepted, has so many units and has the row.
 pub fn scene_row(bytes: &[u8], units: usize, j: usize) -> SceneRow
-    requires { (units ≡ rule32 bytes.now 8) × (sceneOffset units + 32 * j + 32 ≤ length bytes.now) }
+    requires { (units ≡ rule32 bytes.now 8) × (scene_offset units + 32 * j + 32 ≤ length bytes.now) }
     ensures { result ≡ scene_at bytes.now j }
 {
     let at = 64 + 32 * units + 32 * j;
@@ -118,7 +118,7 @@ pub fn scene_row(bytes: &[u8], units: usize, j: usize) -> SceneRow
 
 // The header's figures, or the refusal.
 pub fn header(bytes: &[u8]) -> HeaderAnswer
-    ensures { result ≡ headerAnswer bytes.now }
+    ensures { result ≡ header_answer bytes.now }
 {
     match open(bytes) {
         Opened::Accepted {
@@ -134,7 +134,7 @@ pub fn header(bytes: &[u8]) -> HeaderAnswer
 
 // Unit row j, or the refusal: 19 where the record has no such row.
 pub fn unit(bytes: &[u8], j: usize) -> UnitAnswer
-    ensures { result ≡ unitAnswer bytes.now j }
+    ensures { result ≡ unit_answer bytes.now j }
 {
     match open(bytes) {
         Opened::Accepted { units, scenes: _ } => {
@@ -156,7 +156,7 @@ pub fn unit(bytes: &[u8], j: usize) -> UnitAnswer
 
 // Scene row j, or the refusal.
 pub fn scene(bytes: &[u8], j: usize) -> SceneAnswer
-    ensures { result ≡ sceneAnswer bytes.now j }
+    ensures { result ≡ scene_answer bytes.now j }
 {
     match open(bytes) {
         Opened::Accepted { units, scenes } => {

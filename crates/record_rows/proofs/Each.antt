@@ -10,10 +10,10 @@ use lib.Dec.{ltb}
 use borrow.Author.Tests.{lt-ltb}
 use Rattle.rules.specs.declared.Answer.TheVariants.{Done}
 use Rattle.rules.specs.Bytes.{pick, word32, table}
-use Rattle.rules.specs.Refusals.{Fault, none, fault, ◌orElse◌, answer}
-use Rattle.rules.specs.Reading.{readingFault, rowFault, unitFault, sceneFault, unitAnswer, sceneAnswer}
-use Rattle.rules.specs.Seal.{noRoom}
-use Rattle.record_rows.specs.Rows.{unitRow, sceneRow, rowsOver, rowsAnswer, RowsRead, EachUnit, EachScene}
+use Rattle.rules.specs.Refusals.{Fault, none, fault, ◌or_else◌, answer}
+use Rattle.rules.specs.Reading.{reading_fault, row_fault, unit_fault, scene_fault, unit_answer, scene_answer}
+use Rattle.rules.specs.Seal.{no_room}
+use Rattle.record_rows.specs.Rows.{unit_row, scene_row, rows_over, rows_answer, RowsRead, EachUnit, EachScene}
 
 -- row j of rows that are laid over others
 laid : (row : ℕ → List ℕ) (n from j : ℕ) (rest : List (List ℕ)) → j < n →
@@ -26,8 +26,8 @@ laid row (suc n) from (suc j) rest h =
     rw same (laid row n (suc from) j rest (omega arith))
 
 -- a call that is done refused nothing, and its answer is the number of rows
-done : (f : Fault) (lent n m : ℕ) → Done m ≡ answer (f or_else noRoom lent n) n → (f ≡ none) × (m ≡ n)
-unfolding noRoom
+done : (f : Fault) (lent n m : ℕ) → Done m ≡ answer (f or_else no_room lent n) n → (f ≡ none) × (m ≡ n)
+unfolding no_room
 done none lent n m e = room (ltb lent n) e
   where
     room : (b : Bool) → Done m ≡ answer (pick b (fault 15 n) none) n → (none ≡ none) × (m ≡ n)
@@ -37,23 +37,23 @@ done (fault k p) lent n m e = absurd (let z : ◌≡◌ {A = ℕ} 0 1 = cc in om
 
 module _ (r : List ℕ) (n : ℕ) (row : ℕ → List ℕ) (before after : List (List ℕ)) (m : ℕ)
     (given : RowsRead r n row before (Done m) after) where
-  pub read : (readingFault r ≡ none) × (m ≡ n)
-  unfolding rowsAnswer
-  read = done (readingFault r) (length before) n m given.answered
+  pub read : (reading_fault r ≡ none) × (m ≡ n)
+  unfolding rows_answer
+  read = done (reading_fault r) (length before) n m given.answered
 
   pub each : (j : ℕ) → j < m → get_or after j [] ≡ row j
   each j h =
-      let new : after ≡ rowsOver n row before = rw (← given.answered) at given.given in
+      let new : after ≡ rows_over n row before = rw (← given.answered) at given.given in
       rw new (laid row n 0 j (drop n before) (omega (arith, read.1)) ∙ ap row (zero-add j))
 
 pub each-unit : EachUnit
-unfolding unitAnswer unitFault rowFault
+unfolding unit_answer unit_fault row_fault
 each-unit r before n after given j h =
-    let known = read r (word32 r 8) (unitRow r) before after n given in
-    (rw (known.0, lt-ltb j (word32 r 8) (omega (arith, known.1))), each r _ (unitRow r) before after n given j h)
+    let known = read r (word32 r 8) (unit_row r) before after n given in
+    (rw (known.0, lt-ltb j (word32 r 8) (omega (arith, known.1))), each r _ (unit_row r) before after n given j h)
 
 pub each-scene : EachScene
-unfolding sceneAnswer sceneFault rowFault
+unfolding scene_answer scene_fault row_fault
 each-scene r before n after given j h =
-    let known = read r (word32 r 16) (sceneRow r) before after n given in
-    (rw (known.0, lt-ltb j (word32 r 16) (omega (arith, known.1))), each r _ (sceneRow r) before after n given j h)
+    let known = read r (word32 r 16) (scene_row r) before after n given in
+    (rw (known.0, lt-ltb j (word32 r 16) (omega (arith, known.1))), each r _ (scene_row r) before after n given j h)

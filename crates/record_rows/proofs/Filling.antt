@@ -10,9 +10,9 @@ use borrow.Author.Tests.{lt-ltb, le-ltb}
 use Rattle.rules.specs.declared.Answer.TheVariants.{Done, Refused}
 use Rattle.rules.specs.Bytes.{table}
 use Rattle.rules.specs.Refusals.{none, fault}
-use Rattle.rules.specs.Reading.{readingFault}
-use Rattle.rules.specs.Seal.{noRoom}
-use Rattle.record_rows.specs.Rows.{rowsOver, rowsAnswer, RowsRead}
+use Rattle.rules.specs.Reading.{reading_fault}
+use Rattle.rules.specs.Seal.{no_room}
+use Rattle.record_rows.specs.Rows.{rows_over, rows_answer, RowsRead}
 
 module _ (row : ℕ → List ℕ) where
   next : (j from : ℕ) (ys : List (List ℕ)) → j < length ys →
@@ -26,7 +26,7 @@ module _ (row : ℕ → List ℕ) where
 
   -- of n rows the first j are laid over ys, which then are zs: a loop's invariant
   abbrev pub Laid : ℕ → List (List ℕ) → List (List ℕ) → ℕ → Type 0
-  Laid n ys zs j = (j ≤ n) × (length zs ≡ length ys) × (zs ≡ rowsOver j row ys)
+  Laid n ys zs j = (j ≤ n) × (length zs ≡ length ys) × (zs ≡ rows_over j row ys)
 
   module _ (n : ℕ) (ys : List (List ℕ)) where
     pub none-laid : Laid n ys ys 0
@@ -39,25 +39,25 @@ module _ (row : ℕ → List ℕ) where
         let here : x ≡ row (0 + j) = rw (zero-add j) e in
         (omega arith, simp length-set (omega arith), rw (at.2, here, add-one) (next j 0 ys (omega arith)))
 
-    pub all_laid : (zs : List (List ℕ)) (j : ℕ) → Laid n ys zs j → n ≤ j → zs ≡ rowsOver n row ys
+    pub all_laid : (zs : List (List ℕ)) (j : ℕ) → Laid n ys zs j → n ≤ j → zs ≡ rows_over n row ys
     all_laid zs j at h = let end : j ≡ n = omega arith in rw end at at.2
 
 -- ---- the answers
 
 module _ (r : List ℕ) (n : ℕ) (row : ℕ → List ℕ) (ys : List (List ℕ)) where
-  pub refused : (k p : ℕ) → readingFault r ≡ fault k p → RowsRead r n row ys (Refused k p) ys
-  unfolding rowsAnswer
+  pub refused : (k p : ℕ) → reading_fault r ≡ fault k p → RowsRead r n row ys (Refused k p) ys
+  unfolding rows_answer
   refused k p e = record { answered = rw e; given = rw e }
 
-  module _ (accepted : readingFault r ≡ none) (m : ℕ) (said : m ≡ n) where
+  module _ (accepted : reading_fault r ≡ none) (m : ℕ) (said : m ≡ n) where
     pub short : length ys < m → RowsRead r n row ys (Refused 15 m) ys
-    unfolding rowsAnswer noRoom
+    unfolding rows_answer no_room
     short h =
         let less = lt-ltb (length ys) n (omega arith) in
         record { answered = rw (accepted, less, said); given = rw (accepted, less) }
 
-    pub done : m ≤ length ys → (zs : List (List ℕ)) → zs ≡ rowsOver m row ys → RowsRead r n row ys (Done m) zs
-    unfolding rowsAnswer noRoom
+    pub done : m ≤ length ys → (zs : List (List ℕ)) → zs ≡ rows_over m row ys → RowsRead r n row ys (Done m) zs
+    unfolding rows_answer no_room
     done h zs e =
         let room = le-ltb (length ys) n (omega arith) in
         record { answered = rw (accepted, room, said); given = rw (accepted, room, ← said) e }

@@ -2,7 +2,7 @@
 // rows that the caller lends. A lent row is the row's figures, each a number of 64 bits.
 ghost use Rattle.std.specs.Prelude.{◌≡◌, ◌+◌, ◌*◌, ◌≤◌, length};
 ghost use Rattle.rules.specs.Bytes.{word32 as rule32};
-ghost use Rattle.record_rows.specs.Rows.{unitFigures, sceneFigures, unitRow, sceneRow, rowsOver};
+ghost use Rattle.record_rows.specs.Rows.{unit_figures, scene_figures, unit_row, scene_row, rows_over};
 ghost use Rattle.record_rows.specs.Rows.{UnitsRead, ScenesRead};
 
 use record_reader::Opened;
@@ -18,7 +18,7 @@ const NO_ROOM: u64 = 15;
 
 // A unit row's figures, in document 01's order.
 pub fn unit_figures(u: UnitRow) -> [u64; UNIT_FIGURES]
-    ensures { result ≡ unitFigures u }
+    ensures { result ≡ unit_figures u }
 {
     [
         u.least,
@@ -32,7 +32,7 @@ pub fn unit_figures(u: UnitRow) -> [u64; UNIT_FIGURES]
 
 // A scene row's figures, in document 01's order.
 pub fn scene_figures(s: SceneRow) -> [u64; SCENE_FIGURES]
-    ensures { result ≡ sceneFigures s }
+    ensures { result ≡ scene_figures s }
 {
     [
         s.first as u64,
@@ -48,7 +48,7 @@ pub fn scene_figures(s: SceneRow) -> [u64; SCENE_FIGURES]
 // The unit rows of a record that was accepted and has so many, over the first of the lent rows.
 fn put_units(bytes: &[u8], units: usize, rows: &mut [[u64; UNIT_FIGURES]])
     requires { (64 + 32 * units ≤ length bytes.now) × (units ≤ length rows.old) }
-    ensures { rows.new ≡ rowsOver units (unitRow bytes.now) rows.old }
+    ensures { rows.new ≡ rows_over units (unit_row bytes.now) rows.old }
 {
     let mut j = 0;
     while j < units {
@@ -61,7 +61,7 @@ fn put_units(bytes: &[u8], units: usize, rows: &mut [[u64; UNIT_FIGURES]])
 fn put_scenes(bytes: &[u8], units: usize, scenes: usize, rows: &mut [[u64; SCENE_FIGURES]])
     requires { (units ≡ rule32 bytes.now 8) × (64 + 32 * (units + scenes) ≤ length bytes.now) ×
         (scenes ≤ length rows.old) }
-    ensures { rows.new ≡ rowsOver scenes (sceneRow bytes.now) rows.old }
+    ensures { rows.new ≡ rows_over scenes (scene_row bytes.now) rows.old }
 {
     let mut j = 0;
     while j < scenes {

@@ -11,10 +11,10 @@ use borrow.Author.Tests.{ltb-true, ltb-false}
 use Rattle.rules.specs.declared.Header.{Header}
 use Rattle.rules.specs.declared.UnitRow.{UnitRow}
 use Rattle.rules.specs.declared.SceneRow.{SceneRow}
-use Rattle.rules.specs.Bytes.{pick, byte, endToEnd, All, empty, and}
-use Rattle.rules.specs.Digits.{decimalIn, decimal, hexDigit, hexIn}
-use Rattle.rules.specs.Sheet.{aligned, columns, headerFields, unitFields, sceneFields, ending, line}
-use Rattle.rules.specs.Sheet.{headerLine, unitLine, sceneLine}
+use Rattle.rules.specs.Bytes.{pick, byte, end_to_end, All, empty, and}
+use Rattle.rules.specs.Digits.{decimal_in, decimal, hex_digit, hex_in}
+use Rattle.rules.specs.Sheet.{aligned, columns, header_fields, unit_fields, scene_fields, ending, line}
+use Rattle.rules.specs.Sheet.{header_line, unit_line, scene_line}
 use Rattle.record_laws.proofs.Record.{UnitFits, SceneFits}
 use Rattle.record_lines.specs.Put.{Fits}
 use Rattle.record_sheet.proofs.Theorems.{fits, header-columns, unit-columns, scene-columns}
@@ -42,23 +42,23 @@ worth : ℕ → ℕ
 worth c = c % 16 + 9 * (c / 64)
 
 -- the number that characters say, behind the number a
-valueFrom : ℕ → ℕ → List ℕ → ℕ
-valueFrom b a [] = a
-valueFrom b a (c ∷ cs) = valueFrom b (b * a + worth c) cs
+value_from : ℕ → ℕ → List ℕ → ℕ
+value_from b a [] = a
+value_from b a (c ∷ cs) = value_from b (b * a + worth c) cs
 
-value-append : (b a : ℕ) (xs ys : List ℕ) → valueFrom b a (xs ++ ys) ≡ valueFrom b (valueFrom b a xs) ys
-unfolding valueFrom
+value-append : (b a : ℕ) (xs ys : List ℕ) → value_from b a (xs ++ ys) ≡ value_from b (value_from b a xs) ys
+unfolding value_from
 value-append b a [] ys = refl
 value-append b a (x ∷ xs) ys = value-append b (b * a + worth x) xs ys
 
-value-spaces : (b k : ℕ) (t : List ℕ) → valueFrom b 0 (replicate k 32 ++ t) ≡ valueFrom b 0 t
-unfolding valueFrom worth
+value-spaces : (b k : ℕ) (t : List ℕ) → value_from b 0 (replicate k 32 ++ t) ≡ value_from b 0 t
+unfolding value_from worth
 value-spaces b zero t = refl
 value-spaces b (suc k) t =
     let e : b * 0 + worth 32 ≡ 0 = omega arith in
-    ap (λ (a : ℕ). valueFrom b a (replicate k 32 ++ t)) e ∙ value-spaces b k t
+    ap (λ (a : ℕ). value_from b a (replicate k 32 ++ t)) e ∙ value-spaces b k t
 
-value-aligned : (b w : ℕ) (t : List ℕ) → valueFrom b 0 (aligned w t) ≡ valueFrom b 0 t
+value-aligned : (b w : ℕ) (t : List ℕ) → value_from b 0 (aligned w t) ≡ value_from b 0 t
 unfolding aligned
 value-aligned b w t = value-spaces b (w - length t) t
 
@@ -66,18 +66,18 @@ value-aligned b w t = value-spaces b (w - length t) t
 less : (b k n : ℕ) → 1 ≤ b → n < b ^ suc k → n / b < b ^ k
 less b k n a h = (div-lt_iff_lt-mul {k = b} {x = n} {y = b ^ k} a).1 (omega (arith, pow-suc b k))
 
-value-decimal : (k n : ℕ) → n < 10 ^ k → valueFrom 10 0 (decimalIn k n) ≡ n
-unfolding decimalIn valueFrom worth
+value-decimal : (k n : ℕ) → n < 10 ^ k → value_from 10 0 (decimal_in k n) ≡ n
+unfolding decimal_in value_from worth
 value-decimal zero n h = omega arith
 value-decimal (suc k) n h =
     go (ltb n 10) refl (value-decimal k (n / 10) (less 10 k n (omega arith) h))
   where
-    go : (b : Bool) → ltb n 10 ≡ b → valueFrom 10 0 (decimalIn k (n / 10)) ≡ n / 10 →
-        valueFrom 10 0 (pick b ((48 + n) ∷ []) (decimalIn k (n / 10) ++ ((48 + n % 10) ∷ []))) ≡ n
+    go : (b : Bool) → ltb n 10 ≡ b → value_from 10 0 (decimal_in k (n / 10)) ≡ n / 10 →
+        value_from 10 0 (pick b ((48 + n) ∷ []) (decimal_in k (n / 10) ++ ((48 + n % 10) ∷ []))) ≡ n
     go true t e = omega (arith, ltb-true n 10 t)
-    go false t e = rw (value-append 10 0 (decimalIn k (n / 10)) ((48 + n % 10) ∷ []), e) (omega arith)
+    go false t e = rw (value-append 10 0 (decimal_in k (n / 10)) ((48 + n % 10) ∷ []), e) (omega arith)
 
-digit-worth : (d : ℕ) → d < 16 → worth (hexDigit d) ≡ d
+digit-worth : (d : ℕ) → d < 16 → worth (hex_digit d) ≡ d
 unfolding worth
 digit-worth d h = go (ltb d 10) refl
   where
@@ -85,13 +85,13 @@ digit-worth d h = go (ltb d 10) refl
     go true e = omega (arith, ltb-true d 10 e)
     go false e = omega (arith, ltb-false d 10 e)
 
-value-hex : (k n : ℕ) → n < 16 ^ k → valueFrom 16 0 (hexIn k n) ≡ n
-unfolding hexIn valueFrom
+value-hex : (k n : ℕ) → n < 16 ^ k → value_from 16 0 (hex_in k n) ≡ n
+unfolding hex_in value_from
 value-hex zero n h = omega arith
 value-hex (suc k) n h =
     let front = value-hex k (n / 16) (less 16 k n (omega arith) h) in
     let last = digit-worth (n % 16) (omega arith) in
-    rw (value-append 16 0 (hexIn k (n / 16)) (hexDigit (n % 16) ∷ []), front, last) (omega arith)
+    rw (value-append 16 0 (hex_in k (n / 16)) (hex_digit (n % 16) ∷ []), front, last) (omega arith)
 
 -- ---- figures from fields, whatever stands behind them
 
@@ -101,15 +101,15 @@ unfolding decimal
 same_number w n m x y h a b e =
     let l = fits w n h a.0 ∙ sym (fits w m h b.0) in
     let z = apart (aligned w (decimal n)) (aligned w (decimal m)) x y l e in
-    let v : (k : ℕ) → k < 2 ^ 64 → valueFrom 10 0 (aligned w (decimal k)) ≡ k =
+    let v : (k : ℕ) → k < 2 ^ 64 → value_from 10 0 (aligned w (decimal k)) ≡ k =
     λ k l. value-aligned 10 w (decimal k) ∙ value-decimal 20 k (omega arith)
     in
-    (sym (v n a.1) ∙ (ap (valueFrom 10 0) z.0 ∙ v m b.1), z.1)
+    (sym (v n a.1) ∙ (ap (value_from 10 0) z.0 ∙ v m b.1), z.1)
 
 same-columns : (w : ℕ) {ns ms : List ℕ} (x y : List ℕ) → 1 ≤ w → All (Fits w) ns → All (Fits w) ms →
     length ns ≡ length ms →
     columns w ns ++ x ≡ columns w ms ++ y → (ns ≡ ms) × (x ≡ y)
-unfolding columns endToEnd
+unfolding columns end_to_end
 same-columns w x y h empty empty l e = (refl, e)
 same-columns w x y h empty (and q qs) l e = absurd (omega arith)
 same-columns w x y h (and p ps) empty l e = absurd (omega arith)
@@ -123,12 +123,12 @@ same-columns w x y h (and {x = n} {xs = ns} p ps) (and {x = m} {xs = ms} q qs) l
     (rw (z.0, t.0), t.1)
 
 -- the index bits
-same_bits : (n m : ℕ) → n < 2 ^ 64 → m < 2 ^ 64 → aligned 21 (hexIn 16 n) ≡ aligned 21 (hexIn 16 m) → n ≡ m
+same_bits : (n m : ℕ) → n < 2 ^ 64 → m < 2 ^ 64 → aligned 21 (hex_in 16 n) ≡ aligned 21 (hex_in 16 m) → n ≡ m
 same_bits n m a b e =
-    let v : (k : ℕ) → k < 16 ^ 16 → valueFrom 16 0 (aligned 21 (hexIn 16 k)) ≡ k =
-    λ k l. value-aligned 16 21 (hexIn 16 k) ∙ value-hex 16 k l
+    let v : (k : ℕ) → k < 16 ^ 16 → value_from 16 0 (aligned 21 (hex_in 16 k)) ≡ k =
+    λ k l. value-aligned 16 21 (hex_in 16 k) ∙ value-hex 16 k l
     in
-    sym (v n (omega arith)) ∙ (ap (valueFrom 16 0) e ∙ v m (omega arith))
+    sym (v n (omega arith)) ∙ (ap (value_from 16 0) e ∙ v m (omega arith))
 
 -- ---- rows from lines
 
@@ -150,8 +150,8 @@ module _ (known : Bool) (j : ℕ) (u v : UnitRow) (f : UnitFits u) (g : UnitFits
       (same-columns 11 [] [] (omega arith) (unit-damaged u f) (unit-damaged v g) refl w).0
   last-told false k e = let z = zeros k in z.0 ∙ sym z.1
 
-  unit-told : unitFields known j u ≡ unitFields known j v → u ≡ v
-  unfolding unitFields
+  unit-told : unit_fields known j u ≡ unit_fields known j v → u ≡ v
+  unfolding unit_fields
   unit-told e =
       let number = columns 11 (j ∷ []) in
       let t : UnitRow → List ℕ = λ x. columns 21 (x.least ∷ x.greatest ∷ []) in
@@ -179,17 +179,17 @@ module _ (known : Bool) (j : ℕ) (u v : UnitRow) (f : UnitFits u) (g : UnitFits
       ∙ (ap (λ (cs : List ℕ). row (v.least ∷ v.greatest ∷ []) cs u.damaged) z.0
       ∙ ap (row (v.least ∷ v.greatest ∷ []) (v.size ∷ v.packets ∷ v.lost ∷ [])) last)
 
-  pub same-unit : j < 2 ^ 32 → unitLine known j u ≡ unitLine known j v → u ≡ v
-  unfolding unitLine
+  pub same-unit : j < 2 ^ 32 → unit_line known j u ≡ unit_line known j v → u ≡ v
+  unfolding unit_line
   same-unit h e =
       let l = unit-columns known j u h f ∙ sym (unit-columns known j v h g) in
-      unit-told (same-fields 85 (unitFields known j u) (unitFields known j v) l e)
+      unit-told (same-fields 85 (unit_fields known j u) (unit_fields known j v) l e)
 
 module _ (j : ℕ) (s t : SceneRow) (h : j < 2 ^ 32) (f : SceneFits s) (g : SceneFits t) where
-  scene-told : sceneFields j s ≡ sceneFields j t → s ≡ t
-  unfolding sceneFields
+  scene-told : scene_fields j s ≡ scene_fields j t → s ≡ t
+  unfolding scene_fields
   scene-told e =
-      let w : sceneFields j s ++ [] ≡ sceneFields j t ++ [] = ap (λ (x : List ℕ). x ++ []) e in
+      let w : scene_fields j s ++ [] ≡ scene_fields j t ++ [] = ap (λ (x : List ℕ). x ++ []) e in
       let z = same-columns 11 [] [] (omega arith) (scene-counts j s h f) (scene-counts j t h g) refl w in
       let row : List ℕ → SceneRow =
       λ ns. record {
@@ -204,11 +204,11 @@ module _ (j : ℕ) (s t : SceneRow) (h : j < 2 ^ 32) (f : SceneFits s) (g : Scen
       in
       ap row z.0
 
-  pub same-scene : sceneLine j s ≡ sceneLine j t → s ≡ t
-  unfolding sceneLine
+  pub same-scene : scene_line j s ≡ scene_line j t → s ≡ t
+  unfolding scene_line
   same-scene e =
       let l = scene-columns j s h f ∙ sym (scene-columns j t h g) in
-      scene-told (same-fields 83 (sceneFields j s) (sceneFields j t) l e)
+      scene-told (same-fields 83 (scene_fields j s) (scene_fields j t) l e)
 
 -- W, H, N and the index bits
 pub record SameFirst (h k : Header) : Type 0 where
@@ -218,16 +218,16 @@ pub record SameFirst (h k : Header) : Type 0 where
   pub index : h.index ≡ k.index
 
 module _ (h k : Header) (f : FirstFits h) (g : FirstFits k) where
-  first-told : headerFields h ≡ headerFields k → SameFirst h k
-  unfolding headerFields
+  first-told : header_fields h ≡ header_fields k → SameFirst h k
+  unfolding header_fields
   first-told e =
-      let b : Header → List ℕ = λ x. aligned 21 (hexIn 16 x.index) in
+      let b : Header → List ℕ = λ x. aligned 21 (hex_in 16 x.index) in
       let z = same-columns 11 (b h) (b k) (omega arith) (first-counts h f) (first-counts k g) refl e in
       let i = same_bits h.index k.index f.index g.index z.1 in
       record { width = cc z.0; height = cc z.0; pictures = cc z.0; index = i }
 
-  pub same_first : headerLine h ≡ headerLine k → SameFirst h k
-  unfolding headerLine
+  pub same_first : header_line h ≡ header_line k → SameFirst h k
+  unfolding header_line
   same_first e =
       let l = header-columns h f ∙ sym (header-columns k g) in
-      first-told (same-fields 32 (headerFields h) (headerFields k) l e)
+      first-told (same-fields 32 (header_fields h) (header_fields k) l e)

@@ -12,15 +12,15 @@ use Rattle.rules.specs.declared.Answer.TheVariants.{Done, Refused}
 use Rattle.rules.specs.declared.Header.{Header}
 use Rattle.rules.specs.declared.UnitRow.{UnitRow}
 use Rattle.rules.specs.declared.SceneRow.{SceneRow}
-use Rattle.rules.specs.Bytes.{pick, word32, table, endToEnd, All, empty, and}
-use Rattle.rules.specs.Editions.{knowsDamage}
+use Rattle.rules.specs.Bytes.{pick, word32, table, end_to_end, All, empty, and}
+use Rattle.rules.specs.Editions.{knows_damage}
 use Rattle.rules.specs.Refusals.{none}
-use Rattle.rules.specs.Reading.{headerOf, unit_at, scene_at, readingFault}
-use Rattle.rules.specs.Seal.{over, ifDone}
-use Rattle.rules.specs.Digits.{decimal, hexIn}
-use Rattle.rules.specs.Sheet.{aligned, columns, headerFields, unitFields, sceneFields, ending, line}
-use Rattle.rules.specs.Sheet.{headerLine, unitLine, sceneLine, blankLine, recordLines, lineCount, pagesFor, blanksFor}
-use Rattle.rules.specs.Sheet.{sheetLines, sheetOf, sheetLength, sheetAnswer, sheetBuffer}
+use Rattle.rules.specs.Reading.{header_of, unit_at, scene_at, reading_fault}
+use Rattle.rules.specs.Seal.{over, if_done}
+use Rattle.rules.specs.Digits.{decimal, hex_in}
+use Rattle.rules.specs.Sheet.{aligned, columns, header_fields, unit_fields, scene_fields, ending, line}
+use Rattle.rules.specs.Sheet.{header_line, unit_line, scene_line, blank_line, record_lines, line_count, pages_for, blanks_for}
+use Rattle.rules.specs.Sheet.{sheet_lines, sheet_of, sheet_length, sheet_answer, sheet_buffer}
 use Rattle.rules.proofs.Laws.Lists.{length-table}
 use Rattle.record_laws.proofs.Allowed.{record-allowed, unit-fits, scene-fits}
 use Rattle.record_laws.proofs.Record.{UnitFits, SceneFits}
@@ -53,11 +53,11 @@ figure-fits n h = fits 11 n (omega arith) (omega arith)
 pub time-fits : (n : ℕ) → n < 2 ^ 64 → length (aligned 21 (decimal n)) ≡ 21
 time-fits n h = fits 21 n (omega arith) (omega arith)
 
-pub bits_fit : (n : ℕ) → length (aligned 21 (hexIn 16 n)) ≡ 21
-bits_fit n = length-aligned 21 (hexIn 16 n) (omega (arith, length-hex 16 n))
+pub bits_fit : (n : ℕ) → length (aligned 21 (hex_in 16 n)) ≡ 21
+bits_fit n = length-aligned 21 (hex_in 16 n) (omega (arith, length-hex 16 n))
 
 pub length-columns : (w : ℕ) {ns : List ℕ} → 1 ≤ w → All (Fits w) ns → length (columns w ns) ≡ w * length ns
-unfolding columns endToEnd
+unfolding columns end_to_end
 length-columns w a empty = omega arith
 length-columns w a (and {x} {xs} p ps) =
     length-append (aligned w (decimal x)) (columns w xs)
@@ -88,10 +88,10 @@ scene-counts j s h f =
     figure j h (figure s.first f.first (figure s.pictures f.pictures more))
 
 -- the columns of a line's fields
-pub header-columns : (h : Header) → FirstFits h → length (headerFields h) ≡ 54
-unfolding headerFields
+pub header-columns : (h : Header) → FirstFits h → length (header_fields h) ≡ 54
+unfolding header_fields
 header-columns h f =
-    length-append (columns 11 (h.width ∷ h.height ∷ h.pictures ∷ [])) (aligned 21 (hexIn 16 h.index))
+    length-append (columns 11 (h.width ∷ h.height ∷ h.pictures ∷ [])) (aligned 21 (hex_in 16 h.index))
     ∙ omega (arith, bits_fit h.index, length-columns 11 (omega arith) (first-counts h f))
 
 pub unit-damaged : (u : UnitRow) → UnitFits u → All (Fits 11) (u.damaged ∷ [])
@@ -99,8 +99,8 @@ unit-damaged u f = figure u.damaged f.damaged empty
 
 -- 86, and 11 more where damage is known
 pub unit-columns : (known : Bool) (j : ℕ) (u : UnitRow) → j < 2 ^ 32 → UnitFits u →
-    length (unitFields known j u) ≡ 86 + pick known 11 0
-unfolding unitFields
+    length (unit_fields known j u) ≡ 86 + pick known 11 0
+unfolding unit_fields
 unit-columns known j u h f =
     let number = columns 11 (j ∷ []) in
     let times = columns 21 (u.least ∷ u.greatest ∷ []) in
@@ -117,8 +117,8 @@ unit-columns known j u h f =
     go true = length-columns 11 (omega arith) (unit-damaged u f)
     go false = refl
 
-pub scene-columns : (j : ℕ) (s : SceneRow) → j < 2 ^ 32 → SceneFits s → length (sceneFields j s) ≡ 88
-unfolding sceneFields
+pub scene-columns : (j : ℕ) (s : SceneRow) → j < 2 ^ 32 → SceneFits s → length (scene_fields j s) ≡ 88
+unfolding scene_fields
 scene-columns j s h f = length-columns 11 (omega arith) (scene-counts j s h f)
 
 -- ---- lines
@@ -137,8 +137,8 @@ length-line mark fields h =
     length-append ((mark ∷ []) ++ fields) (ending (length ((mark ∷ []) ++ fields)))
     ∙ omega (arith, length-ending (length ((mark ∷ []) ++ fields)) (omega arith))
 
-blank-length : Long blankLine
-unfolding blankLine
+blank-length : Long blank_line
+unfolding blank_line
 blank-length = length-ending 0 (omega arith)
 
 -- each of a list, of a table, of a repetition
@@ -156,10 +156,10 @@ module _ {P : List ℕ → Type 0} where
   all_same zero x p = empty
   all_same (suc n) x p = and p (all_same n x p)
 
-length-lines : {ls : List (List ℕ)} → All Long ls → length (endToEnd ls) ≡ 101 * length ls
-unfolding endToEnd
+length-lines : {ls : List (List ℕ)} → All Long ls → length (end_to_end ls) ≡ 101 * length ls
+unfolding end_to_end
 length-lines empty = refl
-length-lines (and {x} {xs} p ps) = length-append x (endToEnd xs) ∙ omega (arith, p, length-lines ps)
+length-lines (and {x} {xs} p ps) = length-append x (end_to_end xs) ∙ omega (arith, p, length-lines ps)
 
 -- ---- of a record that is a string of bytes
 
@@ -168,20 +168,20 @@ unfolding over
 past x b n e = drop_at x (drop (length x) b) n e ∙ ap (λ (k : ℕ). drop k b) e
 
 -- every page has 60 lines
-pub whole-pages : (r : List ℕ) → length (sheetLines r) ≡ 60 * pagesFor (lineCount r)
-unfolding sheetLines recordLines lineCount pagesFor blanksFor
+pub whole-pages : (r : List ℕ) → length (sheet_lines r) ≡ 60 * pages_for (line_count r)
+unfolding sheet_lines record_lines line_count pages_for blanks_for
 whole-pages r = simp (length-append, length-replicate, length-table) (omega arith)
 
 module _ (r : List ℕ) (bytes : EachByte r) where
   pub here : (i : ℕ) → word32 r i < 2 ^ 32
   here i = word32-fits r i bytes
 
-  pub first_fits : FirstFits (headerOf r)
-  unfolding headerOf
+  pub first_fits : FirstFits (header_of r)
+  unfolding header_of
   first_fits = record { width = here 24; height = here 28; pictures = here 40; index = word64-fits r 56 bytes }
 
-  unit-long : (known : Bool) (j : ℕ) → j < 2 ^ 32 → Long (unitLine known j (unit_at r j))
-  unfolding unitLine
+  unit-long : (known : Bool) (j : ℕ) → j < 2 ^ 32 → Long (unit_line known j (unit_at r j))
+  unfolding unit_line
   unit-long known j h =
       length-line 85 _ (omega (arith, unit-columns known j (unit_at r j) h (unit-fits r bytes j), small known))
     where
@@ -189,43 +189,43 @@ module _ (r : List ℕ) (bytes : EachByte r) where
       small true = omega arith
       small false = omega arith
 
-  scene-long : (j : ℕ) → j < 2 ^ 32 → Long (sceneLine j (scene_at r j))
-  unfolding sceneLine
+  scene-long : (j : ℕ) → j < 2 ^ 32 → Long (scene_line j (scene_at r j))
+  unfolding scene_line
   scene-long j h = length-line 83 _ (omega (arith, scene-columns j (scene_at r j) h (scene-fits r bytes j)))
 
-  header-long : Long (headerLine (headerOf r))
-  unfolding headerLine
-  header-long = length-line 32 _ (omega (arith, header-columns (headerOf r) first_fits))
+  header-long : Long (header_line (header_of r))
+  unfolding header_line
+  header-long = length-line 32 _ (omega (arith, header-columns (header_of r) first_fits))
 
   -- every line has 101 bytes
-  pub every-line : All Long (sheetLines r)
-  unfolding sheetLines recordLines
+  pub every-line : All Long (sheet_lines r)
+  unfolding sheet_lines record_lines
   every-line =
-      let known = knowsDamage (word32 r 0) in
-      let unit : ℕ → List ℕ = λ j. unitLine known j (unit_at r j) in
-      let scene : ℕ → List ℕ = λ j. sceneLine j (scene_at r j) in
+      let known = knows_damage (word32 r 0) in
+      let unit : ℕ → List ℕ = λ j. unit_line known j (unit_at r j) in
+      let scene : ℕ → List ℕ = λ j. scene_line j (scene_at r j) in
       let units = all-table {P = Long} (word32 r 8) 0 unit (λ j h. unit-long known j (omega (arith, here 8))) in
       let scenes = all-table {P = Long} (word32 r 16) 0 scene (λ j h. scene-long j (omega (arith, here 16))) in
-      let blanks = all_same (blanksFor (lineCount r)) blankLine blank-length in
+      let blanks = all_same (blanks_for (line_count r)) blank_line blank-length in
       all_append (all_append (all_append (and header-long empty) units) scenes) blanks
 
   -- so the sheet has 6,060 bytes a page
-  pub sheet-length : length (sheetOf r) ≡ sheetLength r
-  unfolding sheetOf sheetLength
+  pub sheet-length : length (sheet_of r) ≡ sheet_length r
+  unfolding sheet_of sheet_length
   sheet-length = length-lines every-line ∙ omega (arith, whole-pages r)
 
   -- nothing past the pages is written, whatever the record and the buffer
-  pub past-pages : (b : List ℕ) → drop (sheetLength r) (sheetBuffer r b) ≡ drop (sheetLength r) b
-  unfolding sheetBuffer
-  past-pages b = go (sheetAnswer r (length b))
+  pub past-pages : (b : List ℕ) → drop (sheet_length r) (sheet_buffer r b) ≡ drop (sheet_length r) b
+  unfolding sheet_buffer
+  past-pages b = go (sheet_answer r (length b))
     where
-      go : (a : Answer) → drop (sheetLength r) (ifDone a (over (sheetOf r) b) b) ≡ drop (sheetLength r) b
+      go : (a : Answer) → drop (sheet_length r) (if_done a (over (sheet_of r) b) b) ≡ drop (sheet_length r) b
       go (Refused k p) = refl
-      go (Done m) = past (sheetOf r) b (sheetLength r) sheet-length
+      go (Done m) = past (sheet_of r) b (sheet_length r) sheet-length
 
 -- 17 pages are enough for every record that is not refused
-pub most-pages : (r : List ℕ) → readingFault r ≡ none → sheetLength r ≤ 103020
-unfolding sheetLength lineCount pagesFor
+pub most-pages : (r : List ℕ) → reading_fault r ≡ none → sheet_length r ≤ 103020
+unfolding sheet_length line_count pages_for
 most-pages r e =
     let h = (record-allowed r (fault-allowed r e)).header in
-    omega (arith, h.unitsLess, h.scenesLess)
+    omega (arith, h.units_less, h.scenes_less)

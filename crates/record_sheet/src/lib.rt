@@ -3,7 +3,7 @@
 ghost use Rattle.std.specs.Prelude.{◌≡◌, ◌+◌, ◌-◌, ◌*◌, ◌≤◌, ◌<◌, length};
 ghost use Rattle.rules.specs.Bytes.{word32};
 ghost use Rattle.rules.specs.Seal.{over};
-ghost use Rattle.rules.specs.Sheet.{sheetOf, sheetLength, sheetAnswer, sheetBuffer};
+ghost use Rattle.rules.specs.Sheet.{sheet_of, sheet_length, sheet_answer, sheet_buffer};
 
 use record_reader::Opened;
 use rules::Answer;
@@ -12,8 +12,8 @@ use rules::Answer;
 fn put_sheet(bytes: &[u8], units: usize, scenes: usize, buffer: &mut [u8])
     requires units_value { (units ≡ word32 bytes.now 8) × (scenes ≡ word32 bytes.now 16) }
     requires units_bound { (units ≤ 750) × (scenes ≤ 250) × (64 + 32 * (units + scenes) ≤ length bytes.now) }
-    requires bytes_in_bounds { sheetLength bytes.now ≤ length buffer.old }
-    ensures { buffer.new ≡ over (sheetOf bytes.now) buffer.old }
+    requires bytes_in_bounds { sheet_length bytes.now ≤ length buffer.old }
+    ensures { buffer.new ≡ over (sheet_of bytes.now) buffer.old }
 {
     let lines = 1 + units + scenes;
     let blanks = 60 * ((lines + 59) / 60) - lines;
@@ -27,8 +27,8 @@ fn put_sheet(bytes: &[u8], units: usize, scenes: usize, buffer: &mut [u8])
 
 // The sheet of a record at the buffer's front, and its length: or 16, 17, 18, then 15 with the length needed.
 pub fn sheet(bytes: &[u8], buffer: &mut [u8]) -> Answer
-    ensures value { result ≡ sheetAnswer bytes.now (length buffer.old) }
-    ensures buffer_after { buffer.new ≡ sheetBuffer bytes.now buffer.old }
+    ensures value { result ≡ sheet_answer bytes.now (length buffer.old) }
+    ensures buffer_after { buffer.new ≡ sheet_buffer bytes.now buffer.old }
 {
     match record_reader::open(bytes) {
         Opened::Accepted { units, scenes } => {

@@ -11,13 +11,13 @@ use lib.Seq.{take-suc, take_all, length-take-le}
 use lib.Dec.{ltb}
 use borrow.Author.Tests.{lt-ltb, le-ltb, le-leb, lt-leb, ltb-true, ltb-false}
 use Rattle.io.specs.Digits.{last_digits, hex_digit_ascii, IsDigitCount}
-use Rattle.rules.specs.Bytes.{pick, endToEnd}
-use Rattle.rules.proofs.Laws.Lists.{endToEnd-append, by-test}
+use Rattle.rules.specs.Bytes.{pick, end_to_end}
+use Rattle.rules.proofs.Laws.Lists.{end_to_end-append, by-test}
 use Rattle.words.specs.Written.{written}
 use Rattle.words.proofs.Laws.{written-sets, length-written}
 use Rattle.rules.specs.Seal.{over}
 use Rattle.words.proofs.Behind.{next, over-written, behind}
-use Rattle.rules.specs.Digits.{decimalIn, decimal, hexDigit, hexIn}
+use Rattle.rules.specs.Digits.{decimal_in, decimal, hex_digit, hex_in}
 use Rattle.record_text.specs.Lines.{field, fields}
 use Rattle.record_text.specs.Capital.{capital}
 
@@ -56,8 +56,8 @@ one-le : (k : ℕ) → 1 ≤ 10 ^ k
 one-le k = pow-le-pow_right {n = 10} (omega arith) {i = 0} {j = k} (omega arith)
 
 spelled : (k most n : ℕ) → 1 ≤ k → k ≤ most → n < 10 ^ k → (1 < k → 10 ^ (k - 1) ≤ n) →
-    last_digits 10 k n ≡ decimalIn most n
-unfolding decimalIn
+    last_digits 10 k n ≡ decimal_in most n
+unfolding decimal_in
 spelled zero most n a b c d = absurd (omega arith)
 spelled (suc k) zero n a b c d = absurd (omega arith)
 spelled (suc zero) (suc most) n a b c d =
@@ -95,10 +95,10 @@ sixteen n k h f = go (ltb 16 k) refl
         let up = pow-le-pow_right {n = 16} (omega arith) {i = 16} {j = k - 1} (omega arith) in
         absurd (omega arith)
 
-capital-digit : (d : ℕ) → d < 16 → capital (hex_digit_ascii d) ≡ hexDigit d
+capital-digit : (d : ℕ) → d < 16 → capital (hex_digit_ascii d) ≡ hex_digit d
 capital-digit d h = go (ltb d 10) refl
   where
-    go : (b : Bool) → ltb d 10 ≡ b → capital (hex_digit_ascii d) ≡ hexDigit d
+    go : (b : Bool) → ltb d 10 ≡ b → capital (hex_digit_ascii d) ≡ hex_digit d
     go true e =
         let g = ltb-true d 10 e in
         rw (e, lt-leb 97 (48 + d) (omega arith))
@@ -106,8 +106,8 @@ capital-digit d h = go (ltb d 10) refl
         let g = ltb-false d 10 e in
         rw (e, le-leb 97 (87 + d) (omega arith), le-leb (87 + d) 102 (omega arith)) (omega arith)
 
-pub capitals : (k n : ℕ) → map capital (last_digits 16 k n) ≡ hexIn k n
-unfolding hexIn
+pub capitals : (k n : ℕ) → map capital (last_digits 16 k n) ≡ hex_in k n
+unfolding hex_in
 capitals zero n = refl
 capitals (suc k) n = rw (
   map-append capital (last_digits 16 k (n / 16)) (hex_digit_ascii (n % 16) ∷ []),
@@ -115,21 +115,21 @@ capitals (suc k) n = rw (
   capital-digit (n % 16) (omega arith),
 )
 
-pub length-hex : (k n : ℕ) → length (hexIn k n) ≡ k
-unfolding hexIn
+pub length-hex : (k n : ℕ) → length (hex_in k n) ≡ k
+unfolding hex_in
 length-hex zero n = refl
 length-hex (suc k) n =
-    rw (length-append (hexIn k (n / 16)) (hexDigit (n % 16) ∷ []), length-hex k (n / 16)) (omega arith)
+    rw (length-append (hex_in k (n / 16)) (hex_digit (n % 16) ∷ []), length-hex k (n / 16)) (omega arith)
 
 -- ---- fields
 
-length-decimal : (k n : ℕ) → length (decimalIn k n) ≤ k
-unfolding decimalIn
+length-decimal : (k n : ℕ) → length (decimal_in k n) ≤ k
+unfolding decimal_in
 length-decimal zero n = omega arith
 length-decimal (suc k) n =
     let h = length-decimal k (n / 10) in
-    by-test (λ (b : Bool). length (pick b ((48 + n) ∷ []) (decimalIn k (n / 10) ++ ((48 + n % 10) ∷ []))) ≤ suc k)
-    (ltb n 10) (λ e. omega arith) (λ e. rw (length-append (decimalIn k (n / 10)) ((48 + n % 10) ∷ [])) (omega arith))
+    by-test (λ (b : Bool). length (pick b ((48 + n) ∷ []) (decimal_in k (n / 10) ++ ((48 + n % 10) ∷ []))) ≤ suc k)
+    (ltb n 10) (λ e. omega arith) (λ e. rw (length-append (decimal_in k (n / 10)) ((48 + n % 10) ∷ [])) (omega arith))
 
 pub length-field : (n : ℕ) → length (field n) ≤ 21
 unfolding field decimal
@@ -137,15 +137,15 @@ length-field n = omega (arith, length-decimal 20 n)
 
 field-more : (ns : List ℕ) (i : ℕ) → i < length ns →
     fields (take (i + 1) ns) ≡ fields (take i ns) ++ field (get_or ns i 0)
-unfolding fields endToEnd
+unfolding fields end_to_end
 field-more ns i h =
     rw (
       add-one i,
       take-suc ns i 0 h,
       map-append field (take i ns) (get_or ns i 0 ∷ []),
-      endToEnd-append (map field (take i ns)) (field (get_or ns i 0) ∷ []),
+      end_to_end-append (map field (take i ns)) (field (get_or ns i 0) ∷ []),
     )
-    (ap (λ (x : List ℕ). endToEnd (map field (take i ns)) ++ x) (append-nil (field (get_or ns i 0))))
+    (ap (λ (x : List ℕ). end_to_end (map field (take i ns)) ++ x) (append-nil (field (get_or ns i 0))))
 
 -- ---- a line
 
@@ -191,7 +191,7 @@ module _ (s : List ℕ) (at : ℕ) where
 
   module _ (n k : ℕ) (t : List ℕ) (fits : n < 2 ^ 64) (few-digits : IsDigitCount 16 16 n k) (is : take k t ≡ last_digits 16 k n)
       (room : at + 17 ≤ length s) where
-    hex-digits : map capital (take k t) ≡ hexIn 16 n
+    hex-digits : map capital (take k t) ≡ hex_in 16 n
     hex-digits = rw (is, sixteen n k fits few-digits) (capitals 16 n)
 
     hex-length : length (take k t) ≡ 16
@@ -202,17 +202,17 @@ module _ (s : List ℕ) (at : ℕ) where
 
     pub hex-written : (r : ℕ) (s₂ : List ℕ) →
         (r ≡ at + 1 + length (take k t)) × (s₂ ≡ written (at + 1) (map capital (take k t)) (set s at 32)) →
-        (r ≡ at + 17) × (s₂ ≡ written at (32 ∷ hexIn 16 n) s)
+        (r ≡ at + 17) × (s₂ ≡ written at (32 ∷ hex_in 16 n) s)
     hex-written r s₂ e =
         let e₀ : r ≡ at + 1 + 16 = rw hex-length at e.0 in
-        let e₁ : s₂ ≡ written (at + 1) (hexIn 16 n) (set s at 32) = rw hex-digits at e.1 in
-        (omega arith, next at 1 (32 ∷ []) (hexIn 16 n) s refl (omega arith) (space (omega arith)) e₁)
+        let e₁ : s₂ ≡ written (at + 1) (hex_in 16 n) (set s at 32) = rw hex-digits at e.1 in
+        (omega arith, next at 1 (32 ∷ []) (hex_in 16 n) s refl (omega arith) (space (omega arith)) e₁)
 
 -- ---- fields one by one
 
 pub no_fields : (s ns : List ℕ) (at : ℕ) →
     (at ≡ at + length (fields (take 0 ns))) × (s ≡ written at (fields (take 0 ns)) s)
-unfolding fields endToEnd
+unfolding fields end_to_end
 no_fields s ns at = (omega arith, none_yet s [] at)
 
 module _ (ns s s₁ s₂ : List ℕ) (at i end r : ℕ) (h : i < length ns) (room : end ≤ length s) where

@@ -3,36 +3,36 @@ use Rattle.std.specs.Prelude.{ℕ, List, [], ◌∷◌, ◌++◌, map}
 use Rattle.rules.specs.declared.Header.{Header}
 use Rattle.rules.specs.declared.UnitRow.{UnitRow}
 use Rattle.rules.specs.declared.SceneRow.{SceneRow}
-use Rattle.rules.specs.Bytes.{endToEnd}
-use Rattle.rules.specs.Digits.{decimal, hexIn}
+use Rattle.rules.specs.Bytes.{end_to_end}
+use Rattle.rules.specs.Digits.{decimal, hex_in}
 
 -- a space and a number
 unfoldable pub field : ℕ → List ℕ
 field n = 32 ∷ decimal n
 
 unfoldable pub fields : List ℕ → List ℕ
-fields ns = endToEnd (map field ns)
+fields ns = end_to_end (map field ns)
 
 -- line 1: `sample`, words 24 to 52, the index bits in 16 hexadecimal digits, a line feed
-unfoldable pub sampleLine : Header → List ℕ
-sampleLine h =
+unfoldable pub sample_line : Header → List ℕ
+sample_line h =
     (115 ∷ 97 ∷ 109 ∷ 112 ∷ 108 ∷ 101 ∷ [])
     ++ fields (h.width ∷ h.height ∷ h.time ∷ h.pid ∷ h.pictures ∷ h.frames ∷ h.skipped ∷ h.bad ∷ [])
-    ++ (32 ∷ hexIn 16 h.index)
+    ++ (32 ∷ hex_in 16 h.index)
     ++ (10 ∷ [])
 
 -- `unit`, the row's number and its fields
-unfoldable pub unitLine : ℕ → UnitRow → List ℕ
-unitLine j u = (117 ∷ 110 ∷ 105 ∷ 116 ∷ [])
+unfoldable pub unit_line : ℕ → UnitRow → List ℕ
+unit_line j u = (117 ∷ 110 ∷ 105 ∷ 116 ∷ [])
     ++ fields (j ∷ u.least ∷ u.greatest ∷ u.size ∷ u.packets ∷ u.lost ∷ []) ++ (10 ∷ [])
 
 -- `scene`, the row's number and its fields
-unfoldable pub sceneLine : ℕ → SceneRow → List ℕ
-sceneLine j s =
+unfoldable pub scene_line : ℕ → SceneRow → List ℕ
+scene_line j s =
     (115 ∷ 99 ∷ 101 ∷ 110 ∷ 101 ∷ [])
     ++ fields (j ∷ s.first ∷ s.pictures ∷ s.repeated ∷ s.longest ∷ s.score ∷ s.peak ∷ s.change ∷ [])
     ++ (10 ∷ [])
 
 -- `refused` and the number
-unfoldable pub refusedLine : ℕ → List ℕ
-refusedLine n = (114 ∷ 101 ∷ 102 ∷ 117 ∷ 115 ∷ 101 ∷ 100 ∷ []) ++ field n ++ (10 ∷ [])
+unfoldable pub refused_line : ℕ → List ℕ
+refused_line n = (114 ∷ 101 ∷ 102 ∷ 117 ∷ 115 ∷ 101 ∷ 100 ∷ []) ++ field n ++ (10 ∷ [])

@@ -3,9 +3,9 @@
 ghost use Rattle.std.specs.Prelude.{◌≡◌, ◌∷◌, map, ◌+◌, ◌*◌, ◌≤◌, length};
 ghost use Rattle.rules.specs.Seal.{over};
 ghost use Rattle.words.specs.Written.{written};
-ghost use Rattle.rules.specs.Digits.{hexIn};
-ghost use Rattle.record_text.specs.Lines.{field, fields, sampleLine, unitLine, sceneLine, refusedLine};
-ghost use Rattle.record_text.specs.Capital.{capital as capitalOf};
+ghost use Rattle.rules.specs.Digits.{hex_in};
+ghost use Rattle.record_text.specs.Lines.{field, fields, sample_line, unit_line, scene_line, refused_line};
+ghost use Rattle.record_text.specs.Capital.{capital as capital_of};
 
 use rules::{Header, SceneRow, UnitRow};
 
@@ -25,7 +25,7 @@ pub fn put_text(buffer: &mut [u8], at: usize, text: &[u8]) -> usize
 
 // A digit from a to f as a capital; any other byte as it is.
 fn capital(b: u8) -> u8
-    ensures { result ≡ capitalOf b }
+    ensures { result ≡ capital_of b }
 {
     if b < 97 {
         return b;
@@ -40,7 +40,7 @@ fn capital(b: u8) -> u8
 fn put_capitals(buffer: &mut [u8], at: usize, text: &[u8]) -> usize
     requires { at + length text.now ≤ length buffer.old }
     ensures { (result ≡ at + length text.now)
-        × (buffer.new ≡ written at (map capitalOf text.now) buffer.old) }
+        × (buffer.new ≡ written at (map capital_of text.now) buffer.old) }
 {
     let mut i = 0;
     while i < text.len() {
@@ -82,7 +82,7 @@ pub fn put_fields(buffer: &mut [u8], at: usize, numbers: &[u64]) -> usize
 // A space and 16 hexadecimal digits.
 pub fn put_hex(buffer: &mut [u8], at: usize, n: u64) -> usize
     requires { at + 17 ≤ length buffer.old }
-    ensures { (result ≡ at + 17) × (buffer.new ≡ written at (32 ∷ hexIn 16 n) buffer.old) }
+    ensures { (result ≡ at + 17) × (buffer.new ≡ written at (32 ∷ hex_in 16 n) buffer.old) }
 {
     buffer[at] = 32;
     let mut digits = [0u8; 16];
@@ -93,7 +93,7 @@ pub fn put_hex(buffer: &mut [u8], at: usize, n: u64) -> usize
 // Line 1: the header's figures.
 pub fn sample_line(buffer: &mut [u8], h: Header) -> usize
     requires { 200 ≤ length buffer.old }
-    ensures { (result ≡ length (sampleLine h)) × (buffer.new ≡ over (sampleLine h) buffer.old) }
+    ensures { (result ≡ length (sample_line h)) × (buffer.new ≡ over (sample_line h) buffer.old) }
 {
     let numbers = [
         h.width as u64,
@@ -114,7 +114,7 @@ pub fn sample_line(buffer: &mut [u8], h: Header) -> usize
 // The line of unit row j.
 pub fn unit_line(buffer: &mut [u8], j: u64, u: UnitRow) -> usize
     requires { 200 ≤ length buffer.old }
-    ensures { (result ≡ length (unitLine j u)) × (buffer.new ≡ over (unitLine j u) buffer.old) }
+    ensures { (result ≡ length (unit_line j u)) × (buffer.new ≡ over (unit_line j u) buffer.old) }
 {
     let numbers = [
         j,
@@ -132,8 +132,8 @@ pub fn unit_line(buffer: &mut [u8], j: u64, u: UnitRow) -> usize
 // The line of scene row j.
 pub fn scene_line(buffer: &mut [u8], j: u64, s: SceneRow) -> usize
     requires { 200 ≤ length buffer.old }
-    ensures { (result ≡ length (sceneLine j s))
-        × (buffer.new ≡ over (sceneLine j s) buffer.old) }
+    ensures { (result ≡ length (scene_line j s))
+        × (buffer.new ≡ over (scene_line j s) buffer.old) }
 {
     let numbers = [
         j,
@@ -153,8 +153,8 @@ pub fn scene_line(buffer: &mut [u8], j: u64, s: SceneRow) -> usize
 // The line of a refusal.
 pub fn refused_line(buffer: &mut [u8], number: u64) -> usize
     requires { 200 ≤ length buffer.old }
-    ensures { (result ≡ length (refusedLine number))
-        × (buffer.new ≡ over (refusedLine number) buffer.old) }
+    ensures { (result ≡ length (refused_line number))
+        × (buffer.new ≡ over (refused_line number) buffer.old) }
 {
     let word = put_text(buffer, 0, b"refused");
     let figure = put_field(buffer, word, number);

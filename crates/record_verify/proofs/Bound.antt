@@ -7,7 +7,7 @@ use mathlib.Core.List.{List, [], ◌∷◌}
 use Rattle.rules.specs.declared.UnitRow.{UnitRow}
 use Rattle.rules.specs.Bytes.{word32, total, table, Bytes, empty, and}
 use Rattle.rules.specs.Refusals.{Fault, none, fault}
-use Rattle.rules.specs.Reading.{headerOf, unit_at, readingFault}
+use Rattle.rules.specs.Reading.{header_of, unit_at, reading_fault}
 use Rattle.index.specs.Counts.{ExactCounts, NoNan}
 use Rattle.index.proofs.Bound.{no_nan, at_least_one, at-most-five}
 use Rattle.record_laws.proofs.Words.{EachByte}
@@ -19,9 +19,9 @@ use Rattle.record_verify.specs.declared.Finding.{Finding}
 use Rattle.record_verify.specs.declared.Finding.TheVariants.{Holds, Fails}
 use Rattle.record_verify.specs.declared.Verdict.TheVariants.{CouldBeSealed}
 use Rattle.record_verify.specs.Within.{UnitTotalsOf}
-use Rattle.record_verify.specs.Totals.{repeatedTotal, packetsTotal, lostTotal, damagedTotal, unrepeatedTotal}
-use Rattle.record_verify.specs.Totals.{indexOfRows, reachedOf, OneToFive, RowsOneToFive}
-use Rattle.record_verify.specs.Marks.{checks, firstFailing, judged, orJudged, verdictOf}
+use Rattle.record_verify.specs.Totals.{repeated_total, packets_total, lost_total, damaged_total, unrepeated_total}
+use Rattle.record_verify.specs.Totals.{index_of_rows, reached_of, OneToFive, RowsOneToFive}
+use Rattle.record_verify.specs.Marks.{checks, first_failing, judged, or_judged, verdict_of}
 use Rattle.record_verify.proofs.Accepted.{taken, counts}
 
 each-byte : (s : List ℕ) → Bytes s → EachByte s
@@ -37,42 +37,42 @@ table-most f most h (suc n) from =
     let b = h from in
     rw (mul-suc most n) (omega arith)
 
-module _ (r : List ℕ) (b : EachByte r) (e : readingFault r ≡ none) where
+module _ (r : List ℕ) (b : EachByte r) (e : reading_fault r ≡ none) where
   fits : (j : ℕ) → UnitFits (unit_at r j)
   fits = unit-fits r b
 
   few : (f : UnitRow → ℕ) → ((j : ℕ) → f (unit_at r j) ≤ 4294967295) →
       total (table (word32 r 8) 0 (λ j. f (unit_at r j))) ≤ 4294967295 * 750
   few f most =
-      let units = (taken r _ _ (refl, refl) e).unitsLess in
+      let units = (taken r _ _ (refl, refl) e).units_less in
       let sum = table-most (λ j. f (unit_at r j)) 4294967295 most (word32 r 8) 0 in
       omega arith
 
   totals : UnitTotals
-  totals = record { packets = packetsTotal r; lost = lostTotal r; damaged = damagedTotal r }
+  totals = record { packets = packets_total r; lost = lost_total r; damaged = damaged_total r }
 
   totals-are : UnitTotalsOf r totals
-  unfolding totals packetsTotal lostTotal damagedTotal
+  unfolding totals packets_total lost_total damaged_total
   totals-are =
       record {
         packets = refl;
         lost = refl;
         damaged = refl;
-        few-packets = few (λ (u : UnitRow). u.packets) (λ j. omega (arith, (fits j).packets));
-        few-lost = few (λ (u : UnitRow). u.lost) (λ j. omega (arith, (fits j).lost));
-        few-damaged = few (λ (u : UnitRow). u.damaged) (λ j. omega (arith, (fits j).damaged));
+        few_packets = few (λ (u : UnitRow). u.packets) (λ j. omega (arith, (fits j).packets));
+        few_lost = few (λ (u : UnitRow). u.lost) (λ j. omega (arith, (fits j).lost));
+        few_damaged = few (λ (u : UnitRow). u.damaged) (λ j. omega (arith, (fits j).damaged));
       }
 
-  rows-counts : ExactCounts (unrepeatedTotal r) (word32 r 40) (packetsTotal r) (lostTotal r)
-  unfolding unrepeatedTotal headerOf totals
-  rows-counts = counts r _ _ (refl, refl) e (headerOf r) refl totals totals-are (repeatedTotal r) _ refl
+  rows-counts : ExactCounts (unrepeated_total r) (word32 r 40) (packets_total r) (lost_total r)
+  unfolding unrepeated_total header_of totals
+  rows-counts = counts r _ _ (refl, refl) e (header_of r) refl totals totals-are (repeated_total r) _ refl
 
-  rows-numbers : NoNan (indexOfRows r)
-  unfolding indexOfRows
+  rows-numbers : NoNan (index_of_rows r)
+  unfolding index_of_rows
   rows-numbers = no_nan rows-counts
 
-  bounded : OneToFive (indexOfRows r)
-  unfolding indexOfRows
+  bounded : OneToFive (index_of_rows r)
+  unfolding index_of_rows
   bounded =
       record {
         number = (no_nan rows-counts).value;
@@ -85,13 +85,13 @@ rows-one-to-five r b e = bounded r (each-byte r b) e
 
 -- ---- of a verdict that gives an index, none of the three is a NaN
 
-given : (f : Fault) (g : Finding) (x y : Reached) → orJudged f (judged g y) ≡ CouldBeSealed x → (f ≡ none) × (x ≡ y)
+given : (f : Fault) (g : Finding) (x y : Reached) → or_judged f (judged g y) ≡ CouldBeSealed x → (f ≡ none) × (x ≡ y)
 given none Holds x y e = (refl, (cc))
 given none (Fails mark row found limit) x y e = absurd (let z : ◌≡◌ {A = ℕ} 0 1 = cc in omega arith)
 given (fault k p) g x y e = absurd (let z : ◌≡◌ {A = ℕ} 0 1 = cc in omega arith)
 
-pub could-be-numbers : (r : List ℕ) → EachByte r → (x : Reached) → verdictOf r ≡ CouldBeSealed x → NoNan x.index
-unfolding verdictOf reachedOf
+pub could-be-numbers : (r : List ℕ) → EachByte r → (x : Reached) → verdict_of r ≡ CouldBeSealed x → NoNan x.index
+unfolding verdict_of reached_of
 could-be-numbers r b x e =
-    let g = given (readingFault r) (firstFailing (checks r)) x (reachedOf r) e in
+    let g = given (reading_fault r) (first_failing (checks r)) x (reached_of r) e in
     rw g.1 (rows-numbers r b g.0)

@@ -7,24 +7,24 @@ use lib.Ieee.{Float, binary64, add, mul, div, of_int, to_bits}
 use Rattle.rules.specs.declared.Header.{Header}
 use Rattle.rules.specs.declared.UnitRow.{UnitRow}
 use Rattle.rules.specs.declared.SceneRow.{SceneRow}
-use Rattle.rules.specs.Bytes.{word32, word64, bytes_of, total, table, endToEnd}
-use Rattle.rules.specs.Editions.{isEdition, knowsDamage}
-use Rattle.rules.specs.Opening.{goodSize, goodTime, goodPid}
-use Rattle.rules.specs.Index.{icOf, ipOf, value_of, index_of, indexBits}
-use Rattle.rules.specs.Busiest.{reachingFrom, leastBetween, mostScenes}
-use Rattle.rules.specs.Record.{recordLength, sceneOffset, headerBytes, unitBytes, sceneBytes, recordBytes}
-use Rattle.rules.specs.Reading.{headerOf, unitPlace, scenePlace, unitIn, sceneIn, unit_at, scene_at, readingFault}
-use Rattle.rules.specs.Reading.{allowedHeader, allowedUnit, allowedUnits, allowedScene, allowedScenes}
-use Rattle.rules.specs.Reading.{allowedRows, allowed}
+use Rattle.rules.specs.Bytes.{word32, word64, bytes_of, total, table, end_to_end}
+use Rattle.rules.specs.Editions.{is_edition, knows_damage}
+use Rattle.rules.specs.Opening.{good_size, good_time, good_pid}
+use Rattle.rules.specs.Index.{ic_of, ip_of, value_of, index_of, index_bits}
+use Rattle.rules.specs.Busiest.{reaching_from, least_between, most_scenes}
+use Rattle.rules.specs.Record.{record_length, scene_offset, header_bytes, unit_bytes, scene_bytes, record_bytes}
+use Rattle.rules.specs.Reading.{header_of, unit_place, scene_place, unit_in, scene_in, unit_at, scene_at, reading_fault}
+use Rattle.rules.specs.Reading.{allowed_header, allowed_unit, allowed_units, allowed_scene, allowed_scenes}
+use Rattle.rules.specs.Reading.{allowed_rows, allowed}
 use Rattle.record_verify.specs.declared.Finding.{Finding}
 use Rattle.record_verify.specs.declared.Finding.TheVariants.{Holds, Fails}
 use Rattle.record_verify.specs.declared.Verdict.{Verdict}
 use Rattle.record_verify.specs.declared.Verdict.TheVariants.{CouldBeSealed, CouldNotBeSealed, Refused}
-use Rattle.record_verify.specs.Totals.{repeatedTotal, packetsTotal, lostTotal, damagedTotal, unrepeatedTotal}
-use Rattle.record_verify.specs.Totals.{indexOfRows, reachedOf}
-use Rattle.record_verify.specs.Marks.{Check, inFirst, countedIn, headerChecks, unitChecks, repeatChecks}
-use Rattle.record_verify.specs.Marks.{sumChecks, startChecks, lengthChecks, sceneChecks, unitsChecks}
-use Rattle.record_verify.specs.Marks.{scenesChecks, indexChecks, checks, firstFailing, verdictOf}
+use Rattle.record_verify.specs.Totals.{repeated_total, packets_total, lost_total, damaged_total, unrepeated_total}
+use Rattle.record_verify.specs.Totals.{index_of_rows, reached_of}
+use Rattle.record_verify.specs.Marks.{Check, in_first, counted_in, header_checks, unit_checks, repeat_checks}
+use Rattle.record_verify.specs.Marks.{sum_checks, start_checks, length_checks, scene_checks, units_checks}
+use Rattle.record_verify.specs.Marks.{scenes_checks, index_checks, checks, first_failing, verdict_of}
 
 bits : Float → ℕ
 bits x = to_bits binary64 x
@@ -38,8 +38,8 @@ said (CouldNotBeSealed mark row found limit) = 1 ∷ mark ∷ row ∷ found ∷ 
 said (Refused k p) = 2 ∷ k ∷ p ∷ []
 
 -- units of 1 and 2 packets, each with so many lost
-unitRows : ℕ → ℕ → List UnitRow
-unitRows first second =
+unit_rows : ℕ → ℕ → List UnitRow
+unit_rows first second =
     record { least = 7; greatest = 7; size = 184; packets = 1; lost = first; damaged = 0 }
     ∷ record { least = 8; greatest = 9; size = 368; packets = 2; lost = second; damaged = 0 } ∷ []
 
@@ -51,7 +51,7 @@ scene first n repeated =
 -- so many pictures, shown for 200,000 microseconds, in so many scenes
 sample : ℕ → ℕ → ℕ → List UnitRow → List SceneRow → List ℕ
 sample index pictures scenes us ss =
-    recordBytes
+    record_bytes
     (record {
       edition = 1;
       units = 2;
@@ -70,14 +70,14 @@ sample index pictures scenes us ss =
 
 -- four pictures in one scene
 one : ℕ → ℕ → ℕ → ℕ → List ℕ
-one index repeated first second = sample index 4 1 (unitRows first second) (scene 0 4 repeated ∷ [])
+one index repeated first second = sample index 4 1 (unit_rows first second) (scene 0 4 repeated ∷ [])
 
 pub record Case : Type 0 where
   pub rule : List ℕ
   pub paper : List ℕ
 
 abbrev case : List ℕ → List ℕ → Case
-case r ns = record { rule = said (verdictOf r); paper = ns }
+case r ns = record { rule = said (verdict_of r); paper = ns }
 
 -- by hand: 3.25 = 1 + (4 × 3/4) × 3/4 could be sealed; a last bit more could not; nor could four of four pictures
 -- repeated, a packet lost before the first, 29 lost before two, or a second scene whose greatest s is 0; nor could a
@@ -91,8 +91,8 @@ cases =
     ∷ case (one 0x3FF0000000000000 4 0 1) (1 ∷ 6 ∷ 0 ∷ 4 ∷ 3 ∷ [])
     ∷ case (one 0x400A000000000000 1 1 0) (1 ∷ 4 ∷ 0 ∷ 1 ∷ 0 ∷ [])
     ∷ case (one 0x400A000000000000 1 0 29) (1 ∷ 4 ∷ 1 ∷ 29 ∷ 28 ∷ [])
-    ∷ case (sample 0x400A000000000000 6 2 (unitRows 0 1) (scene 0 3 1 ∷ scene 3 3 1 ∷ [])) (1 ∷ 13 ∷ 1 ∷ 0 ∷ 1001 ∷ [])
-    ∷ case (sample 0x3FF0000000000000 6 2 (unitRows 0 1) (scene 0 2 1 ∷ scene 2 4 4 ∷ []))
+    ∷ case (sample 0x400A000000000000 6 2 (unit_rows 0 1) (scene 0 3 1 ∷ scene 3 3 1 ∷ [])) (1 ∷ 13 ∷ 1 ∷ 0 ∷ 1001 ∷ [])
+    ∷ case (sample 0x3FF0000000000000 6 2 (unit_rows 0 1) (scene 0 2 1 ∷ scene 2 4 4 ∷ []))
     (1 ∷ 15 ∷ 0 ∷ 400000 ∷ 600000 ∷ [])
     ∷ case [] (2 ∷ 16 ∷ 0 ∷ [])
     ∷ case (set (one 0x400A000000000000 1 0 1) 0 5) (2 ∷ 17 ∷ 0 ∷ [])
@@ -101,13 +101,13 @@ cases =
 
 -- the theorem: every entry's rule gives what was written out
 pub answered : map (λ (c : Case). c.rule) cases ≡ map (λ (c : Case). c.paper) cases
-unfolding bits said unitRows scene sample one cases word32 word64 bytes_of total table endToEnd isEdition knowsDamage
-    goodSize goodTime goodPid icOf ipOf value_of index_of indexBits reachingFrom leastBetween mostScenes recordLength
-    sceneOffset headerBytes unitBytes sceneBytes recordBytes headerOf unitPlace scenePlace unitIn sceneIn unit_at
-    scene_at readingFault allowedHeader allowedUnit allowedUnits allowedScene allowedScenes allowedRows allowed
-    repeatedTotal packetsTotal lostTotal damagedTotal unrepeatedTotal indexOfRows reachedOf inFirst countedIn
-    headerChecks unitChecks repeatChecks sumChecks startChecks lengthChecks sceneChecks unitsChecks scenesChecks
-    indexChecks checks firstFailing verdictOf add mul div of_int to_bits
+unfolding bits said unit_rows scene sample one cases word32 word64 bytes_of total table end_to_end is_edition knows_damage
+    good_size good_time good_pid ic_of ip_of value_of index_of index_bits reaching_from least_between most_scenes record_length
+    scene_offset header_bytes unit_bytes scene_bytes record_bytes header_of unit_place scene_place unit_in scene_in unit_at
+    scene_at reading_fault allowed_header allowed_unit allowed_units allowed_scene allowed_scenes allowed_rows allowed
+    repeated_total packets_total lost_total damaged_total unrepeated_total index_of_rows reached_of in_first counted_in
+    header_checks unit_checks repeat_checks sum_checks start_checks length_checks scene_checks units_checks scenes_checks
+    index_checks checks first_failing verdict_of add mul div of_int to_bits
 answered = refl
 
 -- ---- every limit: a header or a row that is at it, and one that is past it
@@ -118,7 +118,7 @@ found Holds = []
 found (Fails mark row has limit) = mark ∷ row ∷ has ∷ limit ∷ []
 
 abbrev asked : List Check → List ℕ → Case
-asked cs ns = record { rule = found (firstFailing cs); paper = ns }
+asked cs ns = record { rule = found (first_failing cs); paper = ns }
 
 -- nine pictures, in so many scenes and shown for so long; a capture's frames, and those that were skipped
 header : ℕ → ℕ → ℕ → ℕ → Header
@@ -155,30 +155,30 @@ moving first score peak change =
 
 -- a record's only scene, the first of two, the second of two; d is 200,000
 only : SceneRow → List Check
-only s = sceneChecks (header 1 200000 3 0) 0 s
+only s = scene_checks (header 1 200000 3 0) 0 s
 
 former : SceneRow → List Check
-former s = sceneChecks (header 2 200000 3 0) 0 s
+former s = scene_checks (header 2 200000 3 0) 0 s
 
 latter : SceneRow → List Check
-latter s = sceneChecks (header 2 200000 3 0) 1 s
+latter s = scene_checks (header 2 200000 3 0) 1 s
 
 -- by hand: 24 + 16 × 16,777,174 + 42 × 2 + 188 × 3 is 268,435,456; 348 × 2 is 696; 1 + (9 − 3) / 3 is 3; 14 × 1 is 14
 -- and 14 × 2 is 28; of four pictures, one repeated, two can have s and q in the first scene and three in a later one
 pub limits : List Case
 limits =
-    asked (headerChecks (header 1 200000 16777174 16777172) 3) []
-    ∷ asked (headerChecks (header 1 200000 16777174 16777172) 4) (1 ∷ 0 ∷ 268435644 ∷ 268435456 ∷ [])
-    ∷ asked (headerChecks (header 1 200000 3 1) 696) []
-    ∷ asked (headerChecks (header 1 200000 3 1) 697) (2 ∷ 0 ∷ 697 ∷ 696 ∷ [])
-    ∷ asked (headerChecks (header 3 200000 3 0) 3) []
-    ∷ asked (headerChecks (header 4 200000 3 0) 3) (3 ∷ 0 ∷ 4 ∷ 3 ∷ [])
-    ∷ asked (unitChecks 0 (unit 9 14)) []
-    ∷ asked (unitChecks 0 (unit 9 15)) (4 ∷ 0 ∷ 15 ∷ 14 ∷ [])
-    ∷ asked (unitChecks 1 (unit 9 28)) []
-    ∷ asked (unitChecks 1 (unit 9 29)) (4 ∷ 1 ∷ 29 ∷ 28 ∷ [])
-    ∷ asked (unitChecks 1 (unit 4294967295999999 0)) []
-    ∷ asked (unitChecks 1 (unit 4294967296000000 0)) (5 ∷ 1 ∷ 4294967296000000 ∷ 4294967295999999 ∷ [])
+    asked (header_checks (header 1 200000 16777174 16777172) 3) []
+    ∷ asked (header_checks (header 1 200000 16777174 16777172) 4) (1 ∷ 0 ∷ 268435644 ∷ 268435456 ∷ [])
+    ∷ asked (header_checks (header 1 200000 3 1) 696) []
+    ∷ asked (header_checks (header 1 200000 3 1) 697) (2 ∷ 0 ∷ 697 ∷ 696 ∷ [])
+    ∷ asked (header_checks (header 3 200000 3 0) 3) []
+    ∷ asked (header_checks (header 4 200000 3 0) 3) (3 ∷ 0 ∷ 4 ∷ 3 ∷ [])
+    ∷ asked (unit_checks 0 (unit 9 14)) []
+    ∷ asked (unit_checks 0 (unit 9 15)) (4 ∷ 0 ∷ 15 ∷ 14 ∷ [])
+    ∷ asked (unit_checks 1 (unit 9 28)) []
+    ∷ asked (unit_checks 1 (unit 9 29)) (4 ∷ 1 ∷ 29 ∷ 28 ∷ [])
+    ∷ asked (unit_checks 1 (unit 4294967295999999 0)) []
+    ∷ asked (unit_checks 1 (unit 4294967296000000 0)) (5 ∷ 1 ∷ 4294967296000000 ∷ 4294967295999999 ∷ [])
     ∷ asked (only (still 4 3 3)) []
     ∷ asked (only (still 4 4 3)) (6 ∷ 0 ∷ 4 ∷ 3 ∷ [])
     ∷ asked (only (still 4 2 2)) []
@@ -203,12 +203,12 @@ limits =
     ∷ asked (latter (moving 7 1001 1001 0)) (14 ∷ 1 ∷ 7 ∷ 6 ∷ [])
     ∷ asked (former (still 3 0 0)) []
     ∷ asked (former (still 2 0 0)) (15 ∷ 0 ∷ 400000 ∷ 600000 ∷ [])
-    ∷ asked (sceneChecks (header 2 599999 3 0) 0 (still 1 0 0)) (15 ∷ 0 ∷ 599999 ∷ 600000 ∷ [])
+    ∷ asked (scene_checks (header 2 599999 3 0) 0 (still 1 0 0)) (15 ∷ 0 ∷ 599999 ∷ 600000 ∷ [])
     ∷ asked (only (still 1 0 0)) []
     ∷ []
 
 -- the theorem, of the limits
 pub limited : map (λ (c : Case). c.rule) limits ≡ map (λ (c : Case). c.paper) limits
-unfolding found header unit still moving only former latter limits reachingFrom leastBetween mostScenes inFirst
-    headerChecks unitChecks repeatChecks sumChecks startChecks lengthChecks sceneChecks firstFailing
+unfolding found header unit still moving only former latter limits reaching_from least_between most_scenes in_first
+    header_checks unit_checks repeat_checks sum_checks start_checks length_checks scene_checks first_failing
 limited = refl

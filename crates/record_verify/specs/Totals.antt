@@ -6,40 +6,40 @@ use Rattle.rules.specs.declared.Index.{Index}
 use Rattle.rules.specs.Bytes.{word32, total, table, Bytes}
 use Rattle.rules.specs.Refusals.{none}
 use Rattle.rules.specs.Index.{float, index_of}
-use Rattle.rules.specs.Reading.{unit_at, scene_at, readingFault}
+use Rattle.rules.specs.Reading.{unit_at, scene_at, reading_fault}
 use Rattle.record_verify.specs.declared.Reached.{Reached}
 
 -- word 8 of every scene row, added up: the repeated pictures
-unfoldable pub repeatedTotal : List ℕ → ℕ
-repeatedTotal r = total (table (word32 r 16) 0 (λ j. (scene_at r j).repeated))
+unfoldable pub repeated_total : List ℕ → ℕ
+repeated_total r = total (table (word32 r 16) 0 (λ j. (scene_at r j).repeated))
 
 -- words 20, 24 and 28 of every unit row, added up: packets (document 01: cells), lost, damaged
-unfoldable pub packetsTotal : List ℕ → ℕ
-packetsTotal r = total (table (word32 r 8) 0 (λ j. (unit_at r j).packets))
+unfoldable pub packets_total : List ℕ → ℕ
+packets_total r = total (table (word32 r 8) 0 (λ j. (unit_at r j).packets))
 
-unfoldable pub lostTotal : List ℕ → ℕ
-lostTotal r = total (table (word32 r 8) 0 (λ j. (unit_at r j).lost))
+unfoldable pub lost_total : List ℕ → ℕ
+lost_total r = total (table (word32 r 8) 0 (λ j. (unit_at r j).lost))
 
-unfoldable pub damagedTotal : List ℕ → ℕ
-damagedTotal r = total (table (word32 r 8) 0 (λ j. (unit_at r j).damaged))
+unfoldable pub damaged_total : List ℕ → ℕ
+damaged_total r = total (table (word32 r 8) 0 (λ j. (unit_at r j).damaged))
 
 -- word 40 is N; where more pictures are repeated than there are, which mark 6 forbids, this is 0
-unfoldable pub unrepeatedTotal : List ℕ → ℕ
-unrepeatedTotal r = word32 r 40 - repeatedTotal r
+unfoldable pub unrepeated_total : List ℕ → ℕ
+unrepeated_total r = word32 r 40 - repeated_total r
 
 -- the rule's index of them
-unfoldable pub indexOfRows : List ℕ → Index
-indexOfRows r = index_of (unrepeatedTotal r) (word32 r 40) (packetsTotal r) (lostTotal r)
+unfoldable pub index_of_rows : List ℕ → Index
+index_of_rows r = index_of (unrepeated_total r) (word32 r 40) (packets_total r) (lost_total r)
 
 -- the four counts, and the index that they reach
-unfoldable pub reachedOf : List ℕ → Reached
-reachedOf r =
+unfoldable pub reached_of : List ℕ → Reached
+reached_of r =
     record {
-      unrepeated = unrepeatedTotal r;
+      unrepeated = unrepeated_total r;
       pictures = word32 r 40;
-      packets = packetsTotal r;
-      lost = lostTotal r;
-      index = indexOfRows r;
+      packets = packets_total r;
+      lost = lost_total r;
+      index = index_of_rows r;
     }
 
 -- ---- what the laws say, of any bytes
@@ -52,4 +52,4 @@ pub record OneToFive (i : Index) : Type 0 where
 
 -- of a record that the reader does not refuse, whoever made it, the index of its rows is such an index
 abbrev pub RowsOneToFive : Type 0
-RowsOneToFive = (r : List ℕ) → Bytes r → readingFault r ≡ none → OneToFive (indexOfRows r)
+RowsOneToFive = (r : List ℕ) → Bytes r → reading_fault r ≡ none → OneToFive (index_of_rows r)

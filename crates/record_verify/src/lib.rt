@@ -3,13 +3,13 @@
 ghost use Rattle.std.specs.Prelude.{◌≡◌, true, [], ◌∷◌, ◌+◌, ◌-◌, ◌*◌, ◌^◌, ◌≤◌, ◌<◌, length};
 ghost use Rattle.rules.specs.Bytes.{word32};
 ghost use Rattle.rules.specs.Refusals.{none};
-ghost use Rattle.rules.specs.Opening.{goodTime};
-ghost use Rattle.rules.specs.Busiest.{mostScenes};
-ghost use Rattle.rules.specs.Reading.{headerOf, readingFault};
-ghost use Rattle.record_verify.specs.Totals.{repeatedTotal, reachedOf};
-ghost use Rattle.record_verify.specs.Marks.{at_most, at_least, exactly, inFirst, headerChecks, unitChecks};
-ghost use Rattle.record_verify.specs.Marks.{repeatChecks, sumChecks, startChecks, lengthChecks, sceneChecks};
-ghost use Rattle.record_verify.specs.Marks.{checks, unitsChecks, scenesChecks, firstFailing, judged, verdictOf};
+ghost use Rattle.rules.specs.Opening.{good_time};
+ghost use Rattle.rules.specs.Busiest.{most_scenes};
+ghost use Rattle.rules.specs.Reading.{header_of, reading_fault};
+ghost use Rattle.record_verify.specs.Totals.{repeated_total, reached_of};
+ghost use Rattle.record_verify.specs.Marks.{at_most, at_least, exactly, in_first, header_checks, unit_checks};
+ghost use Rattle.record_verify.specs.Marks.{repeat_checks, sum_checks, start_checks, length_checks, scene_checks};
+ghost use Rattle.record_verify.specs.Marks.{checks, units_checks, scenes_checks, first_failing, judged, verdict_of};
 ghost use Rattle.record_verify.specs.Within.{first_of, UnitTotalsOf};
 
 use record_reader::Opened;
@@ -101,7 +101,7 @@ fn first_of(a: Finding, b: Finding) -> Finding
 }
 
 fn at_most(mark: u64, row: u64, found: u64, limit: u64) -> Finding
-    ensures { result ≡ firstFailing (at_most mark row found limit ∷ []) }
+    ensures { result ≡ first_failing (at_most mark row found limit ∷ []) }
 {
     if found <= limit {
         return Finding::Holds;
@@ -115,7 +115,7 @@ fn at_most(mark: u64, row: u64, found: u64, limit: u64) -> Finding
 }
 
 fn at_least(mark: u64, row: u64, found: u64, limit: u64) -> Finding
-    ensures { result ≡ firstFailing (at_least mark row found limit ∷ []) }
+    ensures { result ≡ first_failing (at_least mark row found limit ∷ []) }
 {
     if limit <= found {
         return Finding::Holds;
@@ -129,7 +129,7 @@ fn at_least(mark: u64, row: u64, found: u64, limit: u64) -> Finding
 }
 
 fn exactly(mark: u64, row: u64, found: u64, limit: u64) -> Finding
-    ensures { result ≡ firstFailing (exactly mark row found limit ∷ []) }
+    ensures { result ≡ first_failing (exactly mark row found limit ∷ []) }
 {
     if found == limit {
         return Finding::Holds;
@@ -160,7 +160,7 @@ fn product(a: u64, b: u64) -> u64
 }
 
 fn in_first(row: u64) -> u64
-    ensures { result ≡ inFirst row }
+    ensures { result ≡ in_first row }
 {
     if row == 0 {
         return 1;
@@ -172,8 +172,8 @@ fn in_first(row: u64) -> u64
 
 // The greatest number of scenes of pictures whose number and time the reader allows.
 fn most_scenes(time: u32, pictures: u32) -> u64
-    requires { (goodTime time ≡ true) × (1 ≤ pictures) × (pictures ≤ 750) }
-    ensures { result ≡ mostScenes time pictures }
+    requires { (good_time time ≡ true) × (1 ≤ pictures) × (pictures ≤ 750) }
+    ensures { result ≡ most_scenes time pictures }
 {
     match luma_busiest::most_scenes(time, pictures) {
         Answer::Done(most) => most,
@@ -185,8 +185,8 @@ fn most_scenes(time: u32, pictures: u32) -> u64
 }
 
 fn header_marks(h: Header, counted: u64) -> Finding
-    requires { (goodTime h.time ≡ true) × (1 ≤ h.pictures) × (h.pictures ≤ 750) × (counted < 2 ^ 52) }
-    ensures { result ≡ firstFailing (headerChecks h counted) }
+    requires { (good_time h.time ≡ true) × (1 ≤ h.pictures) × (h.pictures ≤ 750) × (counted < 2 ^ 52) }
+    ensures { result ≡ first_failing (header_checks h counted) }
 {
     let frames = h.frames as u64;
     let carrying = saturating_sub(frames, h.skipped as u64);
@@ -199,7 +199,7 @@ fn header_marks(h: Header, counted: u64) -> Finding
 }
 
 fn unit_marks(row: u64, u: UnitRow) -> Finding
-    ensures { result ≡ firstFailing (unitChecks row u) }
+    ensures { result ≡ first_failing (unit_checks row u) }
 {
     let gaps = saturating_sub(u.packets as u64, in_first(row));
     let lost = at_most(4, row, u.lost as u64, GAP_LOST_MOST * gaps);
@@ -208,7 +208,7 @@ fn unit_marks(row: u64, u: UnitRow) -> Finding
 }
 
 fn repeat_marks(row: u64, s: SceneRow) -> Finding
-    ensures { result ≡ firstFailing (repeatChecks row s) }
+    ensures { result ≡ first_failing (repeat_checks row s) }
 {
     let pictures = s.pictures as u64;
     let repeated = s.repeated as u64;
@@ -221,7 +221,7 @@ fn repeat_marks(row: u64, s: SceneRow) -> Finding
 }
 
 fn sum_marks(row: u64, s: SceneRow) -> Finding
-    ensures { result ≡ firstFailing (sumChecks row s) }
+    ensures { result ≡ first_failing (sum_checks row s) }
 {
     let score = s.score as u64;
     let peak = s.peak as u64;
@@ -237,7 +237,7 @@ fn sum_marks(row: u64, s: SceneRow) -> Finding
 }
 
 fn start_marks(h: Header, row: u64, s: SceneRow) -> Finding
-    ensures { result ≡ firstFailing (startChecks h row s) }
+    ensures { result ≡ first_failing (start_checks h row s) }
 {
     if row == 0 {
         return Finding::Holds;
@@ -254,7 +254,7 @@ fn start_marks(h: Header, row: u64, s: SceneRow) -> Finding
 
 fn length_marks(h: Header, row: u64, s: SceneRow) -> Finding
     requires { row < 250 }
-    ensures { result ≡ firstFailing (lengthChecks h row s) }
+    ensures { result ≡ first_failing (length_checks h row s) }
 {
     if h.scenes as u64 <= row + 1 {
         return Finding::Holds;
@@ -269,7 +269,7 @@ fn length_marks(h: Header, row: u64, s: SceneRow) -> Finding
 
 fn scene_marks(h: Header, row: u64, s: SceneRow) -> Finding
     requires { row < 250 }
-    ensures { result ≡ firstFailing (sceneChecks h row s) }
+    ensures { result ≡ first_failing (scene_checks h row s) }
 {
     let repeats = repeat_marks(row, s);
     let sums = sum_marks(row, s);
@@ -283,7 +283,7 @@ fn scene_marks(h: Header, row: u64, s: SceneRow) -> Finding
 // The marks of the unit rows of a record with this number of units.
 fn units_marks(bytes: &[u8], units: usize) -> Finding
     requires { (units ≡ word32 bytes.now 8) × (units ≤ 750) × (64 + 32 * units ≤ length bytes.now) }
-    ensures { result ≡ firstFailing (unitsChecks bytes.now) }
+    ensures { result ≡ first_failing (units_checks bytes.now) }
 {
     let mut j = 0;
     while j < units {
@@ -298,9 +298,9 @@ fn units_marks(bytes: &[u8], units: usize) -> Finding
 
 // The marks of the scene rows of a record with these numbers of units and scenes.
 fn scenes_marks(bytes: &[u8], units: usize, scenes: usize, h: Header) -> Finding
-    requires units_value { (units ≡ word32 bytes.now 8) × (scenes ≡ word32 bytes.now 16) × (h ≡ headerOf bytes.now) }
+    requires units_value { (units ≡ word32 bytes.now 8) × (scenes ≡ word32 bytes.now 16) × (h ≡ header_of bytes.now) }
     requires scenes_bound { (scenes ≤ 250) × (64 + 32 * (units + scenes) ≤ length bytes.now) }
-    ensures { result ≡ firstFailing (scenesChecks bytes.now) }
+    ensures { result ≡ first_failing (scenes_checks bytes.now) }
 {
     let mut j = 0;
     while j < scenes {
@@ -340,7 +340,7 @@ fn unit_totals(bytes: &[u8], units: usize) -> UnitTotals
 fn repeated_total(bytes: &[u8], units: usize, scenes: usize) -> u64
     requires units_value { (units ≡ word32 bytes.now 8) × (scenes ≡ word32 bytes.now 16) }
     requires scenes_bound { (scenes ≤ 250) × (64 + 32 * (units + scenes) ≤ length bytes.now) }
-    ensures { result ≡ repeatedTotal bytes.now }
+    ensures { result ≡ repeated_total bytes.now }
 {
     let mut sum: u64 = 0;
     let mut j = 0;
@@ -376,8 +376,8 @@ fn judge(found: Finding, reached: Reached) -> Verdict
 // The verdict on a record that the reader accepted with these numbers of units and scenes.
 fn verify_rows(bytes: &[u8], units: usize, scenes: usize) -> Verdict
     requires units_value { (units ≡ word32 bytes.now 8) × (scenes ≡ word32 bytes.now 16) }
-    requires bytes_value { readingFault bytes.now ≡ none }
-    ensures { result ≡ judged (firstFailing (checks bytes.now)) (reachedOf bytes.now) }
+    requires bytes_value { reading_fault bytes.now ≡ none }
+    ensures { result ≡ judged (first_failing (checks bytes.now)) (reached_of bytes.now) }
 {
     let h = record_reader::header_figures(bytes);
     let totals = unit_totals(bytes, units);
@@ -402,7 +402,7 @@ fn verify_rows(bytes: &[u8], units: usize, scenes: usize) -> Verdict
 // Whether a record could have been sealed, with the index that its rows reach; or the mark that fails first; or 16,
 // 17, 18.
 pub fn verify(bytes: &[u8]) -> Verdict
-    ensures { result ≡ verdictOf bytes.now }
+    ensures { result ≡ verdict_of bytes.now }
 {
     match record_reader::open(bytes) {
         Opened::Accepted { units, scenes } => verify_rows(bytes, units, scenes),

@@ -5,15 +5,15 @@ use mathlib.Core.List.{List}
 use Prim.Native.Nat.{ℕ}
 use denote.Ref.{Bor}
 use Rattle.record_view.specs.declared.View.{View}
-use Rattle.record_view.specs.Seen.{unitsOf, scenesOf, ViewOf, HeaderSeen, UnitSeen, SceneSeen, Answers}
+use Rattle.record_view.specs.Seen.{units_of, scenes_of, ViewOf, HeaderSeen, UnitSeen, SceneSeen, Answers}
 use Rattle.record_view.proofs.Counted.{header-own, unit-own, scene-own}
 
 -- what holds of a view's slice and counts holds of its record and that record's counts
 of-record : (s : Bor (List ℕ)) (v : View) → ViewOf s v → (P : List ℕ → ℕ → ℕ → Type 0) → P v.bytes.now v.units
     v.scenes →
-    P s.now (unitsOf s.now) (scenesOf s.now)
+    P s.now (units_of s.now) (scenes_of s.now)
 of-record s v o P h =
-    subst (λ (n : ℕ). P s.now (unitsOf s.now) n) o.2
+    subst (λ (n : ℕ). P s.now (units_of s.now) n) o.2
     (subst (λ (n : ℕ). P s.now n v.scenes) o.1
     (subst (λ (x : Bor (List ℕ)). P x.now v.units v.scenes) o.0 h))
 

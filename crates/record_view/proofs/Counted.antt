@@ -18,13 +18,13 @@ use Rattle.rules.specs.declared.UnitAnswer.TheVariants as of-unit
 use Rattle.rules.specs.declared.SceneAnswer.TheVariants as of-scene
 use Rattle.rules.specs.Bytes.{pick, word32}
 use Rattle.rules.specs.Refusals.{Fault, none, fault}
-use Rattle.rules.specs.Record.{recordLength}
-use Rattle.rules.specs.Reading.{headerOf, unit_at, scene_at, orUnit, orScene, readingFault, rowFault, unitFault}
-use Rattle.rules.specs.Reading.{sceneFault, headerAnswer, unitAnswer, sceneAnswer}
+use Rattle.rules.specs.Record.{record_length}
+use Rattle.rules.specs.Reading.{header_of, unit_at, scene_at, or_unit, or_scene, reading_fault, row_fault, unit_fault}
+use Rattle.rules.specs.Reading.{scene_fault, header_answer, unit_answer, scene_answer}
 use Rattle.record_reader.specs.declared.Opened.TheVariants.{Accepted}
-use Rattle.record_reader.specs.Opened.{openedAs}
+use Rattle.record_reader.specs.Opened.{opened_as}
 use Rattle.record_reader.proofs.Answers.{accepted-as}
-use Rattle.record_view.specs.Seen.{unitsOf, scenesOf, fits, HeaderSeen, UnitSeen, SceneSeen}
+use Rattle.record_view.specs.Seen.{units_of, scenes_of, fits, HeaderSeen, UnitSeen, SceneSeen}
 
 -- ---- counts that fit
 
@@ -39,7 +39,7 @@ both false b e = absurd (let z : ◌≡◌ {A = ℕ} 0 1 = cc in omega arith)
 
 module _ (r : List ℕ) (u s : ℕ) where
   pub fit-shows : fits r u s ≡ true → Fit r u s
-  unfolding fits recordLength
+  unfolding fits record_length
   fit-shows e =
       let a = both _ (eqb (word32 r 8) u) e in
       let b = both _ (leb (64 + 32 * (u + s)) (length r)) a.0 in
@@ -67,19 +67,19 @@ module _ (r : List ℕ) (u s : ℕ) where
 
       module _ (h₃ : s ≤ 250) where
         pub too_short : length r < 64 + 32 * (u + s) → false ≡ fits r u s
-        unfolding fits recordLength
+        unfolding fits record_length
         too_short h = rw (le-leb 1 u h₁, le-leb u 750 h₂, le-leb s 250 h₃, lt-leb (64 + 32 * (u + s)) (length r) h)
 
         pub so-long : 64 + 32 * (u + s) ≤ length r → (w : ℕ) → w ≡ word32 r 8 → eqb w u ≡ fits r u s
-        unfolding fits recordLength
+        unfolding fits record_length
         so-long h w e =
             rw (le-leb 1 u h₁, le-leb u 750 h₂, le-leb s 250 h₃, le-leb (64 + 32 * (u + s)) (length r) h, e)
 
 -- an accepted record passes with its own counts; 0 and 0 never pass
-pub accepted-fits : (r : List ℕ) (u s : ℕ) → openedAs r ≡ Accepted u s → fits r u s ≡ true
+pub accepted-fits : (r : List ℕ) (u s : ℕ) → opened_as r ≡ Accepted u s → fits r u s ≡ true
 accepted-fits r u s e =
     let a = accepted-as r u s e in
-    sym (so-long r u s a.unitsMore a.unitsLess a.scenesLess (omega (arith, a.size)) (word32 r 8) refl) ∙
+    sym (so-long r u s a.units_more a.units_less a.scenes_less (omega (arith, a.size)) (word32 r 8) refl) ∙
     eq-eqb (word32 r 8) u (sym a.units)
 
 pub none-fits : (r : List ℕ) → false ≡ fits r 0 0
@@ -88,87 +88,87 @@ none-fits r = no-unit r 0 0 (omega arith)
 -- ---- what is answered by the counts
 
 module _ (r : List ℕ) (u s : ℕ) where
-  pub header_read : (a : HeaderAnswer) → fits r u s ≡ false → a ≡ headerAnswer r → HeaderSeen r u s a
+  pub header_read : (a : HeaderAnswer) → fits r u s ≡ false → a ≡ header_answer r → HeaderSeen r u s a
   header_read a f e = rw f e
 
-  pub header-there : (h : Header) → fits r u s ≡ true → h ≡ headerOf r → HeaderSeen r u s (of-header.Given h)
+  pub header-there : (h : Header) → fits r u s ≡ true → h ≡ header_of r → HeaderSeen r u s (of-header.Given h)
   header-there h f e = rw (f, e)
 
   module _ (j : ℕ) where
-    pub unit-read : (a : UnitAnswer) → fits r u s ≡ false → a ≡ unitAnswer r j → UnitSeen r u s j a
+    pub unit-read : (a : UnitAnswer) → fits r u s ≡ false → a ≡ unit_answer r j → UnitSeen r u s j a
     unit-read a f e = rw f e
 
     pub unit-missing : fits r u s ≡ true → u ≤ j → UnitSeen r u s j (of-unit.Refused 19 0)
-    unfolding rowFault
+    unfolding row_fault
     unit-missing f h = rw (f, le-ltb j u h)
 
     pub unit-there : (x : UnitRow) → fits r u s ≡ true → j < u → x ≡ unit_at r j → UnitSeen r u s j (of-unit.Given x)
-    unfolding rowFault
+    unfolding row_fault
     unit-there x f h e = rw (f, lt-ltb j u h, e)
 
-    pub scene-read : (a : SceneAnswer) → fits r u s ≡ false → a ≡ sceneAnswer r j → SceneSeen r u s j a
+    pub scene-read : (a : SceneAnswer) → fits r u s ≡ false → a ≡ scene_answer r j → SceneSeen r u s j a
     scene-read a f e = rw f e
 
     pub scene-missing : fits r u s ≡ true → s ≤ j → SceneSeen r u s j (of-scene.Refused 19 0)
-    unfolding rowFault
+    unfolding row_fault
     scene-missing f h = rw (f, le-ltb j s h)
 
     pub scene-there : (x : SceneRow) → fits r u s ≡ true → j < s → x ≡ scene_at r j → SceneSeen r u s j
         (of-scene.Given x)
-    unfolding rowFault
+    unfolding row_fault
     scene-there x f h e = rw (f, lt-ltb j s h, e)
 
 -- ---- the counts that a view holds
 
 -- an accepted record's counts are those that opening it gives
-pub counts-opened : (r : List ℕ) (u s : ℕ) → openedAs r ≡ Accepted u s → (u ≡ unitsOf r) × (s ≡ scenesOf r)
-unfolding unitsOf scenesOf
+pub counts-opened : (r : List ℕ) (u s : ℕ) → opened_as r ≡ Accepted u s → (u ≡ units_of r) × (s ≡ scenes_of r)
+unfolding units_of scenes_of
 counts-opened r u s e =
     let a = accepted-as r u s e in
     (rw a.fault a.units, rw a.fault a.scenes)
 
 -- a refused record has none
-pub counts-refused : (r : List ℕ) (k p : ℕ) → readingFault r ≡ fault k p → (0 ≡ unitsOf r) × (0 ≡ scenesOf r)
-unfolding unitsOf scenesOf
+pub counts-refused : (r : List ℕ) (k p : ℕ) → reading_fault r ≡ fault k p → (0 ≡ units_of r) × (0 ≡ scenes_of r)
+unfolding units_of scenes_of
 counts-refused r k p e = (rw e, rw e)
 
 -- by a view's own counts its answers are what reading the record answers
 module _ (r : List ℕ) where
-  own : (f : Fault) → readingFault r ≡ f → (P : ℕ → ℕ → Type 0) →
-      (readingFault r ≡ none → P (word32 r 8) (word32 r 16)) → P 0 0 → P (unitsOf r) (scenesOf r)
-  unfolding unitsOf scenesOf
+  own : (f : Fault) → reading_fault r ≡ f → (P : ℕ → ℕ → Type 0) →
+      (reading_fault r ≡ none → P (word32 r 8) (word32 r 16)) → P 0 0 → P (units_of r) (scenes_of r)
+  unfolding units_of scenes_of
   own none e P x y = rw e (x e)
   own (fault k p) e P x y = rw e y
 
-  pub header-own : (a : HeaderAnswer) → HeaderSeen r (unitsOf r) (scenesOf r) a → a ≡ headerAnswer r
-  unfolding headerAnswer
+  pub header-own : (a : HeaderAnswer) → HeaderSeen r (units_of r) (scenes_of r) a → a ≡ header_answer r
+  unfolding header_answer
   header-own a =
-      own (readingFault r) refl (λ (u s : ℕ). HeaderSeen r u s a → a ≡ headerAnswer r)
+      own (reading_fault r) refl (λ (u s : ℕ). HeaderSeen r u s a → a ≡ header_answer r)
       (λ e h. either (fits r (word32 r 8) (word32 r 16)) e h) (λ h. rw (← none-fits r) at h)
     where
-      either : (b : Bool) → readingFault r ≡ none → a ≡ pick b (of-header.Given (headerOf r)) (headerAnswer r) → a ≡
-          headerAnswer r
+      either : (b : Bool) → reading_fault r ≡ none → a ≡ pick b (of-header.Given (header_of r)) (header_answer r) → a ≡
+          header_answer r
       either true e h = rw e h
       either false e h = h
 
-  pub unit-own : (j : ℕ) (a : UnitAnswer) → UnitSeen r (unitsOf r) (scenesOf r) j a → a ≡ unitAnswer r j
-  unfolding unitAnswer unitFault
+  pub unit-own : (j : ℕ) (a : UnitAnswer) → UnitSeen r (units_of r) (scenes_of r) j a → a ≡ unit_answer r j
+  unfolding unit_answer unit_fault
   unit-own j a =
-      own (readingFault r) refl (λ (u s : ℕ). UnitSeen r u s j a → a ≡ unitAnswer r j)
+      own (reading_fault r) refl (λ (u s : ℕ). UnitSeen r u s j a → a ≡ unit_answer r j)
       (λ e h. either (fits r (word32 r 8) (word32 r 16)) e h) (λ h. rw (← none-fits r) at h)
     where
-      either : (b : Bool) → readingFault r ≡ none → a ≡ pick b (orUnit (rowFault (word32 r 8) j) (unit_at r j))
-          (unitAnswer r j) → a ≡ unitAnswer r j
+      either : (b : Bool) → reading_fault r ≡ none → a ≡ pick b (or_unit (row_fault (word32 r 8) j) (unit_at r j))
+          (unit_answer r j) → a ≡ unit_answer r j
       either true e h = rw e h
       either false e h = h
 
-  pub scene-own : (j : ℕ) (a : SceneAnswer) → SceneSeen r (unitsOf r) (scenesOf r) j a → a ≡ sceneAnswer r j
-  unfolding sceneAnswer sceneFault
+  pub scene-own : (j : ℕ) (a : SceneAnswer) → SceneSeen r (units_of r) (scenes_of r) j a → a ≡ scene_answer r j
+  unfolding scene_answer scene_fault
   scene-own j a =
-      own (readingFault r) refl (λ (u s : ℕ). SceneSeen r u s j a → a ≡ sceneAnswer r j)
+      own (reading_fault r) refl (λ (u s : ℕ). SceneSeen r u s j a → a ≡ scene_answer r j)
       (λ e h. either (fits r (word32 r 8) (word32 r 16)) e h) (λ h. rw (← none-fits r) at h)
     where
-      either : (b : Bool) → readingFault r ≡ none → a ≡ pick b (orScene (rowFault (word32 r 16) j) (scene_at r j))
-          (sceneAnswer r j) → a ≡ sceneAnswer r j
+      either : (b : Bool) → reading_fault r ≡ none → a ≡ pick b (or_scene (row_fault (word32 r 16) j) (scene_at r j))
+          (scene_answer r j) → a ≡ scene_answer r j
       either true e h = rw e h
       either false e h = h

@@ -1,7 +1,7 @@
 // A view of one record: its bytes with its counts, made by opening it. Its functions are thin: each hands the slice
 // and the numbers to a function over those.
 ghost use Rattle.std.specs.Prelude.{◌≡◌};
-ghost use Rattle.record_view.specs.Seen.{unitsOf, scenesOf, fits, HeaderSeen, UnitSeen, SceneSeen, ViewOf};
+ghost use Rattle.record_view.specs.Seen.{units_of, scenes_of, fits, HeaderSeen, UnitSeen, SceneSeen, ViewOf};
 
 use record_reader::Opened;
 use rules::{HeaderAnswer, SceneAnswer, UnitAnswer};
@@ -22,7 +22,7 @@ struct Counts {
 }
 
 fn counts_in(bytes: &[u8]) -> Counts
-    ensures { (result.units ≡ unitsOf bytes.now) × (result.scenes ≡ scenesOf bytes.now) }
+    ensures { (result.units ≡ units_of bytes.now) × (result.scenes ≡ scenes_of bytes.now) }
 {
     match record_reader::open(bytes) {
         Opened::Accepted { units, scenes } => Counts {

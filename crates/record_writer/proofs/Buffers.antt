@@ -5,7 +5,7 @@ use mathlib.Core.Path.{◌≡◌, ap, ◌∙◌}
 use mathlib.Core.List.{List, ◌++◌, append_assoc}
 use lib.ListN.{length, length-append}
 use Rattle.rules.specs.Bytes.{bytes_of}
-use Rattle.rules.specs.Record.{recordLength, sceneOffset, headerBytes, unitBytes, sceneBytes}
+use Rattle.rules.specs.Record.{record_length, scene_offset, header_bytes, unit_bytes, scene_bytes}
 use Rattle.rules.specs.Seal.{over}
 use Rattle.rules.specs.declared.Header.{Header}
 use Rattle.rules.specs.declared.UnitRow.{UnitRow}
@@ -36,16 +36,16 @@ module _ (at a b c d : ℕ) (s : List ℕ) {s₁ s₂ s₃ s₄ : List ℕ} (fit
 
 -- a header
 module _ (h : Header) (s : List ℕ) {s₁ s₂ s₃ s₄ s₅ s₆ : List ℕ} (fits : 64 ≤ length s) where
-  pub header-written : s₁ ≡ written 0 (four h.edition (recordLength h.units h.scenes) h.units 64) s →
-      s₂ ≡ written 16 (four h.scenes (sceneOffset h.units) h.width h.height) s₁ →
+  pub header-written : s₁ ≡ written 0 (four h.edition (record_length h.units h.scenes) h.units 64) s →
+      s₂ ≡ written 16 (four h.scenes (scene_offset h.units) h.width h.height) s₁ →
       s₃ ≡ written 32 (four h.time h.pid h.pictures h.frames) s₂ →
       s₄ ≡ written 48 (bytes_of 4 h.skipped) s₃ → s₅ ≡ written 52 (bytes_of 4 h.bad) s₄ →
       s₆ ≡ written 56 (bytes_of 8 h.index) s₅ →
-      s₆ ≡ over (headerBytes h) s
-  unfolding headerBytes
+      s₆ ≡ over (header_bytes h) s
+  unfolding header_bytes
   header-written e₁ e₂ e₃ e₄ e₅ e₆ =
-      let a = four h.edition (recordLength h.units h.scenes) h.units 64 in
-      let b = four h.scenes (sceneOffset h.units) h.width h.height in
+      let a = four h.edition (record_length h.units h.scenes) h.units 64 in
+      let b = four h.scenes (scene_offset h.units) h.width h.height in
       let d = four h.time h.pid h.pictures h.frames in
       let k = bytes_of 4 h.skipped in
       let m = bytes_of 4 h.bad in
@@ -63,8 +63,8 @@ module _ (h : Header) (s : List ℕ) {s₁ s₂ s₃ s₄ s₅ s₆ : List ℕ} 
 -- a row
 module _ (at : ℕ) (u : UnitRow) (s : List ℕ) {s₁ s₂ s₃ : List ℕ} (fits : at + 32 ≤ length s) where
   pub unit-written : s₁ ≡ written at (bytes_of 8 u.least) s → s₂ ≡ written (at + 8) (bytes_of 8 u.greatest) s₁ →
-      s₃ ≡ written (at + 16) (four u.size u.packets u.lost u.damaged) s₂ → s₃ ≡ written at (unitBytes u) s
-  unfolding unitBytes
+      s₃ ≡ written (at + 16) (four u.size u.packets u.lost u.damaged) s₂ → s₃ ≡ written at (unit_bytes u) s
+  unfolding unit_bytes
   unit-written e₁ e₂ e₃ =
       let a = bytes_of 8 u.least in
       let b = bytes_of 8 u.greatest in
@@ -75,8 +75,8 @@ module _ (at : ℕ) (u : UnitRow) (s : List ℕ) {s₁ s₂ s₃ : List ℕ} (fi
 
 module _ (at : ℕ) (x : SceneRow) (s : List ℕ) {s₁ s₂ : List ℕ} (fits : at + 32 ≤ length s) where
   pub scene-written : s₁ ≡ written at (four x.first x.pictures x.repeated x.longest) s →
-      s₂ ≡ written (at + 16) (four x.score x.peak x.change 0) s₁ → s₂ ≡ written at (sceneBytes x) s
-  unfolding sceneBytes
+      s₂ ≡ written (at + 16) (four x.score x.peak x.change 0) s₁ → s₂ ≡ written at (scene_bytes x) s
+  unfolding scene_bytes
   scene-written e₁ e₂ =
       next at 16 (four x.first x.pictures x.repeated x.longest) (four x.score x.peak x.change 0) s
       (length-four _ _ _ _) (omega arith) e₁ e₂

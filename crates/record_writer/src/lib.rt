@@ -2,7 +2,7 @@
 // unaltered.
 ghost use Rattle.std.specs.Prelude.{◌≡◌, ◌++◌, ◌+◌, ◌*◌, ◌≤◌, ◌<◌, ◌^◌, length};
 ghost use Rattle.rules.specs.Bytes.{bytes_of};
-ghost use Rattle.rules.specs.Record.{recordLength, headerBytes, unitBytes, sceneBytes};
+ghost use Rattle.rules.specs.Record.{record_length, header_bytes, unit_bytes, scene_bytes};
 ghost use Rattle.rules.specs.Seal.{over};
 ghost use Rattle.words.specs.Written.{written};
 
@@ -22,8 +22,8 @@ fn put_four(s: &mut [u8], at: usize, a: u32, b: u32, c: u32, d: u32)
 
 // The header, at the front.
 pub fn write_header(buffer: &mut [u8], h: Header)
-    requires { (64 ≤ length buffer.old) × (recordLength h.units h.scenes < 2 ^ 32) }
-    ensures { buffer.new ≡ over (headerBytes h) buffer.old }
+    requires { (64 ≤ length buffer.old) × (record_length h.units h.scenes < 2 ^ 32) }
+    ensures { buffer.new ≡ over (header_bytes h) buffer.old }
 {
     let scenes = 64 + 32 * h.units;
     let size = 64 + 32 * (h.units + h.scenes);
@@ -38,7 +38,7 @@ pub fn write_header(buffer: &mut [u8], h: Header)
 // A unit row, from a place on.
 pub fn write_unit(buffer: &mut [u8], at: usize, row: UnitRow)
     requires { at + 32 ≤ length buffer.old }
-    ensures { buffer.new ≡ written at (unitBytes row) buffer.old }
+    ensures { buffer.new ≡ written at (unit_bytes row) buffer.old }
 {
     words::put64(buffer, at, row.least);
     words::put64(buffer, at + 8, row.greatest);
@@ -55,7 +55,7 @@ pub fn write_unit(buffer: &mut [u8], at: usize, row: UnitRow)
 // A scene row, from a place on.
 pub fn write_scene(buffer: &mut [u8], at: usize, row: SceneRow)
     requires { at + 32 ≤ length buffer.old }
-    ensures { buffer.new ≡ written at (sceneBytes row) buffer.old }
+    ensures { buffer.new ≡ written at (scene_bytes row) buffer.old }
 {
     put_four(
         buffer,

@@ -15,7 +15,7 @@ use Rattle.sample_questions.specs.State.{State}
 use Rattle.sample.specs.Contract.{OpenPost}
 use Rattle.sample.specs.Calls.{Runs, done, next}
 use Rattle.sample.proofs.Lists.{every-list}
-use Rattle.replay_script.specs.Script.{openingOf, headAt, callsWith, callsBy, calls_of, room, room_for, size_of}
+use Rattle.replay_script.specs.Script.{opening_of, head_at, calls_with, calls_by, calls_of, room, room_for, size_of}
 use Rattle.replay_script.proofs.Laws.{calls-on, calls-end, room-append, no_call, takes}
 use Rattle.replay_outcomes.specs.Codes.{code, code_of, codes}
 use Rattle.replay_outcomes.proofs.Laws.{code-size, codes-snoc}
@@ -28,7 +28,7 @@ pub record Sofar (st₀ : State) (script out₀ : List ℕ) (at to : ℕ) (st : 
   pub outcomes : List Outcome
   pub fuel : ℕ
   pub enough : length script ≤ at + fuel
-  pub split : calls_of script ≡ before ++ callsBy fuel script at
+  pub split : calls_of script ≡ before ++ calls_by fuel script at
   pub ran : (cs : List Call) (os : List Outcome) (end : State) → Runs st cs os end →
       Runs st₀ (before ++ cs) (outcomes ++ os) end
   pub count : to ≡ room before
@@ -64,9 +64,9 @@ ended st₀ script out₀ at to st out f all =
 
 module _ (st₀ : State) (script out₀ : List ℕ) (at to : ℕ) (st : State) (out : List ℕ)
     (f : Sofar st₀ script out₀ at to st out) (inside : at < length script) where
-  pub go_on : (at' end : ℕ) (st' : State) (part : List ℕ) → end ≡ to + size_of (headAt script at) → end ≤ length out →
+  pub go_on : (at' end : ℕ) (st' : State) (part : List ℕ) → end ≡ to + size_of (head_at script at) → end ≤ length out →
       length part ≡ end - to →
-      CallPost st script at (headAt script at) at' st' part →
+      CallPost st script at (head_at script at) at' st' part →
       Sofar st₀ script out₀ at' end st' (put_mid to (end - to) out part)
   unfolding room
   go_on at' end st' part z r size n =
@@ -91,8 +91,8 @@ module _ (st₀ : State) (script out₀ : List ℕ) (at to : ℕ) (st : State) (
         enough = omega (arith, s.1, f.enough, n.on);
         split = f.split ∙ rw (
           s.2,
-          n.first (callsBy s.0 script),
-          append_snoc f.before n.call (callsBy s.0 script at'),
+          n.first (calls_by s.0 script),
+          append_snoc f.before n.call (calls_by s.0 script at'),
         );
         ran = λ cs os end' x.
             rw (append_snoc f.before n.call cs, append_snoc f.outcomes n.outcome os)
@@ -103,23 +103,23 @@ module _ (st₀ : State) (script out₀ : List ℕ) (at to : ℕ) (st : State) (
       }
 
   -- the list ends here
-  pub stops : size_of (headAt script at) ≡ 0 → All st₀ script out₀ out
+  pub stops : size_of (head_at script at) ≡ 0 → All st₀ script out₀ out
   stops z room-there =
       let s = calls-on f.fuel script at inside f.enough in
-      let none : callsWith (headAt script at) script at (callsBy s.0 script) ≡ [] =
-      no_call (headAt script at) script at (callsBy s.0 script) z in
+      let none : calls_with (head_at script at) script at (calls_by s.0 script) ≡ [] =
+      no_call (head_at script at) script at (calls_by s.0 script) z in
       ended st₀ script out₀ at to st out f (f.split ∙ rw (s.2, none, append-nil f.before))
 
   -- there is no room for the call that is left
-  pub full : (x : List ℕ) → length out₀ - to < size_of (headAt script at) → to ≤ length out₀ → All st₀ script out₀ x
+  pub full : (x : List ℕ) → length out₀ - to < size_of (head_at script at) → to ≤ length out₀ → All st₀ script out₀ x
   unfolding room
   full x less inside-out room-there =
       let s = calls-on f.fuel script at inside f.enough in
       let all : room (calls_of script)
-      ≡ room f.before + room (callsWith (headAt script at) script at (callsBy s.0 script)) =
-      ap room f.split ∙ room-append f.before (callsBy f.fuel script at) ∙ rw s.2
+      ≡ room f.before + room (calls_with (head_at script at) script at (calls_by s.0 script)) =
+      ap room f.split ∙ room-append f.before (calls_by f.fuel script at) ∙ rw s.2
       in
-      absurd (omega (arith, takes (headAt script at) script at (callsBy s.0 script), f.count))
+      absurd (omega (arith, takes (head_at script at) script at (calls_by s.0 script), f.count))
 
 -- nothing is left of the script
 pub finish : (st₀ : State) (script out₀ : List ℕ) (at to : ℕ) (st : State) (out : List ℕ) →
@@ -131,17 +131,17 @@ abbrev Wrote : List ℕ → List ℕ → List ℕ → Type 0
 Wrote script out out' = room_for script ≤ length out → out' ≡ replayed script out
 
 -- DEMAND 3, of a run that was made: the opening's answer is at the front, and the calls' outcomes behind it
-run-made : (a : Answer) (st : State) (script out part : List ℕ) → OpenPost (openingOf script) a st → 17 ≤ length out →
+run-made : (a : Answer) (st : State) (script out part : List ℕ) → OpenPost (opening_of script) a st → 17 ≤ length out →
     All st script (drop 17 out) part → Wrote script out (code a ++ part)
 unfolding codes
 run-made a st script out part o h f enough =
     let size : length (drop 17 out) ≡ length out - 17 = length-drop 17 out in
     let p = f (omega arith) in
-    let t = every-list (openingOf script) a st (calls_of script) p.outcomes p.end o p.ran in
+    let t = every-list (opening_of script) a st (calls_of script) p.outcomes p.end o p.ran in
     rw (p.wrote, t.outcomes, t.opening, drop-drop (room (calls_of script)) 17 out, append_assoc)
 
 -- and so of the part of out that is lent for the calls
-pub replays : (a : Answer) (st : State) (script out out' part : List ℕ) (k : ℕ) → OpenPost (openingOf script) a st →
+pub replays : (a : Answer) (st : State) (script out out' part : List ℕ) (k : ℕ) → OpenPost (opening_of script) a st →
     17 ≤ length out →
     out' ≡ code a ++ drop 17 out → length out' ≤ 17 + k → All st script (mid_of 17 k out') part →
     Wrote script out (put_mid 17 k out' part)

@@ -7,15 +7,15 @@ use lib.ListN.{length, take, drop, replicate, length-drop, length-replicate, dro
 use lib.Seq.{take_all, drop_at, length-take-le}
 use borrow.Rule.Slice.PartMut.{mid_of, post_of, put_mid}
 use Rattle.rules.specs.declared.Answer.{Answer}
-use Rattle.rules.specs.Calls.{Question, seal, index, repeats, sealedInto, Call, feedCapture, feedLuma, ask, fed}
+use Rattle.rules.specs.Calls.{Question, seal, index, repeats, sealed_into, Call, feed_capture, feed_luma, ask, fed}
 use Rattle.rules.specs.Calls.{replied}
 use Rattle.capture.specs.State.{Arrays}
 use Rattle.sample_questions.specs.State.{State, Words, words_of}
 use Rattle.sample_seal.specs.Contract.{SealPost}
-use Rattle.sample.specs.Calls.{feedsCapture, feedsLuma, asks}
+use Rattle.sample.specs.Calls.{feeds_capture, feeds_luma, asks}
 use Rattle.replay_script.specs.declared.Head.{Head}
 use Rattle.replay_script.specs.declared.Head.TheVariants.{Capture, Luma, Seal, Index, Repeats}
-use Rattle.replay_script.specs.Script.{callsWith, replyRoom, size_of}
+use Rattle.replay_script.specs.Script.{calls_with, reply_room, size_of}
 use Rattle.replay_outcomes.specs.Codes.{code}
 use Rattle.replay.specs.Run.{FedCapture, FedLuma, Replied, CallPost}
 
@@ -46,7 +46,7 @@ sealed-law v out filled buffer out' a m h f z p w lo hi =
     ap (take m) back ∙ take_all m filled (omega arith) ∙ f ∙ ap (λ (n : ℕ). replicate n 165) size
     in
     record {
-      reply = sealedInto a buffer;
+      reply = sealed_into a buffer;
       post = rw same at p;
       wrote = w ∙ ap (λ (l : List ℕ). code a ++ l) (part-back (put_mid 17 (length out - 17) out filled) buffer m lo hi);
     }
@@ -67,10 +67,10 @@ pub after-capture : (capture : Arrays) (luma sums bins picture : List ℕ) (capt
 after-capture capture luma sums bins picture capture' script out' at n from end h e f z p =
     let k : end - from ≡ n = omega arith in
     record {
-      call = feedCapture (take (end - from) (drop from script));
+      call = feed_capture (take (end - from) (drop from script));
       outcome = fed p.answer;
       first = λ more. rw (e, k, z, f);
-      ran = feedsCapture p.post;
+      ran = feeds_capture p.post;
       wrote = p.wrote;
       size = rw e;
       on = omega arith;
@@ -90,10 +90,10 @@ pub after-luma : (capture : Arrays) (luma sums bins picture luma' sums' bins' pi
 after-luma capture luma sums bins picture luma' sums' bins' picture' script out' at n from end h e f z p =
     let k : end - from ≡ n = omega arith in
     record {
-      call = feedLuma (take (end - from) (drop from script));
+      call = feed_luma (take (end - from) (drop from script));
       outcome = fed p.answer;
       first = λ more. rw (e, k, z, f);
-      ran = feedsLuma p.post;
+      ran = feeds_luma p.post;
       wrote = p.wrote;
       size = rw e;
       on = omega arith;
@@ -101,8 +101,8 @@ after-luma capture luma sums bins picture luma' sums' bins' picture' script out'
 
 -- a question changes no state; the next call stands at `next`
 pub after-question : (st : State) (script out' : List ℕ) (at next : ℕ) (h : Head) (q : Question) →
-    ((more : ℕ → List Call) → callsWith h script at more ≡ ask q ∷ more next) →
-    size_of h ≡ replyRoom q → at < next → Replied (words_of st) q out' → CallPost st script at h next st out'
+    ((more : ℕ → List Call) → calls_with h script at more ≡ ask q ∷ more next) →
+    size_of h ≡ reply_room q → at < next → Replied (words_of st) q out' → CallPost st script at h next st out'
 after-question st script out' at next h q first size on p =
     record {
       call = ask q;

@@ -2,7 +2,7 @@
 use Rattle.std.specs.Prelude.{ℕ, ◌≤◌, ◌<◌, ◌≡◌, List, [], ◌∷◌, ◌++◌, Bool, leb, length, drop}
 use Rattle.rules.specs.declared.Answer.{Answer}
 use Rattle.rules.specs.Bytes.{pick}
-use Rattle.rules.specs.Opening.{openAnswer}
+use Rattle.rules.specs.Opening.{open_answer}
 use Rattle.rules.specs.Calls.{Question, index, repeats, Reply, Call, Outcome, fed, expected}
 use Rattle.capture.specs.State.{Arrays}
 use Rattle.capture.specs.Contract as side-capture
@@ -11,14 +11,14 @@ use Rattle.sample_questions.specs.State.{State, Words}
 use Rattle.sample_questions.specs.Contract.{Asked}
 use Rattle.sample.specs.Calls.{Ran, Runs}
 use Rattle.replay_script.specs.declared.Head.{Head}
-use Rattle.replay_script.specs.Script.{openingOf, headAt, callsWith, calls_of, roomOf, room, room_for, size_of}
-use Rattle.replay_outcomes.specs.Codes.{code, replyCode, code_of, codes}
+use Rattle.replay_script.specs.Script.{opening_of, head_at, calls_with, calls_of, room_of, room, room_for, size_of}
+use Rattle.replay_outcomes.specs.Codes.{code, reply_code, code_of, codes}
 
 -- the opening's answer and all that the rules give for the whole list of the script's calls,
 -- and behind it out as it was
 abbrev pub replayed : List ℕ → List ℕ → List ℕ
 replayed script out =
-    codes (fed (openAnswer (openingOf script)) ∷ expected (openingOf script) [] [] (calls_of script))
+    codes (fed (open_answer (opening_of script)) ∷ expected (opening_of script) [] [] (calls_of script))
     ++ drop (room_for script) out
 
 -- THE PROMISE: the answer says whether there is room; if there is, out is what the rules give,
@@ -45,7 +45,7 @@ pub record FedLuma (luma sums bins picture piece luma' sums' bins' picture' out'
 pub record Replied (w : Words) (q : Question) (out' : List ℕ) : Type 0 where
   pub reply : Reply
   pub post : Asked w q reply
-  pub wrote : out' ≡ replyCode reply
+  pub wrote : out' ≡ reply_code reply
 
 -- an index that is asked for, whatever stands in the other arrays, and the code of its answer
 abbrev pub IndexReplied : List ℕ → List ℕ → List ℕ → Type 0
@@ -61,7 +61,7 @@ CountReplied luma a b out' =
 
 -- a call's head stands there, and its outcome takes n bytes
 pub record Called (script : List ℕ) (at : ℕ) (h : Head) (n : ℕ) : Type 0 where
-  pub here : h ≡ headAt script at
+  pub here : h ≡ head_at script at
   pub inside : at < length script
   pub size : n ≡ size_of h
   pub some : 0 < n
@@ -71,10 +71,10 @@ pub record CallPost (st : State) (script : List ℕ) (at : ℕ) (h : Head) (next
     (out' : List ℕ) : Type 0 where
   pub call : Call
   pub outcome : Outcome
-  pub first : (more : ℕ → List Call) → callsWith h script at more ≡ call ∷ more next
+  pub first : (more : ℕ → List Call) → calls_with h script at more ≡ call ∷ more next
   pub ran : Ran st call outcome st'
   pub wrote : out' ≡ code_of outcome
-  pub size : size_of h ≡ roomOf call
+  pub size : size_of h ≡ room_of call
   pub on : at < next
 
 -- a run of all calls of a script, and their codes at the front of out

@@ -2,8 +2,8 @@
 // they come to (`replay_outcomes`).
 ghost use Rattle.std.specs.Prelude.{◌≡◌, ◌-◌, ◌≤◌, length, replicate};
 ghost use Rattle.rules.specs.Calls.{seal};
-ghost use Rattle.capture.specs.State.{arraysOf};
-ghost use Rattle.sample_questions.specs.State.{sampleOf, words_in};
+ghost use Rattle.capture.specs.State.{arrays_of};
+ghost use Rattle.sample_questions.specs.State.{sample_of, words_in};
 ghost use Rattle.replay.specs.Run.{FedCapture, FedLuma, Replied, IndexReplied, CountReplied};
 ghost use Rattle.replay.specs.Run.{Called, CallPost, All, Replayed};
 
@@ -25,9 +25,9 @@ fn call_capture(
 )
     requires { length out.old ≡ 17 }
     ensures { FedCapture
-        (arraysOf walk.old kept.old numbers.old table.old)
+        (arrays_of walk.old kept.old numbers.old table.old)
         piece.now
-        (arraysOf walk.new kept.new numbers.new table.new)
+        (arrays_of walk.new kept.new numbers.new table.new)
         out.new }
 {
     let a = sample::feed_capture(walk, kept, numbers, table, piece);
@@ -61,7 +61,7 @@ fn call_seal(
 )
     requires { 17 ≤ length out.old }
     ensures { Replied
-        (words_in (arraysOf walk.now kept.now numbers.now table.now)
+        (words_in (arrays_of walk.now kept.now numbers.now table.now)
         luma.now)
         (seal (replicate (length out.old - 17) 0xA5)) out.new }
 {
@@ -103,10 +103,10 @@ fn call(
 ) -> usize
     requires { Called script.now at h (length out.old) }
     ensures { CallPost
-        (sampleOf (arraysOf walk.old kept.old numbers.old table.old)
+        (sample_of (arrays_of walk.old kept.old numbers.old table.old)
         luma.old sums.old bins.old picture.old)
         script.now at h result
-        (sampleOf (arraysOf walk.new kept.new numbers.new table.new)
+        (sample_of (arrays_of walk.new kept.new numbers.new table.new)
         luma.new sums.new bins.new picture.new)
         out.new }
 {
@@ -152,7 +152,7 @@ fn all(
     out: &mut [u8],
 )
     ensures { All
-        (sampleOf (arraysOf walk.old kept.old numbers.old table.old)
+        (sample_of (arrays_of walk.old kept.old numbers.old table.old)
         luma.old sums.old bins.old picture.old)
         script.now out.old out.new }
 {

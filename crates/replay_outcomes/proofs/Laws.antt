@@ -10,8 +10,8 @@ use Rattle.rules.specs.declared.Answer.{Answer}
 use Rattle.rules.specs.Bytes.{bytes_of}
 use Rattle.rules.specs.Calls.{Outcome}
 use Rattle.words.specs.Written.{written}
-use Rattle.words.proofs.Laws.{written-sets, written-append, length-bytesOf}
-use Rattle.replay_outcomes.specs.Codes.{kind_of, first_of, second_of, code, threeWords, code_of, codes}
+use Rattle.words.proofs.Laws.{written-sets, written-append, length-bytes_of}
+use Rattle.replay_outcomes.specs.Codes.{kind_of, first_of, second_of, code, three_words, code_of, codes}
 
 -- an answer's three stores
 pub put-law : (out : List ℕ) (a : Answer) → 17 ≤ length out →
@@ -29,8 +29,8 @@ put-law out a h =
 -- an index's four stores
 pub three-law : (out : List ℕ) (kind a b c : ℕ) → length out ≡ 25 →
     written 17 (bytes_of 8 c) (written 9 (bytes_of 8 b) (written 1 (bytes_of 8 a) (set out 0 kind))) ≡
-    threeWords kind a b c
-unfolding bytes_of written threeWords
+    three_words kind a b c
+unfolding bytes_of written three_words
 three-law out kind a b c h =
     let k = kind ∷ [] in
     let x = bytes_of 8 a in
@@ -50,7 +50,7 @@ fill-law out i h e = ap (λ (n : ℕ). take n (set out i 165)) (add-one i) ∙ t
 
 pub code-size : (a : Answer) → length (code a) ≡ 17
 unfolding code
-code-size a = simp (length-append, length-bytesOf)
+code-size a = simp (length-append, length-bytes_of)
 
 pub codes-snoc : (os : List Outcome) (o : Outcome) → codes (os ++ o ∷ []) ≡ codes os ++ code_of o
 unfolding codes

@@ -9,7 +9,7 @@ use Rattle.rules.specs.declared.IndexAnswer.TheVariants as of-index
 use Rattle.rules.specs.declared.Index as of-rules
 use Rattle.index.specs.Counts.{NoNan}
 use Rattle.rules.specs.Bytes.{bytes_of}
-use Rattle.rules.specs.Calls.{Reply, sealedInto, indexed, counted, Outcome, fed, replied}
+use Rattle.rules.specs.Calls.{Reply, sealed_into, indexed, counted, Outcome, fed, replied}
 
 -- whether an answer is a refusal
 abbrev pub kind_of : Answer → ℕ
@@ -31,25 +31,25 @@ unfoldable pub code : Answer → List ℕ
 code a = kind_of a ∷ bytes_of 8 (first_of a) ++ bytes_of 8 (second_of a)
 
 -- a byte of its kind and three times eight bytes
-unfoldable pub threeWords : ℕ → ℕ → ℕ → ℕ → List ℕ
-threeWords kind a b c = kind ∷ bytes_of 8 a ++ bytes_of 8 b ++ bytes_of 8 c
+unfoldable pub three_words : ℕ → ℕ → ℕ → ℕ → List ℕ
+three_words kind a b c = kind ∷ bytes_of 8 a ++ bytes_of 8 b ++ bytes_of 8 c
 
 -- an index's 25 bytes: the bits of Ic, Ip and the index; or the refusal's number, its place and 0
-abbrev pub indexCode : IndexAnswer → List ℕ
-indexCode (of-index.Given i) =
-    threeWords 0 (to_bits binary64 i.ic) (to_bits binary64 i.ip) (to_bits binary64 i.value)
-indexCode (of-index.Refused number place) = threeWords 1 number place 0
+abbrev pub index_code : IndexAnswer → List ℕ
+index_code (of-index.Given i) =
+    three_words 0 (to_bits binary64 i.ic) (to_bits binary64 i.ip) (to_bits binary64 i.value)
+index_code (of-index.Refused number place) = three_words 1 number place 0
 
 -- a question's reply. Of a seal: its answer and the whole buffer behind it
-abbrev pub replyCode : Reply → List ℕ
-replyCode (sealedInto a buffer) = code a ++ buffer
-replyCode (indexed a) = indexCode a
-replyCode (counted a) = code a
+abbrev pub reply_code : Reply → List ℕ
+reply_code (sealed_into a buffer) = code a ++ buffer
+reply_code (indexed a) = index_code a
+reply_code (counted a) = code a
 
 -- a call's outcome
 abbrev pub code_of : Outcome → List ℕ
 code_of (fed a) = code a
-code_of (replied r) = replyCode r
+code_of (replied r) = reply_code r
 
 -- the outcomes of a list of calls, one behind the other
 unfoldable pub codes : List Outcome → List ℕ

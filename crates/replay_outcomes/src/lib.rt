@@ -1,6 +1,6 @@
 // Writing what a call comes to: an answer, an index, and a buffer before a seal.
 ghost use Rattle.std.specs.Prelude.{◌≡◌, ◌++◌, ◌≤◌, length, drop, replicate};
-ghost use Rattle.replay_outcomes.specs.Codes.{kind_of, first_of, second_of, code, threeWords, indexCode, HasBits};
+ghost use Rattle.replay_outcomes.specs.Codes.{kind_of, first_of, second_of, code, three_words, index_code, HasBits};
 
 use rules::{Answer, IndexAnswer};
 
@@ -46,7 +46,7 @@ pub fn put(out: &mut [u8], a: Answer)
 
 fn put_three(out: &mut [u8], kind: u8, a: u64, b: u64, c: u64)
     requires { length out.old ≡ 25 }
-    ensures { out.new ≡ threeWords kind a b c }
+    ensures { out.new ≡ three_words kind a b c }
 {
     out[0] = kind;
     words::put64(out, 1, a);
@@ -57,7 +57,7 @@ fn put_three(out: &mut [u8], kind: u8, a: u64, b: u64, c: u64)
 // An index's answer, as the 25 bytes of out.
 pub fn put_index(out: &mut [u8], a: IndexAnswer)
     requires { (length out.old ≡ 25) × HasBits a }
-    ensures { out.new ≡ indexCode a }
+    ensures { out.new ≡ index_code a }
 {
     match a {
         IndexAnswer::Given(i) => {

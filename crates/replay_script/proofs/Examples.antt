@@ -3,8 +3,8 @@ use Prim.Native.Nat.{ℕ}
 use mathlib.Core.Path.{◌≡◌, refl}
 use mathlib.Core.List.{List, [], ◌∷◌}
 use Rattle.rules.specs.Bytes.{word32}
-use Rattle.rules.specs.Calls.{feedCapture, feedLuma, ask, seal, index, repeats}
-use Rattle.replay_script.specs.Script.{word_at, openingOf, headBy, passageBy, callsBy, calls_of}
+use Rattle.rules.specs.Calls.{feed_capture, feed_luma, ask, seal, index, repeats}
+use Rattle.replay_script.specs.Script.{word_at, opening_of, head_by, passage_by, calls_by, calls_of}
 
 -- 320 × 240, d 40,000, PID 256, edition 1; then C of two bytes, S of three, I, R of 1 and 3, L of one, and a C whose
 -- second byte is missing
@@ -18,12 +18,12 @@ example =
     ∷ 76 ∷ 1 ∷ 0 ∷ 0 ∷ 0 ∷ 200
     ∷ 67 ∷ 2 ∷ 0 ∷ 0 ∷ 0 ∷ 71 ∷ []
 
-opens : openingOf example ≡ record { width = 320; height = 240; time = 40000; pid = 256; edition = 1 }
+opens : opening_of example ≡ record { width = 320; height = 240; time = 40000; pid = 256; edition = 1 }
 unfolding example word_at word32
 opens = refl
 
 calls : calls_of example ≡
-    feedCapture (71 ∷ 9 ∷ []) ∷ ask (seal (0xA5 ∷ 0xA5 ∷ 0xA5 ∷ [])) ∷ ask index ∷ ask (repeats 1 3)
-    ∷ feedLuma (200 ∷ []) ∷ []
-unfolding example calls_of callsBy headBy passageBy word32
+    feed_capture (71 ∷ 9 ∷ []) ∷ ask (seal (0xA5 ∷ 0xA5 ∷ 0xA5 ∷ [])) ∷ ask index ∷ ask (repeats 1 3)
+    ∷ feed_luma (200 ∷ []) ∷ []
+unfolding example calls_of calls_by head_by passage_by word32
 calls = refl

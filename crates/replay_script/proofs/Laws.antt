@@ -11,109 +11,109 @@ use Rattle.rules.specs.Bytes.{pick, byte, word32}
 use Rattle.rules.specs.Calls.{Call}
 use Rattle.replay_script.specs.declared.Head.{Head}
 use Rattle.replay_script.specs.declared.Head.TheVariants.{Stop, Capture, Luma, Seal, Index, Repeats}
-use Rattle.replay_script.specs.Script.{headBy, passageBy, headAt, callsWith, callsBy, calls_of}
+use Rattle.replay_script.specs.Script.{head_by, passage_by, head_at, calls_with, calls_by, calls_of}
 use Rattle.replay_script.specs.Script.{room, room_for, next_of, size_of}
 
 -- ---- heads
 
-pub short : (left kind n : ℕ) → left < 5 → Stop ≡ headBy left kind n
-unfolding headBy
+pub short : (left kind n : ℕ) → left < 5 → Stop ≡ head_by left kind n
+unfolding head_by
 short left kind n h = rw (lt-ltb left 5 h)
 
 -- R, and another byte than I and R
 pub passage-head : (script : List ℕ) (at : ℕ) {h : Head} → (byte script at ≡ 73 → ⊥) → byte script at ≡ 82 →
-    h ≡ passageBy (length script - at) (word32 script (at + 1)) (word32 script (at + 5)) →
-    h ≡ headAt script at
+    h ≡ passage_by (length script - at) (word32 script (at + 1)) (word32 script (at + 5)) →
+    h ≡ head_at script at
 passage-head script at i r e = rw (ne_eqb (byte script at) 73 i, eq-eqb (byte script at) 82 r) e
 
 pub other-head : (script : List ℕ) (at : ℕ) {h : Head} → (byte script at ≡ 73 → ⊥) → (byte script at ≡ 82 → ⊥) →
-    h ≡ headBy (length script - at) (byte script at) (word32 script (at + 1)) →
-    h ≡ headAt script at
+    h ≡ head_by (length script - at) (byte script at) (word32 script (at + 1)) →
+    h ≡ head_at script at
 other-head script at i r e = rw (ne_eqb (byte script at) 73 i, ne_eqb (byte script at) 82 r) e
 
 -- a call's bytes are there
-unfoldable pub bytesOfHead : Head → ℕ
-bytesOfHead Stop = 0
-bytesOfHead (Capture n) = 5 + n
-bytesOfHead (Luma n) = 5 + n
-bytesOfHead (Seal n) = 5
-bytesOfHead Index = 0
-bytesOfHead (Repeats a b) = 0
+unfoldable pub bytes_of_head : Head → ℕ
+bytes_of_head Stop = 0
+bytes_of_head (Capture n) = 5 + n
+bytes_of_head (Luma n) = 5 + n
+bytes_of_head (Seal n) = 5
+bytes_of_head Index = 0
+bytes_of_head (Repeats a b) = 0
 
-fits : (left kind n : ℕ) → bytesOfHead (headBy left kind n) ≤ left
-unfolding headBy bytesOfHead
+fits : (left kind n : ℕ) → bytes_of_head (head_by left kind n) ≤ left
+unfolding head_by bytes_of_head
 fits left kind n = a (ltb left 5) refl
   where
-    d : (b : Bool) → 5 ≤ left → n ≤ left - 5 → bytesOfHead (pick b (Luma n) Stop) ≤ left
+    d : (b : Bool) → 5 ≤ left → n ≤ left - 5 → bytes_of_head (pick b (Luma n) Stop) ≤ left
     d true p q = omega arith
     d false p q = omega arith
 
     e : (b : Bool) → 5 ≤ left → n ≤ left - 5 →
-        bytesOfHead (pick b (Capture n) (pick (eqb kind 76) (Luma n) Stop)) ≤ left
+        bytes_of_head (pick b (Capture n) (pick (eqb kind 76) (Luma n) Stop)) ≤ left
     e true p q = omega arith
     e false p q = d (eqb kind 76) p q
 
     f : (b : Bool) → ltb (left - 5) n ≡ b → 5 ≤ left →
-        bytesOfHead (pick b Stop (pick (eqb kind 67) (Capture n) (pick (eqb kind 76) (Luma n) Stop))) ≤ left
+        bytes_of_head (pick b Stop (pick (eqb kind 67) (Capture n) (pick (eqb kind 76) (Luma n) Stop))) ≤ left
     f true g p = omega arith
     f false g p = e (eqb kind 67) p (ltb-false (left - 5) n g)
 
-    s : (b : Bool) → 5 ≤ left → bytesOfHead (pick b (Seal n)
+    s : (b : Bool) → 5 ≤ left → bytes_of_head (pick b (Seal n)
         (pick (ltb (left - 5) n) Stop (pick (eqb kind 67) (Capture n) (pick (eqb kind 76) (Luma n) Stop)))) ≤ left
     s true p = omega arith
     s false p = f (ltb (left - 5) n) refl p
 
-    a : (b : Bool) → ltb left 5 ≡ b → bytesOfHead (pick b Stop (pick (eqb kind 83) (Seal n)
+    a : (b : Bool) → ltb left 5 ≡ b → bytes_of_head (pick b Stop (pick (eqb kind 83) (Seal n)
         (pick (ltb (left - 5) n) Stop (pick (eqb kind 67) (Capture n) (pick (eqb kind 76) (Luma n) Stop))))) ≤ left
     a true g = omega arith
     a false g = s (eqb kind 83) (ltb-false left 5 g)
 
-fits-at : (script : List ℕ) (at : ℕ) (h : Head) → h ≡ headAt script at → bytesOfHead h ≤ length script - at
-unfolding bytesOfHead passageBy
+fits-at : (script : List ℕ) (at : ℕ) (h : Head) → h ≡ head_at script at → bytes_of_head h ≤ length script - at
+unfolding bytes_of_head passage_by
 fits-at script at h e = rw e (first (eqb (byte script at) 73))
   where
     left : ℕ
     left = length script - at
 
-    short-or : (b : Bool) (m n : ℕ) → bytesOfHead (pick b Stop (Repeats m n)) ≤ left
+    short-or : (b : Bool) (m n : ℕ) → bytes_of_head (pick b Stop (Repeats m n)) ≤ left
     short-or true m n = omega arith
     short-or false m n = omega arith
 
     second : (b : Bool) →
-        bytesOfHead
-        (pick b (passageBy left (word32 script (at + 1)) (word32 script (at + 5)))
-        (headBy left (byte script at) (word32 script (at + 1)))) ≤
+        bytes_of_head
+        (pick b (passage_by left (word32 script (at + 1)) (word32 script (at + 5)))
+        (head_by left (byte script at) (word32 script (at + 1)))) ≤
         left
     second true = short-or (ltb left 9) _ _
     second false = fits left _ _
 
     first : (b : Bool) →
-        bytesOfHead
+        bytes_of_head
         (pick b Index
-        (pick (eqb (byte script at) 82) (passageBy left (word32 script (at + 1)) (word32 script (at + 5)))
-        (headBy left (byte script at) (word32 script (at + 1))))) ≤
+        (pick (eqb (byte script at) 82) (passage_by left (word32 script (at + 1)) (word32 script (at + 5)))
+        (head_by left (byte script at) (word32 script (at + 1))))) ≤
         left
     first true = omega arith
     first false = second (eqb (byte script at) 82)
 
-pub fits-capture : (script : List ℕ) (at n : ℕ) → Capture n ≡ headAt script at → 5 + n ≤ length script - at
-unfolding bytesOfHead
+pub fits-capture : (script : List ℕ) (at n : ℕ) → Capture n ≡ head_at script at → 5 + n ≤ length script - at
+unfolding bytes_of_head
 fits-capture script at n e = fits-at script at (Capture n) e
 
-pub fits-luma : (script : List ℕ) (at n : ℕ) → Luma n ≡ headAt script at → 5 + n ≤ length script - at
-unfolding bytesOfHead
+pub fits-luma : (script : List ℕ) (at n : ℕ) → Luma n ≡ head_at script at → 5 + n ≤ length script - at
+unfolding bytes_of_head
 fits-luma script at n e = fits-at script at (Luma n) e
 
 -- ---- the calls from a place on
 
 pub calls-on : (f : ℕ) (script : List ℕ) (at : ℕ) → at < length script → length script ≤ at + f →
-    (g : ℕ) × (f ≡ suc g) × (callsBy f script at ≡ callsWith (headAt script at) script at (callsBy g script))
-unfolding callsBy
+    (g : ℕ) × (f ≡ suc g) × (calls_by f script at ≡ calls_with (head_at script at) script at (calls_by g script))
+unfolding calls_by
 calls-on zero script at h e = absurd (omega arith)
 calls-on (suc g) script at h e = (g, refl, refl)
 
-pub calls-end : (f : ℕ) (script : List ℕ) (at : ℕ) → length script ≤ at → callsBy f script at ≡ []
-unfolding callsBy
+pub calls-end : (f : ℕ) (script : List ℕ) (at : ℕ) → length script ≤ at → calls_by f script at ≡ []
+unfolding calls_by
 calls-end zero script at h = refl
 calls-end (suc f) script at h =
     let none : byte script at ≡ 0 = get_or-eq_default script 0 h in
@@ -129,7 +129,7 @@ room-append [] ds = omega arith
 room-append (c ∷ cs) ds = let i = room-append cs ds in omega arith
 
 pub no_call : (h : Head) (script : List ℕ) (at : ℕ) (more : ℕ → List Call) → size_of h ≡ 0 →
-    callsWith h script at more ≡ []
+    calls_with h script at more ≡ []
 no_call Stop script at more z = refl
 no_call (Capture n) script at more z = absurd (omega arith)
 no_call (Luma n) script at more z = absurd (omega arith)
@@ -137,7 +137,7 @@ no_call (Seal n) script at more z = absurd (omega arith)
 no_call Index script at more z = absurd (omega arith)
 no_call (Repeats a b) script at more z = absurd (omega arith)
 
-pub takes : (h : Head) (script : List ℕ) (at : ℕ) (more : ℕ → List Call) → size_of h ≤ room (callsWith h script at more)
+pub takes : (h : Head) (script : List ℕ) (at : ℕ) (more : ℕ → List Call) → size_of h ≤ room (calls_with h script at more)
 unfolding room
 takes Stop script at more = omega arith
 takes (Capture n) script at more = omega arith
@@ -155,7 +155,7 @@ next-on Index at = omega arith
 next-on (Repeats a b) at = omega arith
 
 takes-on : (h : Head) (script : List ℕ) (at : ℕ) (more : ℕ → List Call) → 0 < size_of h →
-    room (callsWith h script at more) ≡ size_of h + room (more (next_of h at))
+    room (calls_with h script at more) ≡ size_of h + room (more (next_of h at))
 unfolding room
 takes-on Stop script at more z = absurd (omega arith)
 takes-on (Capture n) script at more z = refl
@@ -168,7 +168,7 @@ takes-on (Repeats a b) script at more z = refl
 pub record Taken (script : List ℕ) (at to : ℕ) : Type 0 where
   pub fuel : ℕ
   pub enough : length script ≤ at + fuel
-  pub sum : room_for script ≡ to + room (callsBy fuel script at)
+  pub sum : room_for script ≡ to + room (calls_by fuel script at)
 
 pub taken_start : (script : List ℕ) → Taken script 20 17
 unfolding calls_of
@@ -182,29 +182,29 @@ module _ (script : List ℕ) (at to most : ℕ) (f : Taken script at to) (below 
       let z : room_for script ≡ to + 0 = f.sum ∙ rw e in sym (le-leb (room_for script) most (omega arith))
 
   module _ (inside : at < length script) where
-    pub taken-stop : size_of (headAt script at) ≡ 0 → true ≡ leb (room_for script) most
+    pub taken-stop : size_of (head_at script at) ≡ 0 → true ≡ leb (room_for script) most
     unfolding room
     taken-stop z =
         let s = calls-on f.fuel script at inside f.enough in
         let e : room_for script ≡ to + 0 =
-        f.sum ∙ rw (s.2, no_call (headAt script at) script at (callsBy s.0 script) z) in
+        f.sum ∙ rw (s.2, no_call (head_at script at) script at (calls_by s.0 script) z) in
         sym (le-leb (room_for script) most (omega arith))
 
-    pub taken-full : most - to < size_of (headAt script at) → false ≡ leb (room_for script) most
+    pub taken-full : most - to < size_of (head_at script at) → false ≡ leb (room_for script) most
     taken-full less =
         let s = calls-on f.fuel script at inside f.enough in
-        let e : room_for script ≡ to + room (callsWith (headAt script at) script at (callsBy s.0 script)) =
+        let e : room_for script ≡ to + room (calls_with (head_at script at) script at (calls_by s.0 script)) =
         f.sum ∙ rw s.2 in
-        sym (lt-leb (room_for script) most (omega (arith, takes (headAt script at) script at (callsBy s.0 script))))
+        sym (lt-leb (room_for script) most (omega (arith, takes (head_at script at) script at (calls_by s.0 script))))
 
-    pub taken-on : 0 < size_of (headAt script at) →
-        Taken script (next_of (headAt script at) at) (to + size_of (headAt script at))
+    pub taken-on : 0 < size_of (head_at script at) →
+        Taken script (next_of (head_at script at) at) (to + size_of (head_at script at))
     taken-on some =
         let s = calls-on f.fuel script at inside f.enough in
-        let h = headAt script at in
-        let e : room_for script ≡ to + room (callsWith h script at (callsBy s.0 script)) = f.sum ∙ rw s.2 in
+        let h = head_at script at in
+        let e : room_for script ≡ to + room (calls_with h script at (calls_by s.0 script)) = f.sum ∙ rw s.2 in
         record {
           fuel = s.0;
           enough = omega (arith, s.1, f.enough, next-on h at);
-          sum = omega (arith, e, takes-on h script at (callsBy s.0 script) some);
+          sum = omega (arith, e, takes-on h script at (calls_by s.0 script) some);
         }

@@ -2,7 +2,7 @@
 use Rattle.std.specs.Prelude.{ℕ, zero, suc, ◌+◌, ◌-◌, List, [], ◌∷◌, ltb, eqb, length, take, drop, replicate}
 use Rattle.rules.specs.declared.Opening.{Opening}
 use Rattle.rules.specs.Bytes.{pick, byte, word32}
-use Rattle.rules.specs.Calls.{Question, seal, index, repeats, Call, feedCapture, feedLuma, ask}
+use Rattle.rules.specs.Calls.{Question, seal, index, repeats, Call, feed_capture, feed_luma, ask}
 use Rattle.replay_script.specs.declared.Head.{Head}
 use Rattle.replay_script.specs.declared.Head.TheVariants.{Stop, Capture, Luma, Seal, Index, Repeats}
 
@@ -13,8 +13,8 @@ unfoldable pub word_at : List ℕ → ℕ → ℕ
 word_at script at = pick (ltb (length script) (at + 4)) 0 (word32 script at)
 
 -- W, H, d, PID and the rule edition
-abbrev pub openingOf : List ℕ → Opening
-openingOf script =
+abbrev pub opening_of : List ℕ → Opening
+opening_of script =
     record {
       width = word_at script 0;
       height = word_at script 4;
@@ -25,57 +25,57 @@ openingOf script =
 
 -- the call that begins with the byte `kind` and the length n, where `left` bytes of the script are left, those five
 -- among them: S, C, L
-unfoldable pub headBy : ℕ → ℕ → ℕ → Head
-headBy left kind n =
+unfoldable pub head_by : ℕ → ℕ → ℕ → Head
+head_by left kind n =
     pick (ltb left 5) Stop (pick (eqb kind 83) (Seal n)
     (pick (ltb (left - 5) n) Stop (pick (eqb kind 67) (Capture n) (pick (eqb kind 76) (Luma n) Stop))))
 
 -- the call that begins with R and the words a and b, where `left` bytes of the script are left, those nine among them
-unfoldable pub passageBy : ℕ → ℕ → ℕ → Head
-passageBy left a b = pick (ltb left 9) Stop (Repeats a b)
+unfoldable pub passage_by : ℕ → ℕ → ℕ → Head
+passage_by left a b = pick (ltb left 9) Stop (Repeats a b)
 
 -- the head that the script has at a place: I is a call by itself, R has two words
-abbrev pub headAt : List ℕ → ℕ → Head
-headAt script at =
+abbrev pub head_at : List ℕ → ℕ → Head
+head_at script at =
     pick (eqb (byte script at) 73) Index
-    (pick (eqb (byte script at) 82) (passageBy (length script - at) (word32 script (at + 1)) (word32 script (at + 5)))
-    (headBy (length script - at) (byte script at) (word32 script (at + 1))))
+    (pick (eqb (byte script at) 82) (passage_by (length script - at) (word32 script (at + 1)) (word32 script (at + 5)))
+    (head_by (length script - at) (byte script at) (word32 script (at + 1))))
 
 -- the calls from a place on, of which the first has this head
-abbrev pub callsWith : Head → List ℕ → ℕ → (ℕ → List Call) → List Call
-callsWith Stop script at more = []
-callsWith (Capture n) script at more = feedCapture (take n (drop (at + 5) script)) ∷ more (at + 5 + n)
-callsWith (Luma n) script at more = feedLuma (take n (drop (at + 5) script)) ∷ more (at + 5 + n)
-callsWith (Seal n) script at more = ask (seal (replicate n 0xA5)) ∷ more (at + 5)
-callsWith Index script at more = ask index ∷ more (at + 1)
-callsWith (Repeats a b) script at more = ask (repeats a b) ∷ more (at + 9)
+abbrev pub calls_with : Head → List ℕ → ℕ → (ℕ → List Call) → List Call
+calls_with Stop script at more = []
+calls_with (Capture n) script at more = feed_capture (take n (drop (at + 5) script)) ∷ more (at + 5 + n)
+calls_with (Luma n) script at more = feed_luma (take n (drop (at + 5) script)) ∷ more (at + 5 + n)
+calls_with (Seal n) script at more = ask (seal (replicate n 0xA5)) ∷ more (at + 5)
+calls_with Index script at more = ask index ∷ more (at + 1)
+calls_with (Repeats a b) script at more = ask (repeats a b) ∷ more (at + 9)
 
 -- at most as many calls as the first number says
-unfoldable pub callsBy : ℕ → List ℕ → ℕ → List Call
-callsBy zero script at = []
-callsBy (suc f) script at = callsWith (headAt script at) script at (callsBy f script)
+unfoldable pub calls_by : ℕ → List ℕ → ℕ → List Call
+calls_by zero script at = []
+calls_by (suc f) script at = calls_with (head_at script at) script at (calls_by f script)
 
 -- a script has fewer calls than bytes
 unfoldable pub calls_of : List ℕ → List Call
-calls_of script = callsBy (length script) script 20
+calls_of script = calls_by (length script) script 20
 
 -- ---- the room of outcomes
 
 -- how many bytes a question's reply takes, and a call's outcome
-abbrev pub replyRoom : Question → ℕ
-replyRoom (seal buffer) = 17 + length buffer
-replyRoom index = 25
-replyRoom (repeats a b) = 17
+abbrev pub reply_room : Question → ℕ
+reply_room (seal buffer) = 17 + length buffer
+reply_room index = 25
+reply_room (repeats a b) = 17
 
-abbrev pub roomOf : Call → ℕ
-roomOf (feedCapture piece) = 17
-roomOf (feedLuma piece) = 17
-roomOf (ask q) = replyRoom q
+abbrev pub room_of : Call → ℕ
+room_of (feed_capture piece) = 17
+room_of (feed_luma piece) = 17
+room_of (ask q) = reply_room q
 
 -- how many the outcomes of all calls take
 unfoldable pub room : List Call → ℕ
 room [] = 0
-room (c ∷ cs) = roomOf c + room cs
+room (c ∷ cs) = room_of c + room cs
 
 -- the bytes that the opening's answer and the outcomes of all calls take
 abbrev pub room_for : List ℕ → ℕ

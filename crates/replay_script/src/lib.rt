@@ -5,7 +5,7 @@
 // stands, the list ends.
 ghost use Rattle.std.specs.Prelude.{◌≡◌, ◌+◌, ◌-◌, ◌<◌, ◌^◌, length, leb};
 ghost use Rattle.rules.specs.Bytes.{word32};
-ghost use Rattle.replay_script.specs.Script.{word_at, openingOf, headBy, passageBy, headAt};
+ghost use Rattle.replay_script.specs.Script.{word_at, opening_of, head_by, passage_by, head_at};
 ghost use Rattle.replay_script.specs.Script.{next_of, size_of, room_for};
 
 use rules::Opening;
@@ -39,7 +39,7 @@ fn word_at(script: &[u8], at: usize) -> u32
 }
 
 pub fn opening(script: &[u8]) -> Opening
-    ensures { result ≡ openingOf script.now }
+    ensures { result ≡ opening_of script.now }
 {
     let width = word_at(script, 0);
     let height = word_at(script, 4);
@@ -57,7 +57,7 @@ pub fn opening(script: &[u8]) -> Opening
 
 // The head of a call that has `left` bytes of the script left, itself among them.
 fn head_by(left: usize, kind: u8, n: u32) -> Head
-    ensures { result ≡ headBy left kind n }
+    ensures { result ≡ head_by left kind n }
 {
     if left < 5 {
         return Head::Stop;
@@ -80,7 +80,7 @@ fn head_by(left: usize, kind: u8, n: u32) -> Head
 // The head of a passage, behind its R.
 fn passage_at(script: &[u8], at: usize) -> Head
     requires { at < length script.now }
-    ensures { result ≡ passageBy (length script.now - at) (word32 script.now (at + 1))
+    ensures { result ≡ passage_by (length script.now - at) (word32 script.now (at + 1))
         (word32 script.now (at + 5)) }
 {
     if script.len() - at < 9 {
@@ -93,7 +93,7 @@ fn passage_at(script: &[u8], at: usize) -> Head
 
 pub fn head_at(script: &[u8], at: usize) -> Head
     requires { at < length script.now }
-    ensures { result ≡ headAt script.now at }
+    ensures { result ≡ head_at script.now at }
 {
     let kind = script[at];
     if kind == 73 {

@@ -10,7 +10,7 @@ use Rattle.rules.specs.declared.Answer.{Answer}
 use Rattle.rules.specs.declared.Answer.TheVariants.{Refused}
 use Rattle.rules.specs.Bytes.{within}
 use Rattle.rules.proofs.Laws.Lists.{both, inside}
-use Rattle.rules.specs.Rtp.{RtpLists, ordered, rtpUnitsIn, rtpUnits, goodLists, rtpFault, rtpAnswer, rtpBuffer, Read}
+use Rattle.rules.specs.Rtp.{RtpLists, ordered, rtp_units_in, rtp_units, good_lists, rtp_fault, rtp_answer, rtp_buffer, Read}
 use Rattle.rtp_units.specs.Units.{Told}
 
 pub record Good (s : List ℕ) (l : RtpLists) : Type 0 where
@@ -21,8 +21,8 @@ pub record Good (s : List ℕ) (l : RtpLists) : Type 0 where
   pub size : length l.size ≡ length s
 
 module _ (s : List ℕ) (l : RtpLists) where
-  pub good-lists : goodLists s l ≡ true → Good s l
-  unfolding goodLists
+  pub good-lists : good_lists s l ≡ true → Good s l
+  unfolding good_lists
   good-lists e =
       let n = length s in
       let b₁ = both _ (eqb (length l.size) n) e in
@@ -37,13 +37,13 @@ module _ (s : List ℕ) (l : RtpLists) where
         size = eqb-true (length l.size) n b₁.1;
       }
 
-  pub bad-lists : (buffer : List ℕ) (b : Bool) → b ≡ goodLists s l → b ≡ false → Read s l buffer (Refused 25 0) buffer
-  unfolding rtpAnswer rtpBuffer rtpFault
+  pub bad-lists : (buffer : List ℕ) (b : Bool) → b ≡ good_lists s l → b ≡ false → Read s l buffer (Refused 25 0) buffer
+  unfolding rtp_answer rtp_buffer rtp_fault
   bad-lists buffer b d e = record { told = rw (← d, e); left = rw (← d, e) }
 
-  pub as-told : (rows buffer after : List ℕ) (r : Answer) → goodLists s l ≡ true → rows ≡ ordered s →
-      Told (rtpUnitsIn l rows) buffer r after →
+  pub as-told : (rows buffer after : List ℕ) (r : Answer) → good_lists s l ≡ true → rows ≡ ordered s →
+      Told (rtp_units_in l rows) buffer r after →
       Read s l buffer r after
-  unfolding rtpAnswer rtpBuffer rtpFault rtpUnits
+  unfolding rtp_answer rtp_buffer rtp_fault rtp_units
   as-told rows buffer after r e is-rows t =
       record { told = t.told ∙ rw (e, is-rows); left = t.left ∙ rw (e, is-rows) }

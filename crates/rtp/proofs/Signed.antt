@@ -9,7 +9,7 @@ use lib.Dec.{ltb}
 use lib.IntN.{ℤ, pos, neg_ℤ, ◌+ℤ◌, ◌-ℤ◌, +ℤ_assoc, +ℤ_comm, +ℤ-neg_ℤ_cancel, pos-+ℤ-pos}
 use borrow.Author.Tests.{ltb-false}
 use Rattle.rules.specs.Bytes.{pick}
-use Rattle.rules.specs.Rtp.{wrapped, moved, origin, placesAfter, places, signed, signedAfter, signedPlaces}
+use Rattle.rules.specs.Rtp.{wrapped, moved, origin, places_after, places, signed, signed_after, signed_places}
 use Rattle.rules.specs.Rtp.{PlacesAreSigned}
 use Rattle.rtp_order.proofs.Firsts.{moved-low}
 
@@ -44,8 +44,8 @@ step p d o h k = go (ltb d 32768) refl
 -- ---- all rows
 
 after : (o : ℤ) (p b : ℕ) (ss : List ℕ) → 32768 * length ss ≤ p →
-    map (λ (x : ℕ). pos x -ℤ o) (placesAfter p b ss) ≡ signedAfter (pos p -ℤ o) b ss
-unfolding placesAfter signedAfter
+    map (λ (x : ℕ). pos x -ℤ o) (places_after p b ss) ≡ signed_after (pos p -ℤ o) b ss
+unfolding places_after signed_after
 after o p b [] h = refl
 after o p b (s ∷ ss) h =
     let d = wrapped s b in
@@ -58,6 +58,6 @@ first n s =
     ap (λ (z : ℤ). z -ℤ pos n) (sym (pos-+ℤ-pos n s) ∙ +ℤ_comm (pos n) (pos s)) ∙ +ℤ-neg_ℤ_cancel (pos s) (pos n)
 
 pub places-signed : PlacesAreSigned
-unfolding places signedPlaces
+unfolding places signed_places
 places-signed [] h = refl
 places-signed (s ∷ ss) h = cc (first origin s, after (pos origin) (origin + s) s ss (omega arith))

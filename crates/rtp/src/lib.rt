@@ -1,14 +1,14 @@
 // Units of RTP packets, which come without cells: lists that are as they should be, rows in order (`rtp_order`), units
 // behind markers (`rtp_units`).
 ghost use Rattle.std.specs.Prelude.{◌≡◌, true, ◌≤◌, length};
-ghost use Rattle.rules.specs.Rtp.{rtpLists, goodLists, Read};
+ghost use Rattle.rules.specs.Rtp.{rtp_lists, good_lists, Read};
 
 use rules::Answer;
 
 // Whether there are 1 to 4,096 rows and the lists are equally long.
 fn good_lists(sequence: &[u16], marker: &[u8], time: &[u64], size: &[u16]) -> bool
-    ensures { result ≡ goodLists sequence.now
-        (rtpLists marker.now time.now size.now) }
+    ensures { result ≡ good_lists sequence.now
+        (rtp_lists marker.now time.now size.now) }
 {
     let n = sequence.len();
     ((1 <= n) & (n <= 4096)) & (marker.len() == n) & (time.len() == n) & (size.len() == n)
@@ -24,10 +24,10 @@ fn read_good(
     spare: &mut [u64],
     buffer: &mut [u8],
 ) -> Answer
-    requires size_value { goodLists sequence.now (rtpLists marker.now time.now size.now) ≡ true }
+    requires size_value { good_lists sequence.now (rtp_lists marker.now time.now size.now) ≡ true }
     requires in_bounds { (4096 ≤ length rows.old) × (4096 ≤ length spare.old) }
     ensures { Read sequence.now
-        (rtpLists marker.now time.now size.now)
+        (rtp_lists marker.now time.now size.now)
         buffer.old result buffer.new }
 {
     let n = sequence.len();
@@ -44,7 +44,7 @@ pub fn read(
     buffer: &mut [u8],
 ) -> Answer
     ensures { Read sequence.now
-        (rtpLists marker.now time.now size.now)
+        (rtp_lists marker.now time.now size.now)
         buffer.old result buffer.new }
 {
     if !good_lists(sequence, marker, time, size) {

@@ -3,8 +3,8 @@ use Rattle.std.proofs.Common.{◌≡◌, ℕ, suc, ◌+◌, ◌-◌, ◌*◌, �
 use borrow.Author.Tests.{eqb-false}
 use Rattle.rules.specs.Bytes.{pick, only, All, empty, and}
 use Rattle.rules.specs.Cuts.{insert, sorted}
-use Rattle.rules.specs.Rtp.{wrapped, moved, origin, placesAfter, places, row_at, place_of, rows_from, firsts, ordered}
-use Rattle.rtp_order.specs.Order.{Rises, nothing, before, newPlaces}
+use Rattle.rules.specs.Rtp.{wrapped, moved, origin, places_after, places, row_at, place_of, rows_from, firsts, ordered}
+use Rattle.rtp_order.specs.Order.{Rises, nothing, before, new_places}
 use Rattle.rtp_order.proofs.Order.{Side, low, high, side, insert-low, insert-high, insert-front, all-sorted}
 use Rattle.rtp_order.proofs.Order.{all_above, rises_sorted}
 
@@ -84,12 +84,12 @@ module _ (t : ℕ → Bool) where
 
 -- ---- new places
 
-new-same : (p z : ℕ) (l : List ℕ) → place_of z ≡ p → newPlaces p (z ∷ l) ≡ newPlaces p l
-unfolding newPlaces
+new-same : (p z : ℕ) (l : List ℕ) → place_of z ≡ p → new_places p (z ∷ l) ≡ new_places p l
+unfolding new_places
 new-same p z l e = rw (eq-eqb (place_of z) p e)
 
-new-other : (p z : ℕ) (l : List ℕ) → (place_of z ≡ p → ⊥) → newPlaces p (z ∷ l) ≡ z ∷ newPlaces (place_of z) l
-unfolding newPlaces
+new-other : (p z : ℕ) (l : List ℕ) → (place_of z ≡ p → ⊥) → new_places p (z ∷ l) ≡ z ∷ new_places (place_of z) l
+unfolding new_places
 new-other p z l e = rw (ne_eqb (place_of z) p e)
 
 -- of rows in order from z on, at place p or above, each new one is above
@@ -102,18 +102,18 @@ higher p a [] g empty = empty
 higher p a (y ∷ m) g (and f fs) = and {x = y} (omega arith) (higher p a m g fs)
 
 new-above : (p : ℕ) (l : List ℕ) → Rises l → All (λ (y : ℕ). p ≤ place_of y) l →
-    All (λ (y : ℕ). p < place_of y) (newPlaces p l)
-unfolding newPlaces
+    All (λ (y : ℕ). p < place_of y) (new_places p l)
+unfolding new_places
 new-above p [] nothing empty = empty
 new-above p (z ∷ l) (before k r) (and h hs) =
     go (same? (place_of z) p) (new-above p l r hs) (new-above (place_of z) l r (above (place_of z) z l (omega arith) k))
   where
-    go : Same (place_of z) p → All (λ (y : ℕ). p < place_of y) (newPlaces p l) →
-        All (λ (y : ℕ). place_of z < place_of y) (newPlaces (place_of z) l) →
-        All (λ (y : ℕ). p < place_of y) (newPlaces p (z ∷ l))
+    go : Same (place_of z) p → All (λ (y : ℕ). p < place_of y) (new_places p l) →
+        All (λ (y : ℕ). place_of z < place_of y) (new_places (place_of z) l) →
+        All (λ (y : ℕ). p < place_of y) (new_places p (z ∷ l))
     go (same e) m n = rw (new-same p z l e) m
     go (different e) m n =
-        rw (new-other p z l e) (and {x = z} (omega arith) (higher p (place_of z) (newPlaces (place_of z) l) h n))
+        rw (new-other p z l e) (and {x = z} (omega arith) (higher p (place_of z) (new_places (place_of z) l) h n))
 
 -- none of these has x's place
 keeps : (x : ℕ) (m : List ℕ) → All (λ (y : ℕ). place_of x < place_of y) m → only (other x) m ≡ m
@@ -124,13 +124,13 @@ keeps x (y ∷ m) (and h hs) =
     ∙ ap (λ (l : List ℕ). y ∷ l) (keeps x m hs)
 
 -- each new one is one of them
-pub all_new : {P : ℕ → Type 0} (p : ℕ) (l : List ℕ) → All P l → All P (newPlaces p l)
-unfolding newPlaces
+pub all_new : {P : ℕ → Type 0} (p : ℕ) (l : List ℕ) → All P l → All P (new_places p l)
+unfolding new_places
 all_new p [] empty = empty
 all_new {P} p (z ∷ l) (and h hs) = go (eqb (place_of z) p) (all_new p l hs) (all_new (place_of z) l hs)
   where
-    go : (b : Bool) → All P (newPlaces p l) → All P (newPlaces (place_of z) l) →
-        All P (pick b (newPlaces p l) (z ∷ newPlaces (place_of z) l))
+    go : (b : Bool) → All P (new_places p l) → All P (new_places (place_of z) l) →
+        All P (pick b (new_places p l) (z ∷ new_places (place_of z) l))
     go true m n = m
     go false m n = and h n
 
@@ -139,8 +139,8 @@ all_new {P} p (z ∷ l) (and h hs) = go (eqb (place_of z) p) (all_new p l hs) (a
 module _ (x p : ℕ) (g : p < place_of x) where
   -- of the rows from x on its place's go
   rest-new : (l : List ℕ) → Rises l → All (λ (y : ℕ). x ≤ y) l →
-      only (other x) (newPlaces p l) ≡ newPlaces (place_of x) l
-  unfolding newPlaces only
+      only (other x) (new_places p l) ≡ new_places (place_of x) l
+  unfolding new_places only
   rest-new [] nothing empty = refl
   rest-new (w ∷ l) (before k r) (and h hs) =
       new-other-only (same? (place_of w) (place_of x)) (above (place_of x) w l (omega arith) k)
@@ -148,43 +148,43 @@ module _ (x p : ℕ) (g : p < place_of x) where
     where
       new-other-only : Same (place_of w) (place_of x) → All (λ (y : ℕ). place_of x ≤ place_of y) l →
           All (λ (y : ℕ). place_of w ≤ place_of y) l →
-          only (other x) (newPlaces p (w ∷ l)) ≡ newPlaces (place_of x) (w ∷ l)
+          only (other x) (new_places p (w ∷ l)) ≡ new_places (place_of x) (w ∷ l)
       new-other-only (same e) a b =
           rw (
             new-other p w l (λ d. omega arith),
             new-same (place_of x) w l e,
             only_no (other x) w
-                (newPlaces (place_of w) l) (rw (eq-eqb (place_of w) (place_of x) e)),
+                (new_places (place_of w) l) (rw (eq-eqb (place_of w) (place_of x) e)),
             e,
           )
-          (keeps x (newPlaces (place_of x) l) (new-above (place_of x) l r a))
+          (keeps x (new_places (place_of x) l) (new-above (place_of x) l r a))
       new-other-only (different e) a b =
           rw (
             new-other p w l (λ d. omega arith),
             new-other (place_of x) w l e,
             only_yes (other x) w
-                (newPlaces (place_of w) l) (rw (ne_eqb (place_of w) (place_of x) e)),
+                (new_places (place_of w) l) (rw (ne_eqb (place_of w) (place_of x) e)),
           )
-          (ap (λ (m : List ℕ). w ∷ m) (keeps x (newPlaces (place_of w) l)
-          (higher (place_of x) (place_of w) (newPlaces (place_of w) l) (omega arith) (new-above (place_of w) l r b))))
+          (ap (λ (m : List ℕ). w ∷ m) (keeps x (new_places (place_of w) l)
+          (higher (place_of x) (place_of w) (new_places (place_of w) l) (omega arith) (new-above (place_of w) l r b))))
 
   front : (l : List ℕ) → Rises l → All (λ (y : ℕ). x ≤ y) l →
-      x ∷ newPlaces (place_of x) l ≡ insert x (only (other x) (newPlaces p l))
+      x ∷ new_places (place_of x) l ≡ insert x (only (other x) (new_places p l))
   front l r h =
-      sym (insert-front x (only (other x) (newPlaces p l)) (all-only (other x) (newPlaces p l) (all_new p l h))
+      sym (insert-front x (only (other x) (new_places p l)) (all-only (other x) (new_places p l) (all_new p l h))
       ∙ ap (λ (m : List ℕ). x ∷ m) (rest-new l r h))
 
 new-insert : (x p : ℕ) (l : List ℕ) → Rises l → All (Later x) l → p < place_of x →
-    newPlaces p (insert x l) ≡ insert x (only (other x) (newPlaces p l))
-unfolding newPlaces only insert
+    new_places p (insert x l) ≡ insert x (only (other x) (new_places p l))
+unfolding new_places only insert
 new-insert x p [] nothing empty g = new-other p x [] (λ d. omega arith)
 new-insert x p (w ∷ l) (before k r) (and h hs) g =
     go (side x w) (same? (place_of w) p) (new-insert x p l r hs g) (λ f. new-insert x (place_of w) l r hs f)
   where
-    go : Side x w → Same (place_of w) p → newPlaces p (insert x l) ≡ insert x (only (other x) (newPlaces p l)) →
-        (place_of w < place_of x → newPlaces (place_of w) (insert x l)
-        ≡ insert x (only (other x) (newPlaces (place_of w) l))) →
-        newPlaces p (insert x (w ∷ l)) ≡ insert x (only (other x) (newPlaces p (w ∷ l)))
+    go : Side x w → Same (place_of w) p → new_places p (insert x l) ≡ insert x (only (other x) (new_places p l)) →
+        (place_of w < place_of x → new_places (place_of w) (insert x l)
+        ≡ insert x (only (other x) (new_places (place_of w) l))) →
+        new_places p (insert x (w ∷ l)) ≡ insert x (only (other x) (new_places p (w ∷ l)))
     go (low a) b m n =
         rw (insert-low x w l a) (new-other p x (w ∷ l) (λ d. omega arith)
         ∙ front x p g (w ∷ l) (before k r) (and a (all_above x w l a k)))
@@ -196,8 +196,8 @@ new-insert x p (w ∷ l) (before k r) (and h hs) g =
           insert-high x w l a,
           new-other p w (insert x l) e,
           new-other p w l e,
-          only_yes (other x) w (newPlaces (place_of w) l) (rw (ne_eqb (place_of w) (place_of x) apart)),
-          insert-high x w (only (other x) (newPlaces (place_of w) l)) a,
+          only_yes (other x) w (new_places (place_of w) l) (rw (ne_eqb (place_of w) (place_of x) apart)),
+          insert-high x w (only (other x) (new_places (place_of w) l)) a,
         ) (ap (λ (q : List ℕ). w ∷ q) (n below))
       where
         strict : Side (place_of x) (place_of w) → (place_of w ≡ place_of x → ⊥) → place_of w < place_of x
@@ -211,8 +211,8 @@ data Arrived : List ℕ → Type 0 where
   none : Arrived []
   one : {x : ℕ} {xs : List ℕ} → 0 < place_of x → All (Later x) xs → Arrived xs → Arrived (x ∷ xs)
 
-new-firsts : (rs : List ℕ) → Arrived rs → newPlaces 0 (sorted rs) ≡ sorted (firsts rs)
-unfolding newPlaces sorted firsts
+new-firsts : (rs : List ℕ) → Arrived rs → new_places 0 (sorted rs) ≡ sorted (firsts rs)
+unfolding new_places sorted firsts
 new-firsts [] none = refl
 new-firsts (x ∷ xs) (one g h a) =
     new-insert x 0 (sorted xs) (rises_sorted xs) (all-sorted xs h) g
@@ -240,8 +240,8 @@ moved-low place d n h k = go (ltb d 32768) refl
     go false e = omega (arith, ltb-false d 32768 e)
 
 places-after : (place b : ℕ) (ss : List ℕ) → 32768 * length ss < place →
-    All (λ (p : ℕ). 0 < p) (placesAfter place b ss)
-unfolding placesAfter
+    All (λ (p : ℕ). 0 < p) (places_after place b ss)
+unfolding places_after
 places-after place b [] h = empty
 places-after place b (s ∷ ss) h =
     let down : 32768 * length ss + 1 ≤ moved place (wrapped s b) =
@@ -253,18 +253,18 @@ unfolding places
 places-some [] h = empty
 places-some (s ∷ ss) h = and {x = origin + s} (omega arith) (places-after (origin + s) s ss (omega arith))
 
-length-placesAfter : (place b : ℕ) (ss : List ℕ) → length (placesAfter place b ss) ≡ length ss
-unfolding placesAfter
-length-placesAfter place b [] = refl
-length-placesAfter place b (s ∷ ss) = ap suc (length-placesAfter (moved place (wrapped s b)) s ss)
+length-places_after : (place b : ℕ) (ss : List ℕ) → length (places_after place b ss) ≡ length ss
+unfolding places_after
+length-places_after place b [] = refl
+length-places_after place b (s ∷ ss) = ap suc (length-places_after (moved place (wrapped s b)) s ss)
 
 pub length-places : (s : List ℕ) → length (places s) ≡ length s
 unfolding places
 length-places [] = refl
-length-places (s ∷ ss) = ap suc (length-placesAfter (origin + s) s ss)
+length-places (s ∷ ss) = ap suc (length-places_after (origin + s) s ss)
 
 -- the rows in order, without those of a place that stood before, are the rows that stay, in their order
-pub new-ordered : (s : List ℕ) → length s ≤ 4096 → newPlaces 0 (sorted (rows_from 0 (places s))) ≡ ordered s
+pub new-ordered : (s : List ℕ) → length s ≤ 4096 → new_places 0 (sorted (rows_from 0 (places s))) ≡ ordered s
 unfolding ordered
 new-ordered s h =
     new-firsts (rows_from 0 (places s)) (rows-arrived 0 (places s) (omega (arith, length-places s)) (places-some s h))

@@ -2,25 +2,25 @@
 use Rattle.std.proofs.Common.{ℕ, ◌+◌, ◌*◌, ◌<◌, ◌≤◌, Bool, true, false, eqb, List, [], ◌∷◌, length, get_or, arith}
 use Rattle.rules.specs.Bytes.{pick, All, empty, and}
 use Rattle.rules.specs.Cuts.{sorted}
-use Rattle.rules.specs.Rtp.{wrapped, moved, origin, placesAfter, places, place_of, row_at, rows_from, ordered}
-use Rattle.rtp_order.specs.Order.{Rises, nothing, before, newPlaces, RowOf, Stayed}
+use Rattle.rules.specs.Rtp.{wrapped, moved, origin, places_after, places, place_of, row_at, rows_from, ordered}
+use Rattle.rtp_order.specs.Order.{Rises, nothing, before, new_places, RowOf, Stayed}
 use Rattle.rtp_order.proofs.Order.{all-sorted, rises_sorted}
 use Rattle.rtp_order.proofs.Firsts.{all_new, new-ordered, length-places}
 use Rattle.rtp_order.proofs.Rows.{moved-high}
 
-rises-new : (p : ℕ) (xs : List ℕ) → Rises xs → Rises (newPlaces p xs)
-unfolding newPlaces
+rises-new : (p : ℕ) (xs : List ℕ) → Rises xs → Rises (new_places p xs)
+unfolding new_places
 rises-new p [] nothing = nothing
 rises-new p (x ∷ xs) (before k r) = go (eqb (place_of x) p) (rises-new p xs r) (rises-new (place_of x) xs r)
   where
-    go : (b : Bool) → Rises (newPlaces p xs) → Rises (newPlaces (place_of x) xs) →
-        Rises (pick b (newPlaces p xs) (x ∷ newPlaces (place_of x) xs))
+    go : (b : Bool) → Rises (new_places p xs) → Rises (new_places (place_of x) xs) →
+        Rises (pick b (new_places p xs) (x ∷ new_places (place_of x) xs))
     go true m n = m
     go false m n = before (all_new (place_of x) xs k) n
 
 places-high : (place b : ℕ) (ss : List ℕ) → place + 32767 * length ss < 536870912 →
-    All (λ (p : ℕ). p < 536870912) (placesAfter place b ss)
-unfolding placesAfter
+    All (λ (p : ℕ). p < 536870912) (places_after place b ss)
+unfolding places_after
 places-high place b [] h = empty
 places-high place b (s ∷ ss) h =
     let up : moved place (wrapped s b) ≤ place + 32767 =

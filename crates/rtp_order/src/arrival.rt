@@ -1,6 +1,6 @@
 // Rows in arrival order: a place for each, from sequence numbers that wrap.
 ghost use Rattle.std.specs.Prelude.{◌≡◌, ◌<◌, ◌≤◌, length};
-ghost use Rattle.rules.specs.Rtp.{wrapped, moved as ruleMoved, places, rows_from};
+ghost use Rattle.rules.specs.Rtp.{wrapped, moved as rule_moved, places, rows_from};
 
 fn wide(x: u16) -> u64
     ensures { result ≡ x }
@@ -11,7 +11,7 @@ fn wide(x: u16) -> u64
 // The place of a row, from those of the row before: the sequence numbers' difference wraps and is read as signed.
 fn moved(place: u64, next: u16, last: u16) -> u64
     requires { (65536 ≤ place) × (place < 1073741824) }
-    ensures { result ≡ ruleMoved place (wrapped next last) }
+    ensures { result ≡ rule_moved place (wrapped next last) }
 {
     let d = std::num::wrapping_sub_u16(next, last);
     if d < 32768 {

@@ -2,13 +2,13 @@
 use Rattle.std.specs.Prelude.{ℕ, ◌+◌, ◌*◌, ◌≡◌, Bool, true, not, List, map, length, get_or, eqb}
 use Rattle.rules.specs.declared.UnitRow.{UnitRow}
 use Rattle.rules.specs.declared.Answer.{Answer}
-use Rattle.rules.specs.Bytes.{pick, smaller, larger, endToEnd}
-use Rattle.rules.specs.Record.{unitBytes}
-use Rattle.rules.specs.Seal.{noRoom, over}
-use Rattle.rules.specs.Rtp.{RtpLists, arrivalOf, rtpUnitsIn, answer_of, bufferOf}
+use Rattle.rules.specs.Bytes.{pick, smaller, larger, end_to_end}
+use Rattle.rules.specs.Record.{unit_bytes}
+use Rattle.rules.specs.Seal.{no_room, over}
+use Rattle.rules.specs.Rtp.{RtpLists, arrival_of, rtp_units_in, answer_of, buffer_of}
 
-abbrev pub noUnit : UnitRow
-noUnit = record { least = 0; greatest = 0; size = 0; packets = 0; lost = 0; damaged = 0 }
+abbrev pub no_unit : UnitRow
+no_unit = record { least = 0; greatest = 0; size = 0; packets = 0; lost = 0; damaged = 0 }
 
 -- a unit with one row more behind its others
 abbrev pub joined : UnitRow → ℕ → ℕ → ℕ → UnitRow
@@ -24,21 +24,21 @@ joined u time size missing =
 
 -- row i, in order, ends a unit: by its marker, or as the last
 abbrev pub ends_at : List ℕ → List ℕ → ℕ → Bool
-ends_at marker rows i = pick (not (eqb (get_or marker (arrivalOf (get_or rows i 0)) 0) 0)) true (eqb (i + 1) (length rows))
+ends_at marker rows i = pick (not (eqb (get_or marker (arrival_of (get_or rows i 0)) 0) 0)) true (eqb (i + 1) (length rows))
 
 -- so many units, whatever times and lengths are
 abbrev pub Counts : List ℕ → List ℕ → ℕ → Type 0
-Counts marker rows n = (l : RtpLists) → l.marker ≡ marker → n ≡ length (rtpUnitsIn l rows)
+Counts marker rows n = (l : RtpLists) → l.marker ≡ marker → n ≡ length (rtp_units_in l rows)
 
 -- unit rows end to end
-abbrev pub rowsBytes : List UnitRow → List ℕ
-rowsBytes us = endToEnd (map unitBytes us)
+abbrev pub rows_bytes : List UnitRow → List ℕ
+rows_bytes us = end_to_end (map unit_bytes us)
 
 -- they stand at a buffer's front, and nothing past them is altered
 abbrev pub Front : List UnitRow → List ℕ → List ℕ → Type 0
-Front us buffer after = after ≡ over (rowsBytes us) buffer
+Front us buffer after = after ≡ over (rows_bytes us) buffer
 
 -- what is answered of some units, and what their buffer holds then
 pub record Told (us : List UnitRow) (buffer : List ℕ) (r : Answer) (after : List ℕ) : Type 0 where
-  pub told : r ≡ answer_of (noRoom (length buffer) (32 * length us)) us
-  pub left : after ≡ bufferOf (noRoom (length buffer) (32 * length us)) us buffer
+  pub told : r ≡ answer_of (no_room (length buffer) (32 * length us)) us
+  pub left : after ≡ buffer_of (no_room (length buffer) (32 * length us)) us buffer

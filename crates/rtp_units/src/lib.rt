@@ -1,9 +1,9 @@
 // Units of rows in order: counted, made row by row, and written.
 ghost use Rattle.std.specs.Prelude.{◌≡◌, ◌+◌, ◌*◌, ◌%◌, ◌≤◌, ◌<◌, length};
 ghost use Rattle.rules.specs.Bytes.{larger};
-ghost use Rattle.rules.specs.Rtp.{missingAt, rtpLists, rtpUnitsIn};
+ghost use Rattle.rules.specs.Rtp.{missing_at, rtp_lists, rtp_units_in};
 ghost use Rattle.rtp_order.specs.Order.{Stayed};
-ghost use Rattle.rtp_units.specs.Units.{noUnit, joined as ruleJoined, ends_at, Counts, Front, Told};
+ghost use Rattle.rtp_units.specs.Units.{no_unit, joined as rule_joined, ends_at, Counts, Front, Told};
 
 use rules::{Answer, UnitRow};
 
@@ -16,7 +16,7 @@ fn number(row: u64) -> usize
 // How many places are missing just before row i, in order.
 fn missing(rows: &[u64], i: usize) -> u64
     requires { i < length rows.now }
-    ensures { result ≡ missingAt rows.now i }
+    ensures { result ≡ missing_at rows.now i }
 {
     if i == 0 {
         return 0;
@@ -59,7 +59,7 @@ fn count_units(marker: &[u8], rows: &[u64]) -> usize
 }
 
 fn least_of(u: UnitRow, time: u64) -> u64
-    ensures { result ≡ (ruleJoined u time 0 0).least }
+    ensures { result ≡ (rule_joined u time 0 0).least }
 {
     if u.packets == 0 {
         return time;
@@ -82,7 +82,7 @@ fn greatest_of(a: u64, b: u64) -> u64
 // A unit with one row more.
 fn joined(u: UnitRow, time: u64, size: u16, missing: u64) -> UnitRow
     requires { (u.size + size < 4294967296) × (u.packets + 1 < 4294967296) × (u.lost + missing < 4294967296) }
-    ensures { result ≡ ruleJoined u time size missing }
+    ensures { result ≡ rule_joined u time size missing }
 {
     UnitRow {
         least: least_of(u, time),
@@ -95,7 +95,7 @@ fn joined(u: UnitRow, time: u64, size: u16, missing: u64) -> UnitRow
 }
 
 fn no_unit() -> UnitRow
-    ensures { result ≡ noUnit }
+    ensures { result ≡ no_unit }
 {
     UnitRow {
         least: 0,
@@ -111,10 +111,10 @@ fn no_unit() -> UnitRow
 fn write_units(marker: &[u8], time: &[u64], size: &[u16], rows: &[u64], buffer: &mut [u8])
     requires time_len { (length time.now ≡ length marker.now) × (length size.now ≡ length marker.now) }
     requires rows_len_bound { (length rows.now ≤ 4096) × Stayed (length marker.now) rows.now }
-    requires rows_in_bounds { 32 * length (rtpUnitsIn (rtpLists marker.now time.now size.now) rows.now) ≤
+    requires rows_in_bounds { 32 * length (rtp_units_in (rtp_lists marker.now time.now size.now) rows.now) ≤
         length buffer.old }
     ensures { Front
-        (rtpUnitsIn (rtpLists marker.now time.now size.now) rows.now)
+        (rtp_units_in (rtp_lists marker.now time.now size.now) rows.now)
         buffer.old buffer.new }
 {
     let mut unit = no_unit();
@@ -144,7 +144,7 @@ pub fn put_units(
     requires time_len { (length time.now ≡ length marker.now) × (length size.now ≡ length marker.now) }
     requires rows_len_bound { (length rows.now ≤ 4096) × Stayed (length marker.now) rows.now }
     ensures { Told
-        (rtpUnitsIn (rtpLists marker.now time.now size.now) rows.now)
+        (rtp_units_in (rtp_lists marker.now time.now size.now) rows.now)
         buffer.old result buffer.new }
 {
     let units = count_units(marker, rows);

@@ -4,14 +4,14 @@ use mathlib.Core.Path.{◌≡◌, refl}
 use mathlib.Core.List.{List, [], ◌∷◌, ◌++◌, map}
 use lib.ListN.{replicate}
 use Rattle.rules.specs.declared.UnitRow.{UnitRow}
-use Rattle.rules.specs.Bytes.{pick, bytes_of, total, greatestOf, leastOf, only, table, endToEnd}
+use Rattle.rules.specs.Bytes.{pick, bytes_of, total, greatest_of, least_of, only, table, end_to_end}
 use Rattle.rules.specs.Cuts.{insert, sorted}
-use Rattle.rules.specs.Rtp.{RtpLists, rtpLists, origin, arrivalOf, placesAfter, places, rows_from, firsts}
+use Rattle.rules.specs.Rtp.{RtpLists, rtp_lists, origin, arrival_of, places_after, places, rows_from, firsts}
 use Rattle.rules.specs.Rtp.{ordered}
-use Rattle.rules.specs.Rtp.{missingAt, rtpRows, rtpGroups, rtpLeast, rtpUnit, rtpUnitsIn, rtpUnits}
-use Rattle.rules.specs.Rtp.{goodLists, rtpFault, rtpAnswer, rtpBuffer}
-use Rattle.rules.specs.Record.{unitBytes}
-use Rattle.rules.specs.Seal.{noRoom, over}
+use Rattle.rules.specs.Rtp.{missing_at, rtp_rows, rtp_groups, rtp_least, rtp_unit, rtp_units_in, rtp_units}
+use Rattle.rules.specs.Rtp.{good_lists, rtp_fault, rtp_answer, rtp_buffer}
+use Rattle.rules.specs.Record.{unit_bytes}
+use Rattle.rules.specs.Seal.{no_room, over}
 use Rattle.rules.proofs.Worked.{Case}
 use Rattle.rules.proofs.Samples.{told}
 
@@ -21,18 +21,18 @@ shown s = map (λ (p : ℕ). p + 100000 - origin) (places s)
 
 -- the numbers of the rows that stay, in their order
 stay : List ℕ → List ℕ
-stay s = map (λ (r : ℕ). arrivalOf r) (ordered s)
+stay s = map (λ (r : ℕ). arrival_of r) (ordered s)
 
 -- units: least and greatest time, size, cells, lost
 figures : List UnitRow → List ℕ
-figures us = endToEnd (map (λ u. u.least ∷ u.greatest ∷ u.size ∷ u.packets ∷ u.lost ∷ []) us)
+figures us = end_to_end (map (λ u. u.least ∷ u.greatest ∷ u.size ∷ u.packets ∷ u.lost ∷ []) us)
 
 one : RtpLists
-one = rtpLists (0 ∷ []) (5 ∷ []) (7 ∷ [])
+one = rtp_lists (0 ∷ []) (5 ∷ []) (7 ∷ [])
 
 -- rows of n zeros
 zeros : ℕ → RtpLists
-zeros n = rtpLists (replicate n 0) (replicate n 0) (replicate n 0)
+zeros n = rtp_lists (replicate n 0) (replicate n 0) (replicate n 0)
 
 pub streams : List Case
 streams =
@@ -50,40 +50,40 @@ streams =
     ∷ record {
       rule =
           figures
-          (rtpUnits (5 ∷ 7 ∷ 4 ∷ 5 ∷ [])
-          (rtpLists (0 ∷ 1 ∷ 0 ∷ 1 ∷ []) (50 ∷ 70 ∷ 40 ∷ 10 ∷ []) (100 ∷ 20 ∷ 3 ∷ 9 ∷ [])));
+          (rtp_units (5 ∷ 7 ∷ 4 ∷ 5 ∷ [])
+          (rtp_lists (0 ∷ 1 ∷ 0 ∷ 1 ∷ []) (50 ∷ 70 ∷ 40 ∷ 10 ∷ []) (100 ∷ 20 ∷ 3 ∷ 9 ∷ [])));
       paper = 40 ∷ 70 ∷ 123 ∷ 3 ∷ 1 ∷ [];
     }
     -- a unit ends at a marker or the last row; what is missing counts for the unit of the row behind it
     ∷ record {
-      rule = figures (rtpUnits (1 ∷ 4 ∷ 5 ∷ []) (rtpLists (2 ∷ 0 ∷ 0 ∷ []) (9 ∷ 8 ∷ 8 ∷ []) (1 ∷ 2 ∷ 3 ∷ [])));
+      rule = figures (rtp_units (1 ∷ 4 ∷ 5 ∷ []) (rtp_lists (2 ∷ 0 ∷ 0 ∷ []) (9 ∷ 8 ∷ 8 ∷ []) (1 ∷ 2 ∷ 3 ∷ [])));
       paper = 9 ∷ 9 ∷ 1 ∷ 1 ∷ 0 ∷ 8 ∷ 8 ∷ 5 ∷ 2 ∷ 2 ∷ [];
     }
     -- any marker but 0 is set
     ∷ record {
-      rule = figures (rtpUnits (1 ∷ 2 ∷ []) (rtpLists (256 ∷ 0 ∷ []) (3 ∷ 4 ∷ []) (5 ∷ 6 ∷ [])));
+      rule = figures (rtp_units (1 ∷ 2 ∷ []) (rtp_lists (256 ∷ 0 ∷ []) (3 ∷ 4 ∷ []) (5 ∷ 6 ∷ [])));
       paper = 3 ∷ 3 ∷ 5 ∷ 1 ∷ 0 ∷ 4 ∷ 4 ∷ 6 ∷ 1 ∷ 0 ∷ [];
     }
     -- refusals: no rows, unequal lists, above 4,096 rows; then a buffer too short
-    ∷ record { rule = told (rtpAnswer [] (rtpLists [] [] []) 0); paper = 25 ∷ 0 ∷ [] }
-    ∷ record { rule = told (rtpAnswer (1 ∷ 2 ∷ []) one 0); paper = 25 ∷ 0 ∷ [] }
+    ∷ record { rule = told (rtp_answer [] (rtp_lists [] [] []) 0); paper = 25 ∷ 0 ∷ [] }
+    ∷ record { rule = told (rtp_answer (1 ∷ 2 ∷ []) one 0); paper = 25 ∷ 0 ∷ [] }
     ∷ record {
-      rule = map (λ (n : ℕ). pick (goodLists (replicate n 0) (zeros n)) 0 25) (4096 ∷ 4097 ∷ []);
+      rule = map (λ (n : ℕ). pick (good_lists (replicate n 0) (zeros n)) 0 25) (4096 ∷ 4097 ∷ []);
       paper = 0 ∷ 25 ∷ [];
     }
-    ∷ record { rule = told (rtpAnswer (1 ∷ []) one 31); paper = 15 ∷ 32 ∷ [] }
-    ∷ record { rule = told (rtpAnswer (1 ∷ []) one 32); paper = 0 ∷ 1 ∷ [] }
+    ∷ record { rule = told (rtp_answer (1 ∷ []) one 31); paper = 15 ∷ 32 ∷ [] }
+    ∷ record { rule = told (rtp_answer (1 ∷ []) one 32); paper = 0 ∷ 1 ∷ [] }
     -- the row and behind it the bytes as they were; after a refusal all bytes as they were
     ∷ record {
-      rule = rtpBuffer (1 ∷ []) one (replicate 34 9);
+      rule = rtp_buffer (1 ∷ []) one (replicate 34 9);
       paper = bytes_of 8 5 ++ bytes_of 8 5 ++ bytes_of 4 7 ++ bytes_of 4 1 ++ bytes_of 4 0 ++ bytes_of 4 0 ++ (9 ∷ 9 ∷ []);
     }
-    ∷ record { rule = rtpBuffer (1 ∷ []) one (replicate 31 9); paper = replicate 31 9 }
+    ∷ record { rule = rtp_buffer (1 ∷ []) one (replicate 31 9); paper = replicate 31 9 }
     ∷ []
 
 -- the theorem: every entry's rule gives what document 02 says
 pub worked : map (λ (c : Case). c.rule) streams ≡ map (λ (c : Case). c.paper) streams
-unfolding streams shown stay figures one zeros placesAfter places rows_from firsts ordered missingAt rtpRows rtpGroups
-    rtpLeast rtpUnit rtpUnitsIn rtpUnits goodLists noRoom over rtpFault rtpAnswer rtpBuffer unitBytes bytes_of total
-    greatestOf leastOf only table endToEnd insert sorted
+unfolding streams shown stay figures one zeros places_after places rows_from firsts ordered missing_at rtp_rows rtp_groups
+    rtp_least rtp_unit rtp_units_in rtp_units good_lists no_room over rtp_fault rtp_answer rtp_buffer unit_bytes bytes_of total
+    greatest_of least_of only table end_to_end insert sorted
 worked = refl

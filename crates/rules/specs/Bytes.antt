@@ -48,14 +48,14 @@ abbrev pub apart : ℕ → ℕ → ℕ
 apart a b = (a - b) + (b - a)
 
 -- the greatest of some numbers, 0 of none
-unfoldable pub greatestOf : List ℕ → ℕ
-greatestOf [] = 0
-greatestOf (x ∷ xs) = larger x (greatestOf xs)
+unfoldable pub greatest_of : List ℕ → ℕ
+greatest_of [] = 0
+greatest_of (x ∷ xs) = larger x (greatest_of xs)
 
 -- the least of x and some further numbers
-unfoldable pub leastOf : ℕ → List ℕ → ℕ
-leastOf x [] = x
-leastOf x (y ∷ ys) = smaller x (leastOf y ys)
+unfoldable pub least_of : ℕ → List ℕ → ℕ
+least_of x [] = x
+least_of x (y ∷ ys) = smaller x (least_of y ys)
 
 module _ {ℓ} {A : Type ℓ} where
   -- how many pass a test
@@ -84,9 +84,9 @@ module _ {ℓ} {A : Type ℓ} where
   parts (suc n) m s = take m s ∷ parts n m (drop m s)
 
   -- parts laid end to end
-  unfoldable pub endToEnd : List (List A) → List A
-  endToEnd [] = []
-  endToEnd (x ∷ xs) = x ++ endToEnd xs
+  unfoldable pub end_to_end : List (List A) → List A
+  end_to_end [] = []
+  end_to_end (x ∷ xs) = x ++ end_to_end xs
 
 -- each of some has a property
 pub data All {A : Type 0} (P : A → Type 0) : List A → Type 0 where

@@ -9,5 +9,5 @@ pub record Boundary (k w c : ℕ) : Type 0 where
   pub least : (b : ℕ) → k * w ≤ 3 * b → c ≤ b
 
 -- how many of some boundaries are at or below c
-abbrev pub atOrBelow : ℕ → List ℕ → ℕ
-atOrBelow c bs = count (λ b. leb b c) bs
+abbrev pub at_or_below : ℕ → List ℕ → ℕ
+at_or_below c bs = count (λ b. leb b c) bs

@@ -4,7 +4,7 @@ use Rattle.std.specs.Prelude.{ℕ, suc, ◌+◌, ◌*◌, ◌≤◌, ◌<◌, �
 use Rattle.std.specs.Float.{binary64}
 use Rattle.std.specs.Float.Ieee.{round, add, sub, mul, lt, le, is_nan}
 use Rattle.rules.specs.Bytes.{pick, within, All}
-use Rattle.rules.specs.Refusals.{Fault, none, fault, unless, ◌orElse◌, answer}
+use Rattle.rules.specs.Refusals.{Fault, none, fault, unless, ◌or_else◌, answer}
 use Rattle.rules.specs.Index.{float}
 use Rattle.rules.specs.Scenes.{span}
 use Rattle.rules.specs.declared.Answer.{Answer}
@@ -34,10 +34,10 @@ pub record KeyFrameAt : Type 0 where
   pub probability : Float
 
 -- of the units from k on: those with probabilities above 0.01, and finally k = N with probability 1
-unfoldable pub keyFrames : ℕ → List Float → List KeyFrameAt
-keyFrames k [] = record { place = k; probability = one64 } ∷ []
-keyFrames k (p ∷ ps) =
-    let more = keyFrames (suc k) ps in
+unfoldable pub key_frames : ℕ → List Float → List KeyFrameAt
+key_frames k [] = record { place = k; probability = one64 } ∷ []
+key_frames k (p ∷ ps) =
+    let more = key_frames (suc k) ps in
     pick (lt hundredth p) (record { place = k; probability = p } ∷ more) more
 
 -- the part of a loss that ends before a key frame
@@ -56,85 +56,85 @@ shares rest (k ∷ ks) =
 -- ---- where it is added
 
 pub record Lists : Type 0 where
-  pub keyFrame : List Float
+  pub key_frame : List Float
   pub plain : List Float
 
 abbrev pub both : List Float → List Float → Lists
-both keyFrame plain = record { keyFrame = keyFrame; plain = plain }
+both key_frame plain = record { key_frame = key_frame; plain = plain }
 
 -- x is added at i to k − 1
-unfoldable pub addedAt : ℕ → ℕ → Float → List Float → List Float
-addedAt i k x ys = take i ys ++ map (λ y. add binary64 y x) (span i k ys) ++ drop k ys
+unfoldable pub added_at : ℕ → ℕ → Float → List Float → List Float
+added_at i k x ys = take i ys ++ map (λ y. add binary64 y x) (span i k ys) ++ drop k ys
 
 -- a key-frame loss where the unit's own probability exceeds 0.5
-unfoldable pub lossOf : Float → Float → Loss
-lossOf own amount = pick (lt half own) (KeyFrame amount) (Plain amount)
+unfoldable pub loss_of : Float → Float → Loss
+loss_of own amount = pick (lt half own) (KeyFrame amount) (Plain amount)
 
 -- a loss goes to the list of its kind
 abbrev pub put : ℕ → ℕ → Loss → Lists → Lists
-put i k (KeyFrame x) l = both (addedAt i k x l.keyFrame) l.plain
-put i k (Plain x) l = both l.keyFrame (addedAt i k x l.plain)
+put i k (KeyFrame x) l = both (added_at i k x l.key_frame) l.plain
+put i k (Plain x) l = both l.key_frame (added_at i k x l.plain)
 
 -- the parts of unit i's loss, each added at i up to its key frame
-unfoldable pub spreadLoss : ℕ → ℕ → Float → List Part → Lists → Lists
-spreadLoss i loss own [] l = l
-spreadLoss i loss own (p ∷ ps) l =
+unfoldable pub spread_loss : ℕ → ℕ → Float → List Part → Lists → Lists
+spread_loss i loss own [] l = l
+spread_loss i loss own (p ∷ ps) l =
     let amount = mul binary64 p.share (float loss) in
-    spreadLoss i loss own ps (put i p.before (lossOf own amount) l)
+    spread_loss i loss own ps (put i p.before (loss_of own amount) l)
 
 -- what unit i does to the lists, the units behind it having these probabilities; a loss above 0 has rest = 1
-unfoldable pub unitLoss : ℕ → ℕ → Float → List Float → Lists → Lists
-unitLoss i loss own later l =
-    pick (ltb 0 loss) (spreadLoss i loss own (shares one64 (keyFrames (suc i) later)) l) l
+unfoldable pub unit_loss : ℕ → ℕ → Float → List Float → Lists → Lists
+unit_loss i loss own later l =
+    pick (ltb 0 loss) (spread_loss i loss own (shares one64 (key_frames (suc i) later)) l) l
 
 -- the units from i on, upward
-unfoldable pub unitLosses : ℕ → List ℕ → List Float → Lists → Lists
-unitLosses i (n ∷ ns) (p ∷ ps) l = unitLosses (suc i) ns ps (unitLoss i n p ps l)
-unitLosses i (n ∷ ns) [] l = l
-unitLosses i [] ps l = l
+unfoldable pub unit_losses : ℕ → List ℕ → List Float → Lists → Lists
+unit_losses i (n ∷ ns) (p ∷ ps) l = unit_losses (suc i) ns ps (unit_loss i n p ps l)
+unit_losses i (n ∷ ns) [] l = l
+unit_losses i [] ps l = l
 
 -- both lists of n units, which are first set to zero
-unfoldable pub effectiveLoss : ℕ → List ℕ → List Float → Lists
-effectiveLoss n losses probabilities =
-    unitLosses 0 losses probabilities (both (replicate n zero64) (replicate n zero64))
+unfoldable pub effective_loss : ℕ → List ℕ → List Float → Lists
+effective_loss n losses probabilities =
+    unit_losses 0 losses probabilities (both (replicate n zero64) (replicate n zero64))
 
 -- ---- refusals 22 and 23, and what a call leaves
 
-unfoldable pub isProbability : Float → Bool
-isProbability p = le zero64 p && le p one64
+unfoldable pub is_probability : Float → Bool
+is_probability p = le zero64 p && le p one64
 
-unfoldable pub areProbabilities : List Float → Bool
-areProbabilities [] = true
-areProbabilities (p ∷ ps) = isProbability p && areProbabilities ps
+unfoldable pub are_probabilities : List Float → Bool
+are_probabilities [] = true
+are_probabilities (p ∷ ps) = is_probability p && are_probabilities ps
 
 -- N within 1 to 750, and four lists N long
-unfoldable pub goodLengths : ℕ → ℕ → ℕ → ℕ → ℕ → Bool
-goodLengths n a b c d = within 1 750 n && eqb a n && eqb b n && eqb c n && eqb d n
+unfoldable pub good_lengths : ℕ → ℕ → ℕ → ℕ → ℕ → Bool
+good_lengths n a b c d = within 1 750 n && eqb a n && eqb b n && eqb c n && eqb d n
 
 -- 22: the lengths; then 23: a probability not within 0 to 1
-unfoldable pub lossFault : ℕ → List ℕ → List Float → Lists → Fault
-lossFault n losses probabilities l =
-    unless (goodLengths n (length losses) (length probabilities) (length l.keyFrame) (length l.plain)) 22
-    or_else unless (areProbabilities probabilities) 23
+unfoldable pub loss_fault : ℕ → List ℕ → List Float → Lists → Fault
+loss_fault n losses probabilities l =
+    unless (good_lengths n (length losses) (length probabilities) (length l.key_frame) (length l.plain)) 22
+    or_else unless (are_probabilities probabilities) 23
 
 -- the answer is the refusal, or N
-unfoldable pub lossAnswer : ℕ → List ℕ → List Float → Lists → Answer
-lossAnswer n losses probabilities l = answer (lossFault n losses probabilities l) n
+unfoldable pub loss_answer : ℕ → List ℕ → List Float → Lists → Answer
+loss_answer n losses probabilities l = answer (loss_fault n losses probabilities l) n
 
-abbrev pub ifFilled : Fault → Lists → Lists → Lists
-ifFilled none new old = new
-ifFilled (fault k p) new old = old
+abbrev pub if_filled : Fault → Lists → Lists → Lists
+if_filled none new old = new
+if_filled (fault k p) new old = old
 
 -- the lists afterwards: filled, or after a refusal as they were
 unfoldable pub filled : ℕ → List ℕ → List Float → Lists → Lists
 filled n losses probabilities l =
-    let new = effectiveLoss n losses probabilities in
-    ifFilled (lossFault n losses probabilities l) new l
+    let new = effective_loss n losses probabilities in
+    if_filled (loss_fault n losses probabilities l) new l
 
 -- what a call promises of its answer and of both lists as they are afterwards
 pub record Filled (n : ℕ) (losses : List ℕ) (probabilities : List Float) (before : Lists)
     (r : Answer) (after : Lists) : Type 0 where
-  pub answer : r ≡ lossAnswer n losses probabilities before
+  pub answer : r ≡ loss_answer n losses probabilities before
   pub lists : after ≡ filled n losses probabilities before
 
 -- ---- what the laws say
@@ -149,28 +149,28 @@ pub record Sound (x : Float) : Type 0 where
 abbrev pub AlwaysSound : Type 0
 AlwaysSound =
     (n : ℕ) (losses : List ℕ) (probabilities : List Float) →
-    All (λ (loss : ℕ). loss < 2 ^ 32) losses → length probabilities ≤ 750 → areProbabilities probabilities ≡ true →
-    All Sound (effectiveLoss n losses probabilities).keyFrame
-    × All Sound (effectiveLoss n losses probabilities).plain
+    All (λ (loss : ℕ). loss < 2 ^ 32) losses → length probabilities ≤ 750 → are_probabilities probabilities ≡ true →
+    All Sound (effective_loss n losses probabilities).key_frame
+    × All Sound (effective_loss n losses probabilities).plain
 
 -- so after every call that is not refused
 abbrev pub CallsSound : Type 0
 CallsSound =
     (n : ℕ) (losses : List ℕ) (probabilities : List Float) (before : Lists) (m : ℕ) (after : Lists) →
     Filled n losses probabilities before (Done m) after → All (λ (loss : ℕ). loss < 2 ^ 32) losses →
-    All Sound after.keyFrame × All Sound after.plain
+    All Sound after.key_frame × All Sound after.plain
 
 -- without a loss both lists are zero
 abbrev pub WithoutLoss : Type 0
 WithoutLoss =
     (n : ℕ) (losses : List ℕ) (probabilities : List Float) → All (λ (loss : ℕ). loss ≡ 0) losses →
-    effectiveLoss n losses probabilities ≡ both (replicate n zero64) (replicate n zero64)
+    effective_loss n losses probabilities ≡ both (replicate n zero64) (replicate n zero64)
 
 -- from unit i on, each loss added as it is, at its own unit and at all units behind it
 unfoldable pub reaching : ℕ → List ℕ → List Float → List Float
 reaching i [] ys = ys
 reaching i (loss ∷ losses) ys =
-    let added = addedAt i (i + length (loss ∷ losses)) (float loss) ys in
+    let added = added_at i (i + length (loss ∷ losses)) (float loss) ys in
     reaching (suc i) losses (pick (ltb 0 loss) added ys)
 
 -- with every probability 0 each loss is a plain one, and reaches to the end in full
@@ -178,4 +178,4 @@ abbrev pub ToTheEnd : Type 0
 ToTheEnd =
     (losses : List ℕ) → All (λ (loss : ℕ). loss < 2 ^ 32) losses →
     let zeros = replicate (length losses) zero64 in
-    effectiveLoss (length losses) losses zeros ≡ both zeros (reaching 0 losses zeros)
+    effective_loss (length losses) losses zeros ≡ both zeros (reaching 0 losses zeros)

@@ -1,20 +1,20 @@
 -- Refusals: a number of the table of documents 01 and 02 with its place, and the answers that are made of them. Each
 -- number stands at the definition that gives it:
---   opening  1, 2, 3, 20  Opening.openingFault
---   capture  4 Capture.tooLong, 5 Capture.wrongMagic, 6 Capture.wrongLink, 7 and 8 Capture.wrongFrameHeader,
---            9 Capture.tooManyUnits (beginsAt)
---   luma     10 Pictures.lumaFault
---   seal     11 Seal.captureUnfinished, 12 Seal.noPacket, 13 Seal.lumaUnfinished, 14 Seal.noPicture, 15 Seal.noRoom
---   index    the opening's, 4 to 10, 12, 14: WhileFeeding.indexFault
---   passage  the opening's, then 26: Passage.repeatsFault
---   reading  16, 17, 18 Reading.readingFault, 19 Reading.rowFault
---   sheet    16, 17, 18, then 15: Sheet.sheetAnswer
---   survey   4 to 8, then 11, then 21: Survey.surveyFault (21 Survey.noGood)
---   losses   22 and 23 EffectiveLoss.lossFault
---   busiest  2, then 14 or 10: Busiest.mostFault; 1 before them: Busiest.busiestFault
---   gaps     24, then 15: GapRuns.gapFault
---   RTP      25, then 15: Rtp.rtpFault
---   shelf    27, 28: Shelf.shelfFault, then 19: Shelf.partFault
+--   opening  1, 2, 3, 20  Opening.opening_fault
+--   capture  4 Capture.too_long, 5 Capture.wrong_magic, 6 Capture.wrong_link, 7 and 8 Capture.wrong_frame_header,
+--            9 Capture.too_many_units (begins_at)
+--   luma     10 Pictures.luma_fault
+--   seal     11 Seal.capture_unfinished, 12 Seal.no_packet, 13 Seal.luma_unfinished, 14 Seal.no_picture, 15 Seal.no_room
+--   index    the opening's, 4 to 10, 12, 14: WhileFeeding.index_fault
+--   passage  the opening's, then 26: Passage.repeats_fault
+--   reading  16, 17, 18 Reading.reading_fault, 19 Reading.row_fault
+--   sheet    16, 17, 18, then 15: Sheet.sheet_answer
+--   survey   4 to 8, then 11, then 21: Survey.survey_fault (21 Survey.no_good)
+--   losses   22 and 23 EffectiveLoss.loss_fault
+--   busiest  2, then 14 or 10: Busiest.most_fault; 1 before them: Busiest.busiest_fault
+--   gaps     24, then 15: GapRuns.gap_fault
+--   RTP      25, then 15: Rtp.rtp_fault
+--   shelf    27, 28: Shelf.shelf_fault, then 19: Shelf.part_fault
 use Rattle.std.specs.Prelude.{ℕ, ◌≤◌, Bool, true, false}
 use Rattle.rules.specs.declared.Answer.{Answer}
 use Rattle.rules.specs.declared.Answer.TheVariants.{Done, Refused}
@@ -30,9 +30,9 @@ abbrev pub unless : Bool → ℕ → Fault
 unless true k = none
 unless false k = fault k 0
 
-infixr 20 ◌orElse◌
+infixr 20 ◌or_else◌
 -- the first that is one
-abbrev pub ◌orElse◌ : Fault → Fault → Fault
+abbrev pub ◌or_else◌ : Fault → Fault → Fault
 none or_else f = f
 fault k p or_else f = fault k p
 
@@ -45,13 +45,13 @@ answer (fault k p) n = Refused k p
 
 -- the last of them: 20 joined with document 02, R-2, 21 with R-4, 22 and 23 with R-8, 24 with R-10, 25 with
 -- R-11, 26 with R-12, 27 and 28 with R-13
-abbrev pub lastNumber : ℕ
-lastNumber = 28
+abbrev pub last_number : ℕ
+last_number = 28
 
 abbrev pub InTable : ℕ → Type 0
-InTable k = (1 ≤ k) × (k ≤ lastNumber)
+InTable k = (1 ≤ k) × (k ≤ last_number)
 
 -- a refusal's number. Those of the rules are in the table (proofs/Laws/Listed); a state that somebody else wrote on
 -- can hold another, and gets 18
 abbrev pub listed : ℕ → ℕ
-listed k = pick (within 1 lastNumber k) k 18
+listed k = pick (within 1 last_number k) k 18

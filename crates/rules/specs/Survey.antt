@@ -5,21 +5,21 @@ use Rattle.rules.specs.declared.Answer.{Answer}
 use Rattle.rules.specs.declared.SurveyAnswer.{SurveyAnswer}
 use Rattle.rules.specs.declared.SurveyAnswer.TheVariants.{Most, Refused}
 use Rattle.rules.specs.Bytes.{pick, count}
-use Rattle.rules.specs.Refusals.{Fault, none, fault, ◌orElse◌, answer}
-use Rattle.rules.specs.Packets.{Packet, packets, whole, condition, isGood, identifier}
-use Rattle.rules.specs.Capture.{allFrames, formatFault}
-use Rattle.rules.specs.Seal.{captureUnfinished}
+use Rattle.rules.specs.Refusals.{Fault, none, fault, ◌or_else◌, answer}
+use Rattle.rules.specs.Packets.{Packet, packets, whole, condition, is_good, identifier}
+use Rattle.rules.specs.Capture.{all_frames, format_fault}
+use Rattle.rules.specs.Seal.{capture_unfinished}
 
 -- ---- good packets
 
 -- how many of some packets are good and have this identifier. A damaged one is not good (document 02, R-6), whatever
 -- the edition
-unfoldable pub goodOf : List Packet → ℕ → ℕ
-goodOf ps id = count (λ p. isGood (condition p.bytes) && eqb (identifier p.bytes) id) ps
+unfoldable pub good_of : List Packet → ℕ → ℕ
+good_of ps id = count (λ p. is_good (condition p.bytes) && eqb (identifier p.bytes) id) ps
 
 -- how many good packets a capture has under this identifier: of the frames that carry, the packets that are whole
-unfoldable pub goodPackets : List ℕ → ℕ → ℕ
-goodPackets capture = goodOf (whole (packets 24 (allFrames capture)))
+unfoldable pub good_packets : List ℕ → ℕ → ℕ
+good_packets capture = good_of (whole (packets 24 (all_frames capture)))
 
 -- ---- the identifier with most
 
@@ -28,9 +28,9 @@ abbrev pub identifiers : ℕ
 identifiers = 8192
 
 -- of the identifiers below n: the one with most, the lowest among equals
-unfoldable pub withMost : (ℕ → ℕ) → ℕ → ℕ
-withMost counts zero = 0
-withMost counts (suc n) = let best = withMost counts n in pick (ltb (counts best) (counts n)) n best
+unfoldable pub with_most : (ℕ → ℕ) → ℕ → ℕ
+with_most counts zero = 0
+with_most counts (suc n) = let best = with_most counts n in pick (ltb (counts best) (counts n)) n best
 
 -- what that says (capture_laws/Survey shows it, and that no two have it): id is an identifier, none below n
 -- has more, and every lower one has fewer
@@ -42,55 +42,55 @@ pub record HasMost (counts : ℕ → ℕ) (n id : ℕ) : Type 0 where
 -- ---- answers
 
 -- of a feed of n bytes, after which the joined bytes are these: 4 to 8, or the length
-unfoldable pub surveyFeedAnswer : List ℕ → ℕ → Answer
-surveyFeedAnswer capture n = answer (formatFault capture) n
+unfoldable pub survey_feed_answer : List ℕ → ℕ → Answer
+survey_feed_answer capture n = answer (format_fault capture) n
 
 -- 21: a complete capture without a good packet
-unfoldable pub noGood : ℕ → Fault
-noGood most = pick (eqb most 0) (fault 21 0) none
+unfoldable pub no_good : ℕ → Fault
+no_good most = pick (eqb most 0) (fault 21 0) none
 
 -- of a survey whose best identifier has so many: 4 to 8, then 11, then 21
-unfoldable pub surveyFault : List ℕ → ℕ → Fault
-surveyFault capture most = formatFault capture or_else captureUnfinished capture or_else noGood most
+unfoldable pub survey_fault : List ℕ → ℕ → Fault
+survey_fault capture most = format_fault capture or_else capture_unfinished capture or_else no_good most
 
-abbrev pub orMost : Fault → ℕ → ℕ → SurveyAnswer
-orMost none id n = Most id n
-orMost (fault k p) id n = Refused k p
+abbrev pub or_most : Fault → ℕ → ℕ → SurveyAnswer
+or_most none id n = Most id n
+or_most (fault k p) id n = Refused k p
 
 -- what the survey of these joined bytes answers
-unfoldable pub surveyAnswer : List ℕ → SurveyAnswer
-surveyAnswer capture =
-    let counts = goodPackets capture in
-    let best = withMost counts identifiers in
-    orMost (surveyFault capture (counts best)) best (counts best)
+unfoldable pub survey_answer : List ℕ → SurveyAnswer
+survey_answer capture =
+    let counts = good_packets capture in
+    let best = with_most counts identifiers in
+    or_most (survey_fault capture (counts best)) best (counts best)
 
 -- what an identifier that is answered says of the capture (capture_laws/Survey)
 pub record MostIn (capture : List ℕ) (id n : ℕ) : Type 0 where
-  pub counted : n ≡ goodPackets capture id
+  pub counted : n ≡ good_packets capture id
   pub some : 0 < n
-  pub first : HasMost (goodPackets capture) identifiers id
+  pub first : HasMost (good_packets capture) identifiers id
 
 -- ---- lists of calls, after the opening of a fresh survey
 
 -- a call: a feed, with its piece, or the question
 pub data SurveyCall : Type 0 where
-  feedSurvey : List ℕ → SurveyCall
-  askSurvey : SurveyCall
+  feed_survey : List ℕ → SurveyCall
+  ask_survey : SurveyCall
 
 -- what a call comes to
 pub data SurveyOutcome : Type 0 where
-  fedSurvey : Answer → SurveyOutcome
+  fed_survey : Answer → SurveyOutcome
   found : SurveyAnswer → SurveyOutcome
 
 -- what the calls come to that are made after these joined bytes; the question changes nothing
-unfoldable pub surveyExpected : List ℕ → List SurveyCall → List SurveyOutcome
-surveyExpected capture [] = []
-surveyExpected capture (feedSurvey piece ∷ cs) =
-    fedSurvey (surveyFeedAnswer (capture ++ piece) (length piece)) ∷ surveyExpected (capture ++ piece) cs
-surveyExpected capture (askSurvey ∷ cs) = found (surveyAnswer capture) ∷ surveyExpected capture cs
+unfoldable pub survey_expected : List ℕ → List SurveyCall → List SurveyOutcome
+survey_expected capture [] = []
+survey_expected capture (feed_survey piece ∷ cs) =
+    fed_survey (survey_feed_answer (capture ++ piece) (length piece)) ∷ survey_expected (capture ++ piece) cs
+survey_expected capture (ask_survey ∷ cs) = found (survey_answer capture) ∷ survey_expected capture cs
 
 -- the joined bytes after these calls, refused feeds among them
-unfoldable pub surveyFed : List SurveyCall → List ℕ
-surveyFed [] = []
-surveyFed (feedSurvey piece ∷ cs) = piece ++ surveyFed cs
-surveyFed (askSurvey ∷ cs) = surveyFed cs
+unfoldable pub survey_fed : List SurveyCall → List ℕ
+survey_fed [] = []
+survey_fed (feed_survey piece ∷ cs) = piece ++ survey_fed cs
+survey_fed (ask_survey ∷ cs) = survey_fed cs

@@ -9,8 +9,8 @@ use Rattle.rules.specs.declared.Answer.{Answer}
 use Rattle.rules.specs.declared.Answer.TheVariants.{Done}
 use Rattle.rules.specs.Bytes.{Bytes}
 use Rattle.rules.specs.Refusals.{Fault, none, fault, answer}
-use Rattle.rules.specs.Seal.{over, sealed, sealedLength, sealFault, sealAnswer, sealedBuffer}
-use Rattle.rules.specs.Calls.{Reply, seal, sealedInto, Call, ask, Outcome, replied, answerTo, captureFed, lumaFed}
+use Rattle.rules.specs.Seal.{over, sealed, sealed_length, seal_fault, seal_answer, sealed_buffer}
+use Rattle.rules.specs.Calls.{Reply, seal, sealed_into, Call, ask, Outcome, replied, answer_to, capture_fed, luma_fed}
 use Rattle.record_laws.proofs.Sealed.{sealed-length, sealed-header, sealed-unit, sealed-scene}
 use Rattle.record_reader.proofs.Theorems.{front}
 use Rattle.sample_questions.specs.State.{State}
@@ -25,15 +25,15 @@ done_none (fault k p) m n e = absurd (let z : ◌≡◌ {A = ℕ} 0 1 = cc in om
 
 -- a seal that is done left the record in front, and the record reads so
 module _ (o : Opening) (capture luma before after : List ℕ) (n : ℕ)
-    (e : sealedInto (Done n) after ≡ answerTo o capture luma (seal before)) where
-  pub sealed-well : (sealFault o capture luma (length before) ≡ none) × (n ≡ sealedLength o capture luma)
-  unfolding sealAnswer
-  sealed-well = done_none (sealFault o capture luma (length before)) (sealedLength o capture luma) n (cc)
+    (e : sealed_into (Done n) after ≡ answer_to o capture luma (seal before)) where
+  pub sealed-well : (seal_fault o capture luma (length before) ≡ none) × (n ≡ sealed_length o capture luma)
+  unfolding seal_answer
+  sealed-well = done_none (seal_fault o capture luma (length before)) (sealed_length o capture luma) n (cc)
 
   pub in-front : take n after ≡ sealed o capture luma
-  unfolding sealAnswer sealedBuffer
+  unfolding seal_answer sealed_buffer
   in-front =
-      let b : after ≡ sealedBuffer o capture luma before = cc in
+      let b : after ≡ sealed_buffer o capture luma before = cc in
       let w = sealed-well in
       let l : n ≡ length (sealed o capture luma) = w.1 ∙ sym (sealed-length o capture luma) in
       let r : after ≡ over (sealed o capture luma) before = b ∙ rw w.0 in
@@ -52,11 +52,11 @@ module _ (o : Opening) (capture luma before after : List ℕ) (n : ℕ)
 pub sealed-last : (o : Opening) (a : Answer) (st end : State) (cs : List Call) (os : List Outcome)
     (before after : List ℕ)
     (n : ℕ) → OpenPost o a st →
-    Runs st (cs ++ ask (seal before) ∷ []) (os ++ replied (sealedInto (Done n) after) ∷ []) end →
-    sealedInto (Done n) after ≡ answerTo o (captureFed cs) (lumaFed cs) (seal before)
+    Runs st (cs ++ ask (seal before) ∷ []) (os ++ replied (sealed_into (Done n) after) ∷ []) end →
+    sealed_into (Done n) after ≡ answer_to o (capture_fed cs) (luma_fed cs) (seal before)
 sealed-last o a st end cs os before after n p r =
     told
-    (asked-last o [] [] cs os (replied (sealedInto (Done n) after)) (seal before)
+    (asked-last o [] [] cs os (replied (sealed_into (Done n) after)) (seal before)
     (runs o [] [] p.means r).outcomes)
   where
     told : {x y : Reply} → replied x ≡ replied y → x ≡ y
@@ -64,4 +64,4 @@ sealed-last o a st end cs os before after n p r =
 
 pub seal-reads-back : SealReadsBack
 seal-reads-back o a st end cs os before after n p bc bl r =
-    reads_as o (captureFed cs) (lumaFed cs) before after n (sealed-last o a st end cs os before after n p r) bc bl
+    reads_as o (capture_fed cs) (luma_fed cs) before after n (sealed-last o a st end cs os before after n p r) bc bl

@@ -4,19 +4,19 @@
 use Rattle.std.specs.Prelude.{ℕ, ◌+◌, ◌^◌, ◌≤◌, ◌<◌, ◌≡◌, List, [], ◌∷◌, ◌++◌, get_or}
 use Rattle.rules.specs.declared.Opening.{Opening}
 use Rattle.rules.specs.declared.Answer.{Answer}
-use Rattle.rules.specs.Opening.{openAnswer}
+use Rattle.rules.specs.Opening.{open_answer}
 use Rattle.rules.specs.Refusals.{none}
-use Rattle.rules.specs.Pictures.{pictureCount, lumaFault}
+use Rattle.rules.specs.Pictures.{picture_count, luma_fault}
 use Rattle.rules.specs.Histograms.{histograms}
 use Rattle.rules.specs.Seal.{reduced}
-use Rattle.rules.specs.Calls.{Question, Reply, Call, feedCapture, feedLuma, ask, Outcome, fed, replied, expected}
-use Rattle.rules.specs.Calls.{captureFed, lumaFed}
+use Rattle.rules.specs.Calls.{Question, Reply, Call, feed_capture, feed_luma, ask, Outcome, fed, replied, expected}
+use Rattle.rules.specs.Calls.{capture_fed, luma_fed}
 use Rattle.rules.specs.Bytes.{Bytes}
 use Rattle.rules.specs.Counted.{Whole, Counted}
 use Rattle.capture.specs.State.{Arrays}
 use Rattle.capture.specs.Contract as side-capture
 use Rattle.luma.specs.Contract as side-luma
-use Rattle.luma_cuts.specs.Counts.{tilesAt}
+use Rattle.luma_cuts.specs.Counts.{tiles_at}
 use Rattle.luma_state.specs.State.{slot}
 use Rattle.sample_questions.specs.State.{State, words_of}
 use Rattle.sample_questions.specs.Contract.{Asked}
@@ -25,18 +25,18 @@ use Rattle.sample.specs.Contract.{OpenPost}
 -- one call on a state, which leaves another: no more and no less than the function's own contract. A feed changes its
 -- own side alone, a question nothing
 pub data Ran : State → Call → Outcome → State → Type 0 where
-  feedsCapture : {side side' : Arrays} {luma sums bins picture piece : List ℕ} {a : Answer} →
+  feeds_capture : {side side' : Arrays} {luma sums bins picture piece : List ℕ} {a : Answer} →
       side-capture.FeedPost side piece a side' →
       Ran
       (record { capture = side; luma = luma; sums = sums; bins = bins; picture = picture })
-      (feedCapture piece)
+      (feed_capture piece)
       (fed a)
       (record { capture = side'; luma = luma; sums = sums; bins = bins; picture = picture })
-  feedsLuma : {side : Arrays} {luma sums bins picture luma' sums' bins' picture' piece : List ℕ} {a : Answer} →
+  feeds_luma : {side : Arrays} {luma sums bins picture luma' sums' bins' picture' piece : List ℕ} {a : Answer} →
       side-luma.FeedPost luma sums bins picture piece a luma' sums' bins' picture' →
       Ran
       (record { capture = side; luma = luma; sums = sums; bins = bins; picture = picture })
-      (feedLuma piece)
+      (feed_luma piece)
       (fed a)
       (record { capture = side; luma = luma'; sums = sums'; bins = bins'; picture = picture' })
   asks : {st : State} {q : Question} {r : Reply} → Asked (words_of st) q r → Ran st (ask q) (replied r) st
@@ -51,23 +51,23 @@ pub data Runs : State → List Call → List Outcome → State → Type 0 where
 -- picture i is one of the last four whole pictures of the joined luma, of which the state keeps the histograms
 pub record Kept (o : Opening) (luma : List ℕ) (i : ℕ) : Type 0 where
   pub whole : Whole o luma i
-  pub late : pictureCount o luma ≤ i + 4
-  pub clear : lumaFault o luma ≡ none
+  pub late : picture_count o luma ≤ i + 4
+  pub clear : luma_fault o luma ≡ none
 
 -- of a state that stands for these joined luma bytes: in every whole picture (a byte is below 256) each pixel adds one
 -- to one bin of one tile's histogram and to no other, so that the bins of the nine histograms total w × h; and those
 -- histograms are the ones that the state keeps (its bins are 32-bit words)
 pub record InHistograms (o : Opening) (luma : List ℕ) (st : State) : Type 0 where
   pub pictures : Bytes luma → (i : ℕ) → Whole o luma i → Counted o (get_or (reduced o luma) i [])
-  pub ring : ((n : ℕ) → get_or st.bins n 0 < 2 ^ 32) → (i : ℕ) → Kept o luma i → tilesAt st.bins (slot i) ≡
+  pub ring : ((n : ℕ) → get_or st.bins n 0 < 2 ^ 32) → (i : ℕ) → Kept o luma i → tiles_at st.bins (slot i) ≡
       histograms o (get_or (reduced o luma) i [])
 
 -- THE STATEMENT: the opening's answer; every answer and every reply of the list; and the histograms of every whole
 -- picture
 pub record AsTheRulesSay (o : Opening) (a : Answer) (cs : List Call) (os : List Outcome) (end : State) : Type 0 where
-  pub opening : a ≡ openAnswer o
+  pub opening : a ≡ open_answer o
   pub outcomes : os ≡ expected o [] [] cs
-  pub counted : InHistograms o (lumaFed cs) end
+  pub counted : InHistograms o (luma_fed cs) end
 
 abbrev pub EveryList : Type 0
 EveryList =
@@ -80,5 +80,5 @@ abbrev pub RepliesAlike : Type 0
 RepliesAlike =
     (o : Opening) (a a' : Answer) (st st' end end' : State) (cs cs' : List Call) (os os' : List Outcome)
     (s s' : Outcome) (q : Question) →
-    OpenPost o a st → OpenPost o a' st' → captureFed cs ≡ captureFed cs' → lumaFed cs ≡ lumaFed cs' →
+    OpenPost o a st → OpenPost o a' st' → capture_fed cs ≡ capture_fed cs' → luma_fed cs ≡ luma_fed cs' →
     Runs st (cs ++ ask q ∷ []) (os ++ s ∷ []) end → Runs st' (cs' ++ ask q ∷ []) (os' ++ s' ∷ []) end' → s ≡ s'

@@ -3,10 +3,10 @@
 use Rattle.std.specs.Prelude.{◌≡◌, []}
 use Rattle.rules.specs.declared.Opening.{Opening}
 use Rattle.rules.specs.declared.Answer.{Answer}
-use Rattle.rules.specs.Opening.{openAnswer}
+use Rattle.rules.specs.Opening.{open_answer}
 use Rattle.sample_questions.specs.State.{State, Means}
 
 -- the opening, the answer, the state after
 pub record OpenPost (o : Opening) (a : Answer) (after : State) : Type 0 where
-  pub answer : a ≡ openAnswer o
+  pub answer : a ≡ open_answer o
   pub means : Means after o [] []

@@ -10,25 +10,25 @@ use Rattle.rules.specs.declared.UnitAnswer.TheVariants as of-unit
 use Rattle.rules.specs.declared.SceneAnswer.TheVariants as of-scene
 use Rattle.rules.specs.Bytes.{Bytes}
 use Rattle.rules.specs.Capture.{units}
-use Rattle.rules.specs.Reading.{headerAnswer, unitAnswer, sceneAnswer}
+use Rattle.rules.specs.Reading.{header_answer, unit_answer, scene_answer}
 use Rattle.rules.specs.Seal as rule
-use Rattle.rules.specs.Calls.{seal, sealedInto, Call, ask, Outcome, replied, captureFed, lumaFed}
+use Rattle.rules.specs.Calls.{seal, sealed_into, Call, ask, Outcome, replied, capture_fed, luma_fed}
 use Rattle.sample_questions.specs.State.{State}
 use Rattle.sample.specs.Contract.{OpenPost}
 use Rattle.sample.specs.Calls.{Runs}
 
 -- r reads as the figures of an opening and of the joined bytes of the two sides
 pub record ReadsAs (o : Opening) (capture luma r : List ℕ) : Type 0 where
-  pub header : headerAnswer r ≡ of-header.Given (rule.header o capture luma)
+  pub header : header_answer r ≡ of-header.Given (rule.header o capture luma)
   pub unit : (j : ℕ) (z : UnitRow) → j < length (units o capture) →
-      unitAnswer r j ≡ of-unit.Given (get_or (units o capture) j z)
+      unit_answer r j ≡ of-unit.Given (get_or (units o capture) j z)
   pub scene : (j : ℕ) (z : SceneRow) → j < length (rule.scenes o luma) →
-      sceneAnswer r j ≡ of-scene.Given (get_or (rule.scenes o luma) j z)
+      scene_answer r j ≡ of-scene.Given (get_or (rule.scenes o luma) j z)
 
 -- THE STATEMENT: after any list of calls, a seal that is done answers n, and the first n bytes of its buffer read so
 abbrev pub SealReadsBack : Type 0
 SealReadsBack =
     (o : Opening) (a : Answer) (st end : State) (cs : List Call) (os : List Outcome) (before after : List ℕ) (n : ℕ) →
-    OpenPost o a st → Bytes (captureFed cs) → Bytes (lumaFed cs) →
-    Runs st (cs ++ ask (seal before) ∷ []) (os ++ replied (sealedInto (Done n) after) ∷ []) end →
-    ReadsAs o (captureFed cs) (lumaFed cs) (take n after)
+    OpenPost o a st → Bytes (capture_fed cs) → Bytes (luma_fed cs) →
+    Runs st (cs ++ ask (seal before) ∷ []) (os ++ replied (sealed_into (Done n) after) ∷ []) end →
+    ReadsAs o (capture_fed cs) (luma_fed cs) (take n after)

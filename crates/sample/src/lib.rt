@@ -1,8 +1,8 @@
 // A stream sample: opened, fed on two sides, sealed. Its state is memory that the caller lends, in arrays of fixed
 // sizes: the capture side's walk words, collected bytes, numbers and table of units, and the luma side's words, block
 // sums, bins and picture. Every call is safe and ends on any contents of them, and expects no checking by its caller.
-ghost use Rattle.capture.specs.State.{arraysOf};
-ghost use Rattle.sample_questions.specs.State.{sampleOf};
+ghost use Rattle.capture.specs.State.{arrays_of};
+ghost use Rattle.sample_questions.specs.State.{sample_of};
 ghost use Rattle.capture.specs.Contract as side-capture;
 ghost use Rattle.luma.specs.Contract as side-luma;
 ghost use Rattle.sample.specs.Contract.{OpenPost};
@@ -26,8 +26,8 @@ pub fn open(
     picture: &mut luma::Picture,
     o: Opening,
 ) -> Answer
-    ensures { OpenPost o result (sampleOf
-        (arraysOf walk.new kept.new numbers.new table.new)
+    ensures { OpenPost o result (sample_of
+        (arrays_of walk.new kept.new numbers.new table.new)
         luma.new sums.new bins.new picture.new) }
 {
     let number = figures::opening_fault(o);
@@ -52,9 +52,9 @@ pub fn feed_capture(
     piece: &[u8],
 ) -> Answer
     ensures { side-capture.FeedPost
-        (arraysOf walk.old kept.old numbers.old table.old)
+        (arrays_of walk.old kept.old numbers.old table.old)
         piece.now result
-        (arraysOf walk.new kept.new numbers.new table.new) }
+        (arrays_of walk.new kept.new numbers.new table.new) }
 {
     capture::feed(walk, kept, numbers, table, piece)
 }

@@ -10,19 +10,19 @@ use Rattle.rules.specs.declared.Opening.{Opening}
 use Rattle.rules.specs.declared.Answer.{Answer}
 use Rattle.rules.specs.declared.Answer.TheVariants.{Done, Refused}
 use Rattle.rules.specs.Refusals.{none, fault, unless, listed}
-use Rattle.rules.specs.Opening.{openingFault}
-use Rattle.rules.specs.Pictures.{pictureCount}
+use Rattle.rules.specs.Opening.{opening_fault}
+use Rattle.rules.specs.Pictures.{picture_count}
 use Rattle.rules.specs.Seal.{reduced}
-use Rattle.rules.specs.Passage.{passageFault, repeatsAnswer}
+use Rattle.rules.specs.Passage.{passage_fault, repeats_answer}
 use Rattle.rules.specs.Calls.{repeats, counted}
 use Rattle.rules.proofs.Laws.Listed.{listed_in}
 use Rattle.rules.proofs.Laws.Passage.{opening-first, repeats-numbered}
 use Rattle.figures.specs.Opening.{OpeningFault}
 use Rattle.luma_laws.proofs.Full.{full-count}
 use Rattle.luma_state.specs.State as side-luma
-use Rattle.luma_state.specs.State.{loaded, openingIn, Stands, refused, live}
+use Rattle.luma_state.specs.State.{loaded, opening_in, Stands, refused, live}
 use Rattle.luma.specs.declared.Totals.{Totals}
-use Rattle.luma.specs.Contract.{totalsIn}
+use Rattle.luma.specs.Contract.{totals_in}
 use Rattle.luma.proofs.Posts.{Alive}
 use Rattle.luma.proofs.Seals.{pictures-are, reduced-are}
 use Rattle.luma_passage.specs.Contract.{AnswerPost}
@@ -33,10 +33,10 @@ use Rattle.sample_questions.specs.Passage.{RepeatsPost}
 -- ---- what the luma words know of the whole pictures, refusal 10 or not
 
 record Kept (luma : List ℕ) (o : Opening) (joined : List ℕ) : Type 0 where
-  pictures : get_or luma 3 0 ≡ pictureCount o joined
+  pictures : get_or luma 3 0 ≡ picture_count o joined
   words : side-luma.Words o (reduced o joined) luma
 
-kept : (luma sums bins picture : List ℕ) (o : Opening) (joined : List ℕ) → openingFault o ≡ none →
+kept : (luma sums bins picture : List ℕ) (o : Opening) (joined : List ℕ) → opening_fault o ≡ none →
     side-luma.Means luma sums bins picture o joined →
     Kept luma o joined
 kept luma sums bins picture o joined good m = go m.stands
@@ -54,32 +54,32 @@ kept luma sums bins picture o joined good m = go m.stands
 
 -- ---- what a count promises
 
-twenty-six : (n a b k p : ℕ) → passageFault n a b ≡ fault k p → k ≡ 26
-unfolding passageFault
+twenty-six : (n a b k p : ℕ) → passage_fault n a b ≡ fault k p → k ≡ 26
+unfolding passage_fault
 twenty-six n a b k p e = go (leb a b && leb b n) e
   where
     go : (t : Bool) → unless t 26 ≡ fault k p → k ≡ 26
     go true x = absurd (let z : ◌≡◌ {A = ℕ} 0 1 = cc in omega arith)
     go false x = cc
 
-opening-some : (o : Opening) (number : ℕ) → OpeningFault o number → (number ≡ 0 → ⊥) → openingFault o ≡ fault number 0
+opening-some : (o : Opening) (number : ℕ) → OpeningFault o number → (number ≡ 0 → ⊥) → opening_fault o ≡ fault number 0
 opening-some o zero w h = absurd (h refl)
 opening-some o (suc k) w h = w.shown
 
-opening-none : (o : Opening) (number : ℕ) → OpeningFault o number → number ≡ 0 → openingFault o ≡ none
+opening-none : (o : Opening) (number : ℕ) → OpeningFault o number → number ≡ 0 → opening_fault o ≡ none
 opening-none o zero w h = w.shown
 opening-none o (suc k) w h = absurd (omega arith)
 
-module _ (luma : List ℕ) (a b : ℕ) (r : Answer) (p : Opening) (pe : p ≡ openingIn luma) (number : ℕ)
+module _ (luma : List ℕ) (a b : ℕ) (r : Answer) (p : Opening) (pe : p ≡ opening_in luma) (number : ℕ)
     (w : OpeningFault p number) where
   -- the opening in the words is the one that a state stands for
-  opened : (st : State) (o : Opening) (fedCapture fedLuma : List ℕ) → st.luma ≡ luma → Means st o fedCapture fedLuma →
+  opened : (st : State) (o : Opening) (fed_capture fed_luma : List ℕ) → st.luma ≡ luma → Means st o fed_capture fed_luma →
       OpeningFault o number
   opened st o fc fl x m =
-      subst (λ (q : Opening). OpeningFault q number) (pe ∙ ap openingIn (sym x) ∙ m.drawn.opening) w
+      subst (λ (q : Opening). OpeningFault q number) (pe ∙ ap opening_in (sym x) ∙ m.drawn.opening) w
 
   pub post-opening : r ≡ Refused (listed number) 0 → (number ≡ 0 → ⊥) → RepeatsPost luma a b r
-  unfolding repeatsAnswer
+  unfolding repeats_answer
   post-opening e h =
       record {
         asked =
@@ -114,7 +114,7 @@ module _ (luma : List ℕ) (a b : ℕ) (r : Answer) (p : Opening) (pe : p ≡ op
       never : (m : ℕ) → Refused (listed number) 0 ≡ Done m → ⊥
       never m y = let z : ◌≡◌ {A = ℕ} 0 1 = cc in omega arith
 
-  pub post-counted : (l : Totals) → l ≡ totalsIn luma → number ≡ 0 → AnswerPost luma l.pictures a b r →
+  pub post-counted : (l : Totals) → l ≡ totals_in luma → number ≡ 0 → AnswerPost luma l.pictures a b r →
       RepeatsPost luma a b r
   post-counted l le h x =
       record {
@@ -127,7 +127,7 @@ module _ (luma : List ℕ) (a b : ℕ) (r : Answer) (p : Opening) (pe : p ≡ op
                   let good = opening-none o number (opened st o fc fl z m) h in
                   let known = subst (λ (v : List ℕ). Kept v o fl) z
                   (kept st.luma st.sums st.bins st.picture o fl good m.drawn) in
-                  let n : l.pictures ≡ pictureCount o fl = ap (λ (t : Totals). t.pictures) le ∙ known.pictures in
+                  let n : l.pictures ≡ picture_count o fl = ap (λ (t : Totals). t.pictures) le ∙ known.pictures in
                   ap counted (sample-passage o fl luma known.words.repeats a b r good (rw n at x));
               refusals =
                   record {

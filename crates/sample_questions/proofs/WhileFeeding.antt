@@ -12,20 +12,20 @@ use Rattle.rules.specs.declared.IndexAnswer.{IndexAnswer}
 use Rattle.rules.specs.declared.IndexAnswer.TheVariants.{Given, Refused}
 use Rattle.rules.specs.declared.UnitRow.{UnitRow}
 use Rattle.rules.specs.Bytes.{pick, total, only}
-use Rattle.rules.specs.Editions.{heedsSplices, knowsDamage}
-use Rattle.rules.specs.Refusals.{none, fault, ◌orElse◌, listed}
-use Rattle.rules.specs.Opening.{openingFault}
+use Rattle.rules.specs.Editions.{heeds_splices, knows_damage}
+use Rattle.rules.specs.Refusals.{none, fault, ◌or_else◌, listed}
+use Rattle.rules.specs.Opening.{opening_fault}
 use Rattle.rules.specs.Packets.{Packet}
-use Rattle.rules.specs.Units.{Arrival, setApart, firstArrival, arrivalsAfter, arrivals, groups, cells_of, unit_of}
-use Rattle.rules.specs.Units.{unitsOf}
-use Rattle.rules.specs.Capture.{wholeWanted, units, captureFault, captureInside}
-use Rattle.rules.specs.Pictures.{lumaFault}
+use Rattle.rules.specs.Units.{Arrival, set_apart, first_arrival, arrivals_after, arrivals, groups, cells_of, unit_of}
+use Rattle.rules.specs.Units.{units_of}
+use Rattle.rules.specs.Capture.{whole_wanted, units, capture_fault, capture_inside}
+use Rattle.rules.specs.Pictures.{luma_fault}
 use Rattle.rules.specs.Seal as rule
-use Rattle.rules.specs.Seal.{noPacket, noPicture}
-use Rattle.rules.specs.WhileFeeding.{indexFault, indexAnswer}
+use Rattle.rules.specs.Seal.{no_packet, no_picture}
+use Rattle.rules.specs.WhileFeeding.{index_fault, index_answer}
 use Rattle.rules.specs.Calls.{index, indexed}
 use Rattle.rules.proofs.Laws.Listed.{listed_in}
-use Rattle.capture_laws.proofs.UnitsMore.{allPackets, groups-endToEnd, rows-packets}
+use Rattle.capture_laws.proofs.UnitsMore.{all_packets, groups-end_to_end, rows-packets}
 use Rattle.rules.proofs.Laws.WhileFeeding.{index-numbered}
 use Rattle.index.specs.Counts.{NoNan, IndexFrom}
 use Rattle.capture_steps.specs.State as of-walk
@@ -33,16 +33,16 @@ use Rattle.capture.specs.declared.Summary.{Summary}
 use Rattle.capture.specs.declared.Totals as capture-totals
 use Rattle.capture.specs.State as side-capture
 use Rattle.capture.specs.Contract as of-capture
-use Rattle.capture.specs.Contract.{SumOf, Figures, summaryOf}
+use Rattle.capture.specs.Contract.{SumOf, Figures, summary_of}
 use Rattle.capture.proofs.Sums.{stands-sum}
 use Rattle.luma_state.specs.State.{loaded}
 use Rattle.luma.specs.declared.Summary as luma-summary
 use Rattle.luma.specs.declared.Totals as luma-totals
 use Rattle.luma.specs.Contract as of-luma
-use Rattle.luma.specs.Contract.{Summarised, Known, insideOf}
+use Rattle.luma.specs.Contract.{Summarised, Known, inside_of}
 use Rattle.luma.proofs.Seals.{summarised}
 use Rattle.sample_questions.specs.State.{State, Words, Means}
-use Rattle.sample_questions.specs.WhileFeeding.{noneOf, index_by, IndexPost}
+use Rattle.sample_questions.specs.WhileFeeding.{none_of, index_by, IndexPost}
 use Rattle.sample_questions.proofs.Refusals.{either}
 use Rattle.sample_questions.proofs.Taken.{index-is-rule}
 
@@ -52,50 +52,50 @@ no-arrivals : (heeded known : Bool) (ps : List Packet) → length (cells_of (arr
     arrivals heeded known ps ≡ []
 unfolding arrivals cells_of only
 no-arrivals heeded known [] h = refl
-no-arrivals heeded known (p ∷ ps) h = go (setApart known p) (no-arrivals heeded known ps) h
+no-arrivals heeded known (p ∷ ps) h = go (set_apart known p) (no-arrivals heeded known ps) h
   where
     more : List Arrival
-    more = arrivalsAfter heeded known p ps
+    more = arrivals_after heeded known p ps
 
     go : (t : Bool) → (length (cells_of (arrivals heeded known ps)) ≡ 0 → arrivals heeded known ps ≡ []) →
-        length (cells_of (pick t (arrivals heeded known ps) (firstArrival p ∷ more))) ≡ 0 →
-        pick t (arrivals heeded known ps) (firstArrival p ∷ more) ≡ []
+        length (cells_of (pick t (arrivals heeded known ps) (first_arrival p ∷ more))) ≡ 0 →
+        pick t (arrivals heeded known ps) (first_arrival p ∷ more) ≡ []
     go true ih h = ih h
     go false ih h = absurd (omega arith)
 
-no_cells : (e : ℕ) (ps : List Packet) → allPackets (unitsOf e ps) ≡ 0 → unitsOf e ps ≡ []
-unfolding unitsOf groups
+no_cells : (e : ℕ) (ps : List Packet) → all_packets (units_of e ps) ≡ 0 → units_of e ps ≡ []
+unfolding units_of groups
 no_cells e ps h =
-    let xs = arrivals (heedsSplices e) (knowsDamage e) ps in
-    let cells : allPackets (map unit_of (groups xs)) ≡ length (cells_of xs) =
-    rows-packets (groups xs) ∙ ap (λ (ys : List Arrival). length (cells_of ys)) (groups-endToEnd xs) in
-    rw (no-arrivals (heedsSplices e) (knowsDamage e) ps (sym cells ∙ h))
+    let xs = arrivals (heeds_splices e) (knows_damage e) ps in
+    let cells : all_packets (map unit_of (groups xs)) ≡ length (cells_of xs) =
+    rows-packets (groups xs) ∙ ap (λ (ys : List Arrival). length (cells_of ys)) (groups-end_to_end xs) in
+    rw (no-arrivals (heeds_splices e) (knows_damage e) ps (sym cells ∙ h))
 
-none-counted : (us : List UnitRow) → us ≡ [] → allPackets us ≡ 0
-none-counted us e = ap allPackets e ∙ unfold total in refl
+none-counted : (us : List UnitRow) → us ≡ [] → all_packets us ≡ 0
+none-counted us e = ap all_packets e ∙ unfold total in refl
 
-twelve-of : (us : List UnitRow) → (allPackets us ≡ 0 → us ≡ []) → noPacket us ≡ noneOf 12 (allPackets us)
-unfolding noPacket total
+twelve-of : (us : List UnitRow) → (all_packets us ≡ 0 → us ≡ []) → no_packet us ≡ none_of 12 (all_packets us)
+unfolding no_packet total
 twelve-of [] h = refl
-twelve-of (u ∷ us) h = rw (ne_eqb (allPackets (u ∷ us)) 0 (λ e. never (h e)))
+twelve-of (u ∷ us) h = rw (ne_eqb (all_packets (u ∷ us)) 0 (λ e. never (h e)))
   where
     never : u ∷ us ≡ [] → ⊥
     never e = let z : ◌≡◌ {A = ℕ} (suc (length us)) 0 = ap length e in omega arith
 
-pub twelve-is : (o : Opening) (c : List ℕ) → noPacket (units o c) ≡ noneOf 12 (allPackets (units o c))
+pub twelve-is : (o : Opening) (c : List ℕ) → no_packet (units o c) ≡ none_of 12 (all_packets (units o c))
 unfolding units
-twelve-is o c = twelve-of (unitsOf o.edition (wholeWanted o c)) (no_cells o.edition (wholeWanted o c))
+twelve-is o c = twelve-of (units_of o.edition (whole_wanted o c)) (no_cells o.edition (whole_wanted o c))
 
 -- ---- what an index call finds on its way, from the totals of the two sides
 
-module _ (st : State) (o : Opening) (fedCapture fedLuma : List ℕ) (m : Means st o fedCapture fedLuma) where
+module _ (st : State) (o : Opening) (fed_capture fed_luma : List ℕ) (m : Means st o fed_capture fed_luma) where
   abbrev numbers : List ℕ
   numbers = st.capture.numbers
 
   abbrev c : Summary
-  c = summaryOf (of-walk.loaded st.capture.walk) (side-capture.loaded numbers) (captureInside fedCapture)
+  c = summary_of (of-walk.loaded st.capture.walk) (side-capture.loaded numbers) (capture_inside fed_capture)
 
-  sum : SumOf st.capture.table o fedCapture c
+  sum : SumOf st.capture.table o fed_capture c
   sum = stands-sum m.captured.stands
 
   abbrev l : luma-summary.Summary
@@ -104,54 +104,54 @@ module _ (st : State) (o : Opening) (fedCapture fedLuma : List ℕ) (m : Means s
         status = (loaded st.luma).status;
         place = (loaded st.luma).place;
         fed = (loaded st.luma).fed;
-        inside = insideOf (loaded st.luma);
+        inside = inside_of (loaded st.luma);
         pictures = (loaded st.luma).pictures;
         fresh = (loaded st.luma).fresh;
       }
 
-  seen : Summarised st.luma o fedLuma l
+  seen : Summarised st.luma o fed_luma l
   seen =
       summarised st.luma (loaded st.luma) l refl refl refl refl refl refl refl st.sums st.bins
-      st.picture o fedLuma m.drawn
+      st.picture o fed_luma m.drawn
 
-  pub of-capture-side : (c.number ≡ 0 → ⊥) → indexFault o fedCapture fedLuma ≡ fault c.number c.place
-  unfolding indexFault
+  pub of-capture-side : (c.number ≡ 0 → ⊥) → index_fault o fed_capture fed_luma ≡ fault c.number c.place
+  unfolding index_fault
   of-capture-side h =
-      let e : openingFault o or_else captureFault o fedCapture ≡ fault c.number c.place =
+      let e : opening_fault o or_else capture_fault o fed_capture ≡ fault c.number c.place =
       sum.refusal ∙ rw (ne_eqb c.number 0 h) in
-      either (openingFault o) (captureFault o fedCapture) _ ∙ rw e
+      either (opening_fault o) (capture_fault o fed_capture) _ ∙ rw e
 
   module _ (h₁ : c.number ≡ 0) where
-    fig : Figures st.capture.table o fedCapture c
+    fig : Figures st.capture.table o fed_capture c
     fig = sum.figures h₁
 
-    pub of-luma-side : (l.status ≡ 0 → ⊥) → indexFault o fedCapture fedLuma ≡ fault l.status l.place
-    unfolding indexFault
+    pub of-luma-side : (l.status ≡ 0 → ⊥) → index_fault o fed_capture fed_luma ≡ fault l.status l.place
+    unfolding index_fault
     of-luma-side h =
-        let e : openingFault o or_else lumaFault o fedLuma ≡ fault l.status l.place =
+        let e : opening_fault o or_else luma_fault o fed_luma ≡ fault l.status l.place =
         seen.refused (omega arith) in
-        let e' : lumaFault o fedLuma ≡ fault l.status l.place = rw fig.good at e in
+        let e' : luma_fault o fed_luma ≡ fault l.status l.place = rw fig.good at e in
         rw (fig.good, fig.clear, e')
 
     module _ (h₂ : l.status ≡ 0) where
-      known : Known st.luma o fedLuma l
+      known : Known st.luma o fed_luma l
       known = seen.live h₂
 
       -- behind refusals 1 to 10
-      behind : indexFault o fedCapture fedLuma ≡ noneOf 12 c.packets or_else noneOf 14 l.pictures
-      unfolding indexFault noPicture
-      behind = rw (fig.good, fig.clear, known.clear, twelve-is o fedCapture, ← fig.packets, ← known.pictures)
+      behind : index_fault o fed_capture fed_luma ≡ none_of 12 c.packets or_else none_of 14 l.pictures
+      unfolding index_fault no_picture
+      behind = rw (fig.good, fig.clear, known.clear, twelve-is o fed_capture, ← fig.packets, ← known.pictures)
 
-      pub no_cell : c.packets ≡ 0 → indexFault o fedCapture fedLuma ≡ fault 12 0
+      pub no_cell : c.packets ≡ 0 → index_fault o fed_capture fed_luma ≡ fault 12 0
       no_cell h = behind ∙ rw (eq-eqb c.packets 0 h)
 
       module _ (h₃ : c.packets ≡ 0 → ⊥) where
-        pub no-picture : l.pictures ≡ 0 → indexFault o fedCapture fedLuma ≡ fault 14 0
+        pub no-picture : l.pictures ≡ 0 → index_fault o fed_capture fed_luma ≡ fault 14 0
         no-picture h = behind ∙ rw (ne_eqb c.packets 0 h₃, eq-eqb l.pictures 0 h)
 
         some-units : 1 ≤ c.units
         some-units =
-            let us = units o fedCapture in
+            let us = units o fed_capture in
             at_least fig.units (λ e. h₃ (fig.packets ∙ none-counted us (empty_of us e)))
           where
             empty_of : (us : List UnitRow) → length us ≡ 0 → us ≡ []
@@ -162,67 +162,67 @@ module _ (st : State) (o : Opening) (fedCapture fedLuma : List ℕ) (m : Means s
             at_least e f = omega (arith, f)
 
         module _ (h₄ : l.pictures ≡ 0 → ⊥) where
-          pub free : indexFault o fedCapture fedLuma ≡ none
+          pub free : index_fault o fed_capture fed_luma ≡ none
           free = behind ∙ rw (ne_eqb c.packets 0 h₃, ne_eqb l.pictures 0 h₄)
 
           pub is-rule : (i : Index) →
               IndexFrom (l.fresh % 2 ^ 32) (l.pictures % 2 ^ 32) (c.packets % 2 ^ 32) (c.lost % 2 ^ 32) i →
-              i ≡ rule.index o fedCapture fedLuma
+              i ≡ rule.index o fed_capture fed_luma
           is-rule i e =
-              index-is-rule st.capture.table st.luma o fedCapture fedLuma c l fig known some-units
+              index-is-rule st.capture.table st.luma o fed_capture fed_luma c l fig known some-units
               (omega (arith, h₄)) i e
 
 -- the same, of the totals t and u of the two sides
-record Ways (o : Opening) (fedCapture fedLuma : List ℕ) (t : capture-totals.Totals) (u : luma-totals.Totals) :
+record Ways (o : Opening) (fed_capture fed_luma : List ℕ) (t : capture-totals.Totals) (u : luma-totals.Totals) :
     Type 0 where
-  by-capture : (t.number ≡ 0 → ⊥) → indexFault o fedCapture fedLuma ≡ fault t.number t.place
-  by-luma : t.number ≡ 0 → (u.number ≡ 0 → ⊥) → indexFault o fedCapture fedLuma ≡ fault u.number u.place
-  by-cells : t.number ≡ 0 → u.number ≡ 0 → t.packets ≡ 0 → indexFault o fedCapture fedLuma ≡ fault 12 0
-  by-pictures : t.number ≡ 0 → u.number ≡ 0 → (t.packets ≡ 0 → ⊥) → u.pictures ≡ 0 →
-      indexFault o fedCapture fedLuma ≡ fault 14 0
-  free-way : t.number ≡ 0 → u.number ≡ 0 → (t.packets ≡ 0 → ⊥) → (u.pictures ≡ 0 → ⊥) →
-      indexFault o fedCapture fedLuma ≡ none
-  is-index : t.number ≡ 0 → u.number ≡ 0 → (t.packets ≡ 0 → ⊥) → (u.pictures ≡ 0 → ⊥) → (i : Index) →
+  by_capture : (t.number ≡ 0 → ⊥) → index_fault o fed_capture fed_luma ≡ fault t.number t.place
+  by_luma : t.number ≡ 0 → (u.number ≡ 0 → ⊥) → index_fault o fed_capture fed_luma ≡ fault u.number u.place
+  by_cells : t.number ≡ 0 → u.number ≡ 0 → t.packets ≡ 0 → index_fault o fed_capture fed_luma ≡ fault 12 0
+  by_pictures : t.number ≡ 0 → u.number ≡ 0 → (t.packets ≡ 0 → ⊥) → u.pictures ≡ 0 →
+      index_fault o fed_capture fed_luma ≡ fault 14 0
+  free_way : t.number ≡ 0 → u.number ≡ 0 → (t.packets ≡ 0 → ⊥) → (u.pictures ≡ 0 → ⊥) →
+      index_fault o fed_capture fed_luma ≡ none
+  is_index : t.number ≡ 0 → u.number ≡ 0 → (t.packets ≡ 0 → ⊥) → (u.pictures ≡ 0 → ⊥) → (i : Index) →
       IndexFrom (u.fresh % 2 ^ 32) (u.pictures % 2 ^ 32) (t.packets % 2 ^ 32) (t.lost % 2 ^ 32) i →
-      i ≡ rule.index o fedCapture fedLuma
+      i ≡ rule.index o fed_capture fed_luma
 
-ways : (st : State) (o : Opening) (fedCapture fedLuma : List ℕ) → Means st o fedCapture fedLuma →
-    Ways o fedCapture fedLuma (of-capture.totalsIn st.capture.numbers) (of-luma.totalsIn st.luma)
+ways : (st : State) (o : Opening) (fed_capture fed_luma : List ℕ) → Means st o fed_capture fed_luma →
+    Ways o fed_capture fed_luma (of-capture.totals_in st.capture.numbers) (of-luma.totals_in st.luma)
 ways st o fc fl m =
     record {
-      by-capture = of-capture-side st o fc fl m;
-      by-luma = of-luma-side st o fc fl m;
-      by-cells = no_cell st o fc fl m;
-      by-pictures = no-picture st o fc fl m;
-      free-way = free st o fc fl m;
-      is-index = is-rule st o fc fl m;
+      by_capture = of-capture-side st o fc fl m;
+      by_luma = of-luma-side st o fc fl m;
+      by_cells = no_cell st o fc fl m;
+      by_pictures = no-picture st o fc fl m;
+      free_way = free st o fc fl m;
+      is_index = is-rule st o fc fl m;
     }
 
 -- ---- what an index call promises
 
 -- the numbers and the luma words, what they total to, the answer
 module _ (numbers luma : List ℕ) (t : capture-totals.Totals) (u : luma-totals.Totals)
-    (te : t ≡ of-capture.totalsIn numbers) (ue : u ≡ of-luma.totalsIn luma) (r : IndexAnswer) where
+    (te : t ≡ of-capture.totals_in numbers) (ue : u ≡ of-luma.totals_in luma) (r : IndexAnswer) where
   -- of every state that has them
-  known-ways : (st : State) (o : Opening) (fedCapture fedLuma : List ℕ) → st.capture.numbers ≡ numbers →
-      st.luma ≡ luma → Means st o fedCapture fedLuma →
-      Ways o fedCapture fedLuma t u
+  known-ways : (st : State) (o : Opening) (fed_capture fed_luma : List ℕ) → st.capture.numbers ≡ numbers →
+      st.luma ≡ luma → Means st o fed_capture fed_luma →
+      Ways o fed_capture fed_luma t u
   known-ways st o fc fl x y m =
-      subst (λ (t : capture-totals.Totals). Ways o fc fl t u) (ap of-capture.totalsIn x ∙ sym te)
-      (subst (λ (u : luma-totals.Totals). Ways o fc fl (of-capture.totalsIn st.capture.numbers) u)
-      (ap of-luma.totalsIn y ∙ sym ue) (ways st o fc fl m))
+      subst (λ (t : capture-totals.Totals). Ways o fc fl t u) (ap of-capture.totals_in x ∙ sym te)
+      (subst (λ (u : luma-totals.Totals). Ways o fc fl (of-capture.totals_in st.capture.numbers) u)
+      (ap of-luma.totals_in y ∙ sym ue) (ways st o fc fl m))
 
   -- the answer, from the totals
-  read : r ≡ index_by t u → r ≡ index_by (of-capture.totalsIn numbers) (of-luma.totalsIn luma)
+  read : r ≡ index_by t u → r ≡ index_by (of-capture.totals_in numbers) (of-luma.totals_in luma)
   read e =
       e ∙ ap (λ (t : capture-totals.Totals). index_by t u) te
-      ∙ ap (λ (u : luma-totals.Totals). index_by (of-capture.totalsIn numbers) u) ue
+      ∙ ap (λ (u : luma-totals.Totals). index_by (of-capture.totals_in numbers) u) ue
 
   refused_post : (k p : ℕ) → r ≡ Refused (listed k) p → index_by t u ≡ Refused (listed k) p →
-      ((o : Opening) (fedCapture fedLuma : List ℕ) → Ways o fedCapture fedLuma t u →
-      indexFault o fedCapture fedLuma ≡ fault k p) →
+      ((o : Opening) (fed_capture fed_luma : List ℕ) → Ways o fed_capture fed_luma t u →
+      index_fault o fed_capture fed_luma ≡ fault k p) →
       IndexPost numbers luma r
-  unfolding indexAnswer
+  unfolding index_answer
   refused_post k p e x f =
       record {
         reads = read (e ∙ sym x);
@@ -254,31 +254,31 @@ module _ (numbers luma : List ℕ) (t : capture-totals.Totals) (u : luma-totals.
       never i y = let z : ◌≡◌ {A = ℕ} 0 1 = cc in omega arith
 
   pub post-capture : r ≡ Refused (listed t.number) t.place → (t.number ≡ 0 → ⊥) → IndexPost numbers luma r
-  post-capture e h = refused_post t.number t.place e (rw (ne_eqb t.number 0 h)) (λ o fc fl v. v.by-capture h)
+  post-capture e h = refused_post t.number t.place e (rw (ne_eqb t.number 0 h)) (λ o fc fl v. v.by_capture h)
 
   module _ (h₁ : t.number ≡ 0) where
     pub post-luma : r ≡ Refused (listed u.number) u.place → (u.number ≡ 0 → ⊥) → IndexPost numbers luma r
     post-luma e h =
         refused_post u.number u.place e (rw (eq-eqb t.number 0 h₁, ne_eqb u.number 0 h))
-        (λ o fc fl v. v.by-luma h₁ h)
+        (λ o fc fl v. v.by_luma h₁ h)
 
     module _ (h₂ : u.number ≡ 0) where
       pub post-cells : r ≡ Refused 12 0 → t.packets ≡ 0 → IndexPost numbers luma r
       post-cells e h =
           refused_post 12 0 e (rw (eq-eqb t.number 0 h₁, eq-eqb u.number 0 h₂, eq-eqb t.packets 0 h))
-          (λ o fc fl v. v.by-cells h₁ h₂ h)
+          (λ o fc fl v. v.by_cells h₁ h₂ h)
 
       module _ (h₃ : t.packets ≡ 0 → ⊥) where
         pub post-pictures : r ≡ Refused 14 0 → u.pictures ≡ 0 → IndexPost numbers luma r
         post-pictures e h =
             refused_post 14 0 e
             (rw (eq-eqb t.number 0 h₁, eq-eqb u.number 0 h₂, ne_eqb t.packets 0 h₃, eq-eqb u.pictures 0 h))
-            (λ o fc fl v. v.by-pictures h₁ h₂ h₃ h)
+            (λ o fc fl v. v.by_pictures h₁ h₂ h₃ h)
 
         pub post-given : (u.pictures ≡ 0 → ⊥) → (i : Index) →
             IndexFrom (u.fresh % 2 ^ 32) (u.pictures % 2 ^ 32) (t.packets % 2 ^ 32) (t.lost % 2 ^ 32) i →
             r ≡ Given i → IndexPost numbers luma r
-        unfolding indexAnswer
+        unfolding index_answer
         post-given h i x e =
             record {
               reads =
@@ -293,7 +293,7 @@ module _ (numbers luma : List ℕ) (t : capture-totals.Totals) (u : luma-totals.
                         let y = ap (λ (v : Words). v.capture.numbers) w in
                         let z = ap (λ (v : Words). v.luma) w in
                         let v = known-ways st o fc fl y z m in
-                        rw (v.free-way h₁ h₂ h₃ h) (ap indexed (e ∙ ap Given (v.is-index h₁ h₂ h₃ h i x)));
+                        rw (v.free_way h₁ h₂ h₃ h) (ap indexed (e ∙ ap Given (v.is_index h₁ h₂ h₃ h i x)));
                     refusals =
                         record {
                           kept = λ n q y. refl;

@@ -12,8 +12,8 @@ pub record State : Type 0 where
   pub bins : List ℕ
   pub picture : List ℕ
 
-abbrev pub sampleOf : Arrays → List ℕ → List ℕ → List ℕ → List ℕ → State
-sampleOf capture luma sums bins picture =
+abbrev pub sample_of : Arrays → List ℕ → List ℕ → List ℕ → List ℕ → State
+sample_of capture luma sums bins picture =
     record { capture = capture; luma = luma; sums = sums; bins = bins; picture = picture }
 
 -- what a question looks at: the capture side's arrays and the luma words

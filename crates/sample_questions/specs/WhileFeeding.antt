@@ -4,8 +4,8 @@ use Rattle.rules.specs.declared.Index.{Index}
 use Rattle.rules.specs.declared.IndexAnswer.{IndexAnswer}
 use Rattle.rules.specs.declared.IndexAnswer.TheVariants.{Given}
 use Rattle.rules.specs.Bytes.{pick}
-use Rattle.rules.specs.Refusals.{Fault, none, fault, ◌orElse◌, listed}
-use Rattle.rules.specs.WhileFeeding.{orIndex}
+use Rattle.rules.specs.Refusals.{Fault, none, fault, ◌or_else◌, listed}
+use Rattle.rules.specs.WhileFeeding.{or_index}
 use Rattle.rules.specs.Calls.{index, indexed}
 use Rattle.index.specs.Counts.{NoNan, taken}
 use Rattle.capture.specs.declared.Totals as of-capture
@@ -15,27 +15,27 @@ use Rattle.luma.specs.Contract as side-luma
 use Rattle.sample_questions.specs.Contract.{Asked}
 
 -- the refusal that stands on a side, with a number of the table; number 0 says that none does
-abbrev pub keptAs : ℕ → ℕ → Fault
-keptAs number place = pick (eqb number 0) none (fault (listed number) place)
+abbrev pub kept_as : ℕ → ℕ → Fault
+kept_as number place = pick (eqb number 0) none (fault (listed number) place)
 
 -- refusal k where nothing is counted
-abbrev pub noneOf : ℕ → ℕ → Fault
-noneOf k count = pick (eqb count 0) (fault k 0) none
+abbrev pub none_of : ℕ → ℕ → Fault
+none_of k count = pick (eqb count 0) (fault k 0) none
 
 -- the answer from the totals and the refusals kept, and from nothing else: of any state, somebody else's too
 abbrev pub index_by : of-capture.Totals → of-luma.Totals → IndexAnswer
 index_by c l =
-    orIndex
-    (keptAs c.number c.place
-    or_else keptAs l.number l.place
-    or_else noneOf 12 c.packets
-    or_else noneOf 14 l.pictures)
+    or_index
+    (kept_as c.number c.place
+    or_else kept_as l.number l.place
+    or_else none_of 12 c.packets
+    or_else none_of 14 l.pictures)
     (taken (l.fresh % 2 ^ 32) (l.pictures % 2 ^ 32) (c.packets % 2 ^ 32) (c.lost % 2 ^ 32))
 
 -- `index`: the capture side's numbers, the luma words, the answer
 pub record IndexPost (numbers luma : List ℕ) (r : IndexAnswer) : Type 0 where
   -- it reads the totals and the refusals kept, and no other word
-  pub reads : r ≡ index_by (side-capture.totalsIn numbers) (side-luma.totalsIn luma)
+  pub reads : r ≡ index_by (side-capture.totals_in numbers) (side-luma.totals_in luma)
   -- whatever stands in the other arrays, it is the rule's reply
   pub asked : (walk kept table : List ℕ) →
       Asked (record { capture = record { walk = walk; kept = kept; numbers = numbers; table = table }; luma = luma })

@@ -1,10 +1,10 @@
 // The seal of a sample: the refusals in their order, the header's figures, and the record through `sealing`.
 ghost use Rattle.std.specs.Prelude.{◌≡◌, not, T};
 ghost use Rattle.std.specs.Float.Ieee.{is_nan};
-ghost use Rattle.rules.specs.Index.{indexBits};
-ghost use Rattle.capture.specs.State.{arraysOf};
+ghost use Rattle.rules.specs.Index.{index_bits};
+ghost use Rattle.capture.specs.State.{arrays_of};
 ghost use Rattle.sample_questions.specs.State.{words_in};
-ghost use Rattle.sample_seal.specs.Contract.{SealPost, headerBy, WritePost};
+ghost use Rattle.sample_seal.specs.Contract.{SealPost, header_by, WritePost};
 
 use capture::{Numbers, Summary};
 use capture_units::Table;
@@ -15,7 +15,7 @@ use sample_questions::{index_in, refused};
 // The header's figures, with so many pictures and scenes, and with the index's bits.
 fn header_of(o: Opening, c: Summary, pictures: u32, scenes: u32, i: Index) -> Header
     requires { T (not (is_nan i.value)) }
-    ensures { result ≡ headerBy o c pictures scenes (indexBits i) }
+    ensures { result ≡ header_by o c pictures scenes (index_bits i) }
 {
     Header {
         edition: o.edition,
@@ -75,7 +75,7 @@ pub fn seal(
     buffer: &mut [u8],
 ) -> Answer
     ensures { SealPost
-        (words_in (arraysOf walk.now kept.now numbers.now table.now)
+        (words_in (arrays_of walk.now kept.now numbers.now table.now)
         luma.now)
         buffer.old result buffer.new }
 {

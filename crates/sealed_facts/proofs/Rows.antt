@@ -8,20 +8,20 @@ use Rattle.rules.specs.declared.Header.{Header}
 use Rattle.rules.specs.declared.UnitRow.{UnitRow}
 use Rattle.rules.specs.declared.SceneRow.{SceneRow}
 use Rattle.rules.specs.Bytes.{word32, total, table}
-use Rattle.rules.specs.Record.{recordBytes}
-use Rattle.rules.specs.Reading.{headerOf, unit_at, scene_at}
+use Rattle.rules.specs.Record.{record_bytes}
+use Rattle.rules.specs.Reading.{header_of, unit_at, scene_at}
 use Rattle.record_laws.proofs.Record.{Figures, header_read, unit-read, scene-read}
 use Rattle.reader_facts.proofs.Rows.{table-list, units-told}
-use Rattle.record_verify.specs.Totals.{repeatedTotal, packetsTotal, lostTotal, damagedTotal}
+use Rattle.record_verify.specs.Totals.{repeated_total, packets_total, lost_total, damaged_total}
 
 -- of a record that was made of figures which fit
 module _ (h : Header) (us : List UnitRow) (ss : List SceneRow) (f : Figures h us ss) where
   abbrev made : List ℕ
-  made = recordBytes h us ss
+  made = record_bytes h us ss
 
   pub scenes-are : word32 made 16 ≡ length ss
   scenes-are =
-      let e : word32 made 16 ≡ h.scenes = unfold headerOf in ap (λ (x : Header). x.scenes) (header_read h us ss f) in
+      let e : word32 made 16 ≡ h.scenes = unfold header_of in ap (λ (x : Header). x.scenes) (header_read h us ss f) in
       e ∙ sym f.scenes
 
   -- a figure of every row, added up
@@ -37,18 +37,18 @@ module _ (h : Header) (us : List UnitRow) (ss : List SceneRow) (f : Figures h us
       (ap total
       (table-list g (λ j. g (scene_at made j)) 0 ss (λ j z k. rw (zero-add j) (ap g (scene-read h us ss f j z k)))))
 
-  pub packets-are : packetsTotal made ≡ total (map (λ (u : UnitRow). u.packets) us)
-  unfolding packetsTotal
+  pub packets-are : packets_total made ≡ total (map (λ (u : UnitRow). u.packets) us)
+  unfolding packets_total
   packets-are = unit-sum (λ (u : UnitRow). u.packets)
 
-  pub lost-are : lostTotal made ≡ total (map (λ (u : UnitRow). u.lost) us)
-  unfolding lostTotal
+  pub lost-are : lost_total made ≡ total (map (λ (u : UnitRow). u.lost) us)
+  unfolding lost_total
   lost-are = unit-sum (λ (u : UnitRow). u.lost)
 
-  pub repeated-are : repeatedTotal made ≡ total (map (λ (s : SceneRow). s.repeated) ss)
-  unfolding repeatedTotal
+  pub repeated-are : repeated_total made ≡ total (map (λ (s : SceneRow). s.repeated) ss)
+  unfolding repeated_total
   repeated-are = scene-sum (λ (s : SceneRow). s.repeated)
 
-  pub damaged-are : damagedTotal made ≡ total (map (λ (u : UnitRow). u.damaged) us)
-  unfolding damagedTotal
+  pub damaged-are : damaged_total made ≡ total (map (λ (u : UnitRow). u.damaged) us)
+  unfolding damaged_total
   damaged-are = unit-sum (λ (u : UnitRow). u.damaged)

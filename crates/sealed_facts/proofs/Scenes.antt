@@ -9,17 +9,17 @@ use lib.ListN.{length, get_or, drop, length-take, length-drop}
 use lib.Seq.{get_or-take, get_or-drop}
 use Rattle.rules.specs.declared.Opening.{Opening}
 use Rattle.rules.specs.declared.SceneRow.{SceneRow}
-use Rattle.rules.specs.Bytes.{total, greatestOf, count, All, and, empty, Bytes}
+use Rattle.rules.specs.Bytes.{total, greatest_of, count, All, and, empty, Bytes}
 use Rattle.rules.specs.Refusals.{none}
-use Rattle.rules.specs.Editions.{roundsToNearest}
-use Rattle.rules.specs.Opening.{openingFault, pixelCount}
-use Rattle.rules.specs.Pictures.{pictureCount}
+use Rattle.rules.specs.Editions.{rounds_to_nearest}
+use Rattle.rules.specs.Opening.{opening_fault, pixel_count}
+use Rattle.rules.specs.Pictures.{picture_count}
 use Rattle.rules.specs.Histograms.{histograms}
-use Rattle.rules.specs.Cuts.{cutScores}
+use Rattle.rules.specs.Cuts.{cut_scores}
 use Rattle.rules.specs.Changes.{repeats, changes}
-use Rattle.rules.specs.Scenes.{span, isTrue, startsFrom, scene_of, scenesAt, scenesOf}
-use Rattle.rules.specs.Seal.{reduced, scenesIn, scenes}
-use Rattle.rules.specs.Busiest.{leastBetween}
+use Rattle.rules.specs.Scenes.{span, is_true, starts_from, scene_of, scenes_at, scenes_of}
+use Rattle.rules.specs.Seal.{reduced, scenes_in, scenes}
+use Rattle.rules.specs.Busiest.{least_between}
 use Rattle.rules.proofs.Laws.Lists.{count-few, all_drop, all_take, larger-max}
 use Rattle.luma_laws.proofs.Past.{length-repeats}
 use Rattle.luma_laws.proofs.Differences.{reduced-at}
@@ -30,7 +30,7 @@ use Rattle.luma_laws.proofs.Spans.{peak-step, peak-most, repeated-step, longest-
 use Rattle.luma_laws.proofs.Least.{between_is}
 use Rattle.luma_laws.proofs.Sizes.{good, sizes}
 use Rattle.record_laws.proofs.Record.{Each, each_at}
-use Rattle.record_verify.specs.Marks.{inFirst, changing}
+use Rattle.record_verify.specs.Marks.{in_first, changing}
 use Rattle.sealed_facts.specs.Facts.{SoundScene, LaterScene}
 use Rattle.sealed_facts.proofs.Still.{Still, still-take, still-drop, still-total, first-total, runs-first}
 use Rattle.sealed_facts.proofs.Still.{changes-still, first-change}
@@ -38,20 +38,20 @@ use Rattle.sealed_facts.proofs.Starts.{scores-still, first-score, cut-fresh, fir
 use Rattle.sealed_facts.proofs.Units.{in-later}
 
 -- the greatest is at least each, and at most what all are at most
-pub highest : (most : ℕ) {xs : List ℕ} → All (AtMost most) xs → greatestOf xs ≤ most
-unfolding greatestOf
+pub highest : (most : ℕ) {xs : List ℕ} → All (AtMost most) xs → greatest_of xs ≤ most
+unfolding greatest_of
 highest most empty = omega arith
-highest most (and {x} {xs} h hs) = let g = highest most hs in rw (larger-max x (greatestOf xs)) (omega arith)
+highest most (and {x} {xs} h hs) = let g = highest most hs in rw (larger-max x (greatest_of xs)) (omega arith)
 
 raised : {m n : ℕ} {xs : List ℕ} → m ≤ n → All (AtMost m) xs → All (AtMost n) xs
 raised k empty = empty
 raised k (and {x} h hs) = and {x = x} (omega arith) (raised k hs)
 
-below-greatest : (xs : List ℕ) → All (AtMost (greatestOf xs)) xs
-unfolding greatestOf
+below-greatest : (xs : List ℕ) → All (AtMost (greatest_of xs)) xs
+unfolding greatest_of
 below-greatest [] = empty
 below-greatest (x ∷ xs) =
-    let h = larger-max x (greatestOf xs) in
+    let h = larger-max x (greatest_of xs) in
     and {x = x} (omega arith) (raised (omega arith) (below-greatest xs))
 
 some-between : (d n : ℕ) → 600000 ≤ n * d → 1 ≤ n
@@ -82,14 +82,14 @@ module _ (ss : List ℕ) (rs : List Bool) (qs : List ℕ) where
   module _ (Q : ℕ → Type 0) (P : SceneRow → Type 0)
       (one : (i j : ℕ) → Q i → i < j → j ≤ length ss → P (scene_of ss rs qs i j)) where
     each_from : {b : ℕ} {is : List ℕ} → Q b → b < length ss → Starts b is → All Q is →
-        Each P (scenesAt ss rs qs (b ∷ is))
-    unfolding scenesAt
+        Each P (scenes_at ss rs qs (b ∷ is))
+    unfolding scenes_at
     each_from {b} q k last qs = (one b (length ss) q k (omega arith), tt)
     each_from {b} q k (next {i} g e r) (and x qs) = (one b i q (omega arith) (omega arith), each_from x e r qs)
 
     -- of those after the first
-    each_after : {b : ℕ} {is : List ℕ} → Starts b is → All Q is → Each P (drop 1 (scenesAt ss rs qs (b ∷ is)))
-    unfolding scenesAt
+    each_after : {b : ℕ} {is : List ℕ} → Starts b is → All Q is → Each P (drop 1 (scenes_at ss rs qs (b ∷ is)))
+    unfolding scenes_at
     each_after last qs = tt
     each_after (next {i} g e r) (and x qs) = each_from x e r qs
 
@@ -108,23 +108,23 @@ module _ (ss : List ℕ) (rs : List Bool) (qs : List ℕ) where
       size : length bs ≡ j - i
       size = simp (length-take, length-drop) (omega arith)
 
-      unrepeated : count not bs ≡ j - i - count isTrue bs
+      unrepeated : count not bs ≡ j - i - count is_true bs
       unrepeated = let b = both bs in let n = size in omega arith
 
       -- a sum of figures that are 0 where they are repeated, and at picture 0
       sum-few : (most : ℕ) (xs : List ℕ) → Still xs rs → get_or xs 0 0 ≡ 0 → All (AtMost most) (span i j xs) →
-          total (span i j xs) ≤ most * (j - i - count isTrue bs - inFirst i)
+          total (span i j xs) ≤ most * (j - i - count is_true bs - in_first i)
       sum-few most xs s z few = rw (← unrepeated) (go i refl)
         where
           t : Still (span i j xs) bs
           t = still-take (j - i) (still-drop i s)
 
-          go : (n : ℕ) → n ≡ i → total (span i j xs) ≤ most * (count not bs - inFirst n)
+          go : (n : ℕ) → n ≡ i → total (span i j xs) ≤ most * (count not bs - in_first n)
           go zero e =
-              unfold inFirst in
+              unfold in_first in
               first-total most t few (first_of xs i j 0 h ∙ ap (λ (p : ℕ). get_or xs p 0) (sym e) ∙ z) first-is
           go (suc n) e =
-              let later : count not bs - inFirst (suc n) ≡ count not bs =
+              let later : count not bs - in_first (suc n) ≡ count not bs =
               omega (arith, in-later (suc n) (omega arith)) in
               rw later (still-total most t few)
 
@@ -133,7 +133,7 @@ module _ (ss : List ℕ) (rs : List Bool) (qs : List ℕ) where
       scene-own =
           let r = runs-first bs first-is in
           let a = rw f at (repeated-step i j rs h (omega arith)) in
-          let b = count-few isTrue (span (i + 1) j rs) in
+          let b = count-few is_true (span (i + 1) j rs) in
           let c = length-take (j - (i + 1)) (drop (i + 1) rs) in
           record {
             start = omega arith;
@@ -141,7 +141,7 @@ module _ (ss : List ℕ) (rs : List Bool) (qs : List ℕ) where
             runs = rw (← unrepeated) r;
             among = peak-most (span i j ss);
             highest = highest 1000000 (all_take (j - i) (all_drop i scored));
-            score = sum-few (greatestOf (span i j ss)) ss still no-score (below-greatest (span i j ss));
+            score = sum-few (greatest_of (span i j ss)) ss still no-score (below-greatest (span i j ss));
             change = sum-few 25500 qs even no_change (all_take (j - i) (all_drop i changed));
           }
 
@@ -157,9 +157,9 @@ module _ (ss : List ℕ) (rs : List Bool) (qs : List ℕ) where
   -- ---- scenes from starts that lie m apart
 
   long-at : (d m : ℕ) → 600000 ≤ m * d → {end b : ℕ} {is : List ℕ} → Apart m end b is → (j : ℕ) (z : SceneRow) →
-      j + 1 < length (scenesAt ss rs qs (b ∷ is)) →
-      600000 ≤ (get_or (scenesAt ss rs qs (b ∷ is)) j z).pictures * d
-  unfolding scenesAt scene_of
+      j + 1 < length (scenes_at ss rs qs (b ∷ is)) →
+      600000 ≤ (get_or (scenes_at ss rs qs (b ∷ is)) j z).pictures * d
+  unfolding scenes_at scene_of
   long-at d m f last j z h = absurd (omega arith)
   long-at d m f {b = b} (next {i} g e r) zero z h =
       let more : m ≤ i - b = omega arith in
@@ -167,8 +167,8 @@ module _ (ss : List ℕ) (rs : List Bool) (qs : List ℕ) where
   long-at d m f (next {i} g e r) (suc j) z h = long-at d m f r j z (omega arith)
 
   -- the first starts at the first start
-  first-starts : (b : ℕ) (is : List ℕ) (z : SceneRow) → (get_or (scenesAt ss rs qs (b ∷ is)) 0 z).first ≡ b
-  unfolding scenesAt scene_of
+  first-starts : (b : ℕ) (is : List ℕ) (z : SceneRow) → (get_or (scenes_at ss rs qs (b ∷ is)) 0 z).first ≡ b
+  unfolding scenes_at scene_of
   first-starts b [] z = refl
   first-starts b (i ∷ is) z = refl
 
@@ -183,7 +183,7 @@ all-at z (x ∷ xs) h = and (h 0 (omega arith)) (all-at z xs (λ j g. h (suc j) 
 
 -- ---- the scenes of a sample
 
-module _ (o : Opening) (luma : List ℕ) (some : 1 ≤ pictureCount o luma) where
+module _ (o : Opening) (luma : List ℕ) (some : 1 ≤ picture_count o luma) where
   abbrev pxs : List (List ℕ)
   pxs = reduced o luma
 
@@ -191,20 +191,20 @@ module _ (o : Opening) (luma : List ℕ) (some : 1 ≤ pictureCount o luma) wher
   hs = map (histograms o) pxs
 
   abbrev scores : List ℕ
-  scores = cutScores hs
+  scores = cut_scores hs
 
   abbrev qs : List ℕ
-  qs = changes (roundsToNearest o.edition) pxs
+  qs = changes (rounds_to_nearest o.edition) pxs
 
   abbrev later : List ℕ
-  later = startsFrom o.time scores (length scores - 1) 0 1
+  later = starts_from o.time scores (length scores - 1) 0 1
 
-  count-is : length scores ≡ pictureCount o luma
+  count-is : length scores ≡ picture_count o luma
   count-is = sample-scores o luma
 
   -- the first scene starts at picture 0
-  scenes-from : scenes o luma ≡ scenesAt scores (repeats pxs) qs (0 ∷ later)
-  unfolding scenes scenesIn scenesOf
+  scenes-from : scenes o luma ≡ scenes_at scores (repeats pxs) qs (0 ∷ later)
+  unfolding scenes scenes_in scenes_of
   scenes-from = rw (starts_first o.time scores (omega (arith, count-is)))
 
   starts-are : Apart 1 (length scores) 0 later
@@ -215,19 +215,19 @@ module _ (o : Opening) (luma : List ℕ) (some : 1 ≤ pictureCount o luma) wher
   cuts_are : All (λ (i : ℕ). 1000 < get_or scores i 0) later
   cuts_are = starts-cut o.time scores (length scores - 1) 0 1
 
-  own-scenes : openingFault o ≡ none → Bytes luma → Each Own (scenes o luma)
-  unfolding pixelCount
+  own-scenes : opening_fault o ≡ none → Bytes luma → Each Own (scenes o luma)
+  unfolding pixel_count
   own-scenes h bl =
       let rs = repeats pxs in
       let n : length rs ≡ length scores = length-repeats pxs ∙ reduced-length o luma ∙ sym count-is in
-      let pixels = (sizes o (good o h)).pixels-some in
+      let pixels = (sizes o (good o h)).pixels_some in
       let full : All (λ (px : List ℕ). 0 < length px) pxs =
       all-at [] pxs (λ j g. omega (arith, (reduced-at o luma j bl g).1)) in
       rw scenes-from
       (each_from scores rs qs (λ (i : ℕ). get_or rs i false ≡ false) Own
-      (scene-own scores rs qs (sample-scored o luma bl) (sample-changed o luma bl (roundsToNearest o.edition) h)
-      (scores-still (histograms o) pxs) (changes-still (roundsToNearest o.edition) pxs full) n (first-score hs)
-      (first-change (roundsToNearest o.edition) pxs))
+      (scene-own scores rs qs (sample-scored o luma bl) (sample-changed o luma bl (rounds_to_nearest o.edition) h)
+      (scores-still (histograms o) pxs) (changes-still (rounds_to_nearest o.edition) pxs full) n (first-score hs)
+      (first-change (rounds_to_nearest o.edition) pxs))
       (first-fresh pxs) (omega (arith, count-is)) starts-are (all-cuts (cut-fresh (histograms o) pxs) cuts_are))
 
   -- picture 0 is the first of the first row
@@ -242,7 +242,7 @@ module _ (o : Opening) (luma : List ℕ) (some : 1 ≤ pictureCount o luma) wher
       let later = in-later (suc j) (omega arith) in
       omega arith
 
-  pub sound-scene : openingFault o ≡ none → Bytes luma → (j : ℕ) (z : SceneRow) → j < length (scenes o luma) →
+  pub sound-scene : opening_fault o ≡ none → Bytes luma → (j : ℕ) (z : SceneRow) → j < length (scenes o luma) →
       SoundScene j (get_or (scenes o luma) j z)
   sound-scene h bl j z k =
       let s = get_or (scenes o luma) j z in
@@ -258,19 +258,19 @@ module _ (o : Opening) (luma : List ℕ) (some : 1 ≤ pictureCount o luma) wher
         change = omega (arith, x.change);
       }
 
-  pub later-scenes : Each (LaterScene (pictureCount o luma)) (drop 1 (scenes o luma))
+  pub later-scenes : Each (LaterScene (picture_count o luma)) (drop 1 (scenes o luma))
   later-scenes =
       rw (scenes-from, ← count-is)
       (each_after scores (repeats pxs) qs (Cut scores (repeats pxs) qs) (LaterScene (length scores))
       (scene-later scores (repeats pxs) qs) starts-are
       (all-cuts (λ i h. (h, omega (arith, cut_inside hs i h, scores-length hs))) cuts_are))
 
-  pub long-scenes : openingFault o ≡ none → (j : ℕ) (z : SceneRow) → j + 1 < length (scenes o luma) →
+  pub long-scenes : opening_fault o ≡ none → (j : ℕ) (z : SceneRow) → j + 1 < length (scenes o luma) →
       600000 ≤ (get_or (scenes o luma) j z).pictures * o.time
   long-scenes h =
       let d = o.time in
-      let m = leastBetween d in
-      let least = between_is d (good o h).time-low in
+      let m = least_between d in
+      let least = between_is d (good o h).time_low in
       rw scenes-from
       (long-at scores (repeats pxs) qs d m least.reaches
       (starts_apart d scores m (length scores) least.least (below_length scores) (length scores - 1) 0 1

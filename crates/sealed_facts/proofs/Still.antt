@@ -10,9 +10,9 @@ use lib.ListN.{length, get_or, take, drop}
 use lib.Dec.{eqb}
 use borrow.Author.Tests.{eqb-true}
 use Rattle.rules.specs.Bytes.{total, count, All, and, empty}
-use Rattle.rules.specs.Changes.{same, squares, spread, root, nearest, changeFrom, change, repeatsAfter, repeats}
-use Rattle.rules.specs.Changes.{changesAfter, changes}
-use Rattle.rules.specs.Scenes.{isTrue, longestFrom}
+use Rattle.rules.specs.Changes.{same, squares, spread, root, nearest, change_from, change, repeats_after, repeats}
+use Rattle.rules.specs.Changes.{changes_after, changes}
+use Rattle.rules.specs.Scenes.{is_true, longest_from}
 use Rattle.rules.proofs.Laws.Lists.{both, larger-max}
 use Rattle.luma_laws.proofs.Changes.{root-greatest}
 use Rattle.luma_laws.proofs.Ranges.{AtMost}
@@ -72,30 +72,30 @@ module _ (most : ℕ) where
 
 -- ---- runs
 
-runs-most : (run : ℕ) (rs : List Bool) → run + count isTrue rs ≤ longestFrom run rs * suc (count not rs)
-unfolding longestFrom count
+runs-most : (run : ℕ) (rs : List Bool) → run + count is_true rs ≤ longest_from run rs * suc (count not rs)
+unfolding longest_from count
 runs-most run [] = rw (mul-one run) (omega arith)
 runs-most run (true ∷ rs) =
     let h = runs-most (suc run) rs in
     rw (zero-add (count not rs)) (omega arith)
 runs-most run (false ∷ rs) =
     let h = runs-most 0 rs in
-    let l = longestFrom 0 rs in
+    let l = longest_from 0 rs in
     let m = max run l in
     let n = suc (count not rs) in
     let e : suc (1 + count not rs) ≡ suc n = omega arith in
     let high : l ≤ m = omega arith in
     rw (larger-max run l, e, mul-suc m n) (omega (arith, mul-le-mul_right n high))
 
-pub runs-first : (rs : List Bool) → get_or rs 0 false ≡ false → count isTrue rs ≤ longestFrom 0 rs * count not rs
-unfolding longestFrom count
+pub runs-first : (rs : List Bool) → get_or rs 0 false ≡ false → count is_true rs ≤ longest_from 0 rs * count not rs
+unfolding longest_from count
 runs-first [] f = omega arith
 runs-first (true ∷ rs) f = absurd (false≢true (sym f))
 runs-first (false ∷ rs) f =
     let h = runs-most 0 rs in
     let e : 1 + count not rs ≡ suc (count not rs) = omega arith in
-    let m : max 0 (longestFrom 0 rs) ≡ longestFrom 0 rs = omega arith in
-    rw (larger-max 0 (longestFrom 0 rs), m, e) (omega arith)
+    let m : max 0 (longest_from 0 rs) ≡ longest_from 0 rs = omega arith in
+    rw (larger-max 0 (longest_from 0 rs), m, e) (omega arith)
 
 -- ---- pixels that all equal are one picture
 
@@ -134,10 +134,10 @@ root_none n h =
     none-fits (root 0 n) n h (root-greatest 0 n few).reached
 
 change-self : (rounds : Bool) (px : List ℕ) → 0 < length px → change rounds px px ≡ 0
-unfolding change changeFrom nearest
+unfolding change change_from nearest
 change-self rounds px h = rw (spread-self px) (go rounds)
   where
-    go : (b : Bool) → changeFrom b 0 (length px) ≡ 0
+    go : (b : Bool) → change_from b 0 (length px) ≡ 0
     go true = rw (root_none (length px) h)
     go false = root_none (length px) h
 
@@ -147,13 +147,13 @@ abbrev Some : List ℕ → Type 0
 Some px = 0 < length px
 
 after-still : (rounds : Bool) (before : List ℕ) (pxs : List (List ℕ)) → All Some pxs →
-    Still (changesAfter rounds before pxs) (repeatsAfter before pxs)
-unfolding changesAfter repeatsAfter
+    Still (changes_after rounds before pxs) (repeats_after before pxs)
+unfolding changes_after repeats_after
 after-still rounds before [] empty = none
 after-still rounds before (px ∷ pxs) (and h hs) = go (same before px) refl (after-still rounds px pxs hs)
   where
-    go : (t : Bool) → same before px ≡ t → Still (changesAfter rounds px pxs) (repeatsAfter px pxs) →
-        Still (change rounds before px ∷ changesAfter rounds px pxs) (t ∷ repeatsAfter px pxs)
+    go : (t : Bool) → same before px ≡ t → Still (changes_after rounds px pxs) (repeats_after px pxs) →
+        Still (change rounds before px ∷ changes_after rounds px pxs) (t ∷ repeats_after px pxs)
     go true e s = again {x = change rounds before px} (rw (same-one before px e) (change-self rounds px h)) s
     go false e s = fresh s
 

@@ -9,15 +9,15 @@ use borrow.Author.Tests.{ne_eqb}
 use Rattle.rules.specs.declared.Opening.{Opening}
 use Rattle.rules.specs.declared.UnitRow.{UnitRow}
 use Rattle.rules.specs.Bytes.{pick, total, only, All, and, empty, Bytes}
-use Rattle.rules.specs.Editions.{heedsSplices, knowsDamage}
-use Rattle.rules.specs.Packets.{Packet, counter, spliceMark}
-use Rattle.rules.specs.Units.{Arrival, lossBetween, setApart, firstArrival, damagedArrival, laterArrival}
-use Rattle.rules.specs.Units.{arrivalsAfter, arrivals, intoFirst, groups, cells_of, unit_of, unitsOf}
-use Rattle.rules.specs.Capture.{units, wholeWanted}
+use Rattle.rules.specs.Editions.{heeds_splices, knows_damage}
+use Rattle.rules.specs.Packets.{Packet, counter, splice_mark}
+use Rattle.rules.specs.Units.{Arrival, loss_between, set_apart, first_arrival, damaged_arrival, later_arrival}
+use Rattle.rules.specs.Units.{arrivals_after, arrivals, into_first, groups, cells_of, unit_of, units_of}
+use Rattle.rules.specs.Capture.{units, whole_wanted}
 use Rattle.capture_laws.proofs.UnitsMore.{gap-small}
 use Rattle.record_laws.proofs.Record.{Each, each_at}
 use Rattle.record_laws.proofs.Ranges.{Sealable, UnitRange, unit-ranges}
-use Rattle.record_verify.specs.Marks.{inFirst}
+use Rattle.record_verify.specs.Marks.{in_first}
 use Rattle.sealed_facts.specs.Facts.{SoundUnit}
 
 -- ---- a packet has at most 14 lost before it, a damaged one none
@@ -25,37 +25,37 @@ use Rattle.sealed_facts.specs.Facts.{SoundUnit}
 abbrev Gap : Arrival → Type 0
 Gap a = a.lost ≤ pick a.damaged 0 14
 
-between-gap : (heeded : Bool) (q p : Packet) → lossBetween heeded q p ≤ 14
-unfolding lossBetween
-between-gap heeded q p = go (heeded && spliceMark p.bytes) (gap-small (counter q.bytes) (counter p.bytes))
+between-gap : (heeded : Bool) (q p : Packet) → loss_between heeded q p ≤ 14
+unfolding loss_between
+between-gap heeded q p = go (heeded && splice_mark p.bytes) (gap-small (counter q.bytes) (counter p.bytes))
   where
     go : {n : ℕ} (b : Bool) → n ≤ 14 → pick b 0 n ≤ 14
     go true h = omega arith
     go false h = h
 
-after-gaps : (heeded known : Bool) (q : Packet) (ps : List Packet) → All Gap (arrivalsAfter heeded known q ps)
-unfolding arrivalsAfter
+after-gaps : (heeded known : Bool) (q : Packet) (ps : List Packet) → All Gap (arrivals_after heeded known q ps)
+unfolding arrivals_after
 after-gaps heeded known q [] = empty
 after-gaps heeded known q (p ∷ ps) =
-    go (setApart known p) (after-gaps heeded known q ps) (after-gaps heeded known p ps)
+    go (set_apart known p) (after-gaps heeded known q ps) (after-gaps heeded known p ps)
   where
-    go : (t : Bool) → All Gap (arrivalsAfter heeded known q ps) → All Gap (arrivalsAfter heeded known p ps) →
-        All Gap (pick t (damagedArrival p ∷ arrivalsAfter heeded known q ps)
-        (laterArrival heeded q p ∷ arrivalsAfter heeded known p ps))
-    go true d e = and {x = damagedArrival p} (omega arith) d
+    go : (t : Bool) → All Gap (arrivals_after heeded known q ps) → All Gap (arrivals_after heeded known p ps) →
+        All Gap (pick t (damaged_arrival p ∷ arrivals_after heeded known q ps)
+        (later_arrival heeded q p ∷ arrivals_after heeded known p ps))
+    go true d e = and {x = damaged_arrival p} (omega arith) d
     go false d e = and (between-gap heeded q p) e
 
 all-gaps : (heeded known : Bool) (ps : List Packet) → All Gap (arrivals heeded known ps)
 unfolding arrivals
 all-gaps heeded known [] = empty
-all-gaps heeded known (p ∷ ps) = go (setApart known p) (all-gaps heeded known ps)
+all-gaps heeded known (p ∷ ps) = go (set_apart known p) (all-gaps heeded known ps)
   where
     go : (t : Bool) → All Gap (arrivals heeded known ps) →
-        All Gap (pick t (arrivals heeded known ps) (firstArrival p ∷ arrivalsAfter heeded known p ps))
+        All Gap (pick t (arrivals heeded known ps) (first_arrival p ∷ arrivals_after heeded known p ps))
     go true d = d
-    go false d = and {x = firstArrival p} (omega arith) (after-gaps heeded known p ps)
+    go false d = and {x = first_arrival p} (omega arith) (after-gaps heeded known p ps)
 
-into-gaps : (a : Arrival) {gs : List (List Arrival)} → Gap a → All (All Gap) gs → All (All Gap) (intoFirst a gs)
+into-gaps : (a : Arrival) {gs : List (List Arrival)} → Gap a → All (All Gap) gs → All (All Gap) (into_first a gs)
 into-gaps a h empty = and (and h empty) empty
 into-gaps a h (and g gs) = and (and h g) gs
 
@@ -66,7 +66,7 @@ groups-gaps (a ∷ []) h = and h empty
 groups-gaps (a ∷ b ∷ xs) (and h hs) = go b.begins (groups-gaps (b ∷ xs) hs)
   where
     go : (t : Bool) → All (All Gap) (groups (b ∷ xs)) →
-        All (All Gap) (pick t ((a ∷ []) ∷ groups (b ∷ xs)) (intoFirst a (groups (b ∷ xs))))
+        All (All Gap) (pick t ((a ∷ []) ∷ groups (b ∷ xs)) (into_first a (groups (b ∷ xs))))
     go true r = and (and h empty) r
     go false r = into-gaps a h r
 
@@ -95,7 +95,7 @@ groups-begun a [] = record { group = []; more = []; is = refl }
 groups-begun a (b ∷ xs) = go b.begins (groups-begun b xs)
   where
     go : (t : Bool) → Begun b (groups (b ∷ xs)) →
-        Begun a (pick t ((a ∷ []) ∷ groups (b ∷ xs)) (intoFirst a (groups (b ∷ xs))))
+        Begun a (pick t ((a ∷ []) ∷ groups (b ∷ xs)) (into_first a (groups (b ∷ xs))))
     go true g = record { group = []; more = groups (b ∷ xs); is = refl }
     go false g = record { group = b ∷ g.group; more = g.more; is = rw g.is }
 
@@ -120,19 +120,19 @@ first-unit : (heeded known : Bool) (ps : List Packet) (z : UnitRow) →
     1 ≤ length us → (get_or us 0 z).lost ≤ 14 * ((get_or us 0 z).packets - 1)
 unfolding arrivals
 first-unit heeded known [] z h = unfold groups in absurd (omega arith)
-first-unit heeded known (p ∷ ps) z h = go (setApart known p) (first-unit heeded known ps z) h
+first-unit heeded known (p ∷ ps) z h = go (set_apart known p) (first-unit heeded known ps z) h
   where
     go : (t : Bool) →
         (1 ≤ length (map unit_of (groups (arrivals heeded known ps))) →
         (get_or (map unit_of (groups (arrivals heeded known ps))) 0 z).lost
         ≤ 14 * ((get_or (map unit_of (groups (arrivals heeded known ps))) 0 z).packets - 1)) →
-        let xs = pick t (arrivals heeded known ps) (firstArrival p ∷ arrivalsAfter heeded known p ps) in
+        let xs = pick t (arrivals heeded known ps) (first_arrival p ∷ arrivals_after heeded known p ps) in
         1 ≤ length (map unit_of (groups xs)) →
         (get_or (map unit_of (groups xs)) 0 z).lost ≤ 14 * ((get_or (map unit_of (groups xs)) 0 z).packets - 1)
     go true ih h = ih h
     go false ih h =
-        first-lost (firstArrival p) (arrivalsAfter heeded known p ps) refl refl
-        (and {x = firstArrival p} (omega arith) (after-gaps heeded known p ps)) z
+        first-lost (first_arrival p) (arrivals_after heeded known p ps) refl refl
+        (and {x = first_arrival p} (omega arith) (after-gaps heeded known p ps)) z
 
 -- ---- all of them
 
@@ -142,24 +142,24 @@ rows-lost empty = tt
 rows-lost (and h hs) = (group-lost h, rows-lost hs)
 
 -- 1 for the first row alone
-pub in-later : (j : ℕ) → 1 ≤ j → inFirst j ≡ 0
-unfolding inFirst
+pub in-later : (j : ℕ) → 1 ≤ j → in_first j ≡ 0
+unfolding in_first
 in-later j h = rw (ne_eqb j 0 (λ e. omega (arith, e)))
 
 module _ (o : Opening) (capture luma : List ℕ) (w : Sealable o capture luma) (bc : Bytes capture) where
   each-lost : Each (λ (u : UnitRow). u.lost ≤ 14 * u.packets) (units o capture)
-  unfolding units unitsOf
+  unfolding units units_of
   each-lost =
-      let heeded = heedsSplices o.edition in
-      let known = knowsDamage o.edition in
-      let ps = wholeWanted o capture in
+      let heeded = heeds_splices o.edition in
+      let known = knows_damage o.edition in
+      let ps = whole_wanted o capture in
       rows-lost (groups-gaps (arrivals heeded known ps) (all-gaps heeded known ps))
 
   lost-at : (j : ℕ) (z : UnitRow) → j < length (units o capture) →
-      (get_or (units o capture) j z).lost ≤ 14 * ((get_or (units o capture) j z).packets - inFirst j)
-  unfolding units unitsOf inFirst
+      (get_or (units o capture) j z).lost ≤ 14 * ((get_or (units o capture) j z).packets - in_first j)
+  unfolding units units_of in_first
   lost-at zero z h =
-      first-unit (heedsSplices o.edition) (knowsDamage o.edition) (wholeWanted o capture) z (omega arith)
+      first-unit (heeds_splices o.edition) (knows_damage o.edition) (whole_wanted o capture) z (omega arith)
   lost-at (suc j) z h =
       let e = each_at (λ (u : UnitRow). u.lost ≤ 14 * u.packets) (units o capture) (suc j) z each-lost h in
       rw (in-later (suc j) (omega arith)) (omega arith)

@@ -5,13 +5,13 @@ use Rattle.rules.specs.declared.Opening.{Opening}
 use Rattle.rules.specs.declared.UnitRow.{UnitRow}
 use Rattle.rules.specs.declared.SceneRow.{SceneRow}
 use Rattle.rules.specs.Bytes.{word32, word64}
-use Rattle.rules.specs.Editions.{knowsDamage}
-use Rattle.rules.specs.Index.{indexBits}
+use Rattle.rules.specs.Editions.{knows_damage}
+use Rattle.rules.specs.Index.{index_bits}
 use Rattle.rules.specs.Reading.{unit_at, scene_at}
-use Rattle.rules.specs.Busiest.{mostScenes}
+use Rattle.rules.specs.Busiest.{most_scenes}
 use Rattle.record_verify.specs.declared.Verdict.TheVariants.{CouldBeSealed}
-use Rattle.record_verify.specs.Totals.{indexOfRows, reachedOf}
-use Rattle.record_verify.specs.Marks.{inFirst, countedIn, changing, verdictOf}
+use Rattle.record_verify.specs.Totals.{index_of_rows, reached_of}
+use Rattle.record_verify.specs.Marks.{in_first, counted_in, changing, verdict_of}
 use Rattle.reader_facts.specs.Facts.{SealedBy}
 
 -- ---- the rows, each fact with its mark
@@ -19,7 +19,7 @@ use Rattle.reader_facts.specs.Facts.{SealedBy}
 -- unit row j
 pub record SoundUnit (j : ℕ) (u : UnitRow) : Type 0 where
   -- 4: a packet has at most 14 lost before it, the first of all none
-  pub lost : u.lost ≤ 14 * (u.packets - inFirst j)
+  pub lost : u.lost ≤ 14 * (u.packets - in_first j)
   -- 5: a time is below 2^32 seconds
   pub time : u.greatest ≤ 4294967295999999
 
@@ -52,25 +52,25 @@ pub record LaterScene (n : ℕ) (s : SceneRow) : Type 0 where
 -- 16: the 64 bits in the header are those of the index that the record's rows reach
 abbrev pub EverySealReached : Type 0
 EverySealReached =
-    (o : Opening) (capture luma r : List ℕ) → SealedBy o capture luma r → word64 r 56 ≡ indexBits (indexOfRows r)
+    (o : Opening) (capture luma r : List ℕ) → SealedBy o capture luma r → word64 r 56 ≡ index_bits (index_of_rows r)
 
 -- 1: the frames (word 44), those that carry (all but word 48) and the packets counted fit into 268,435,456 bytes
 abbrev pub EverySealCaptureFits : Type 0
 EverySealCaptureFits =
     (o : Opening) (capture luma r : List ℕ) → SealedBy o capture luma r →
-    24 + 16 * word32 r 44 + 42 * (word32 r 44 - word32 r 48) + 188 * countedIn r ≤ 268435456
+    24 + 16 * word32 r 44 + 42 * (word32 r 44 - word32 r 48) + 188 * counted_in r ≤ 268435456
 
 -- 2: a frame that carries has at most 348 packets
 abbrev pub EverySealPacketsFit : Type 0
 EverySealPacketsFit =
     (o : Opening) (capture luma r : List ℕ) → SealedBy o capture luma r →
-    countedIn r ≤ 348 * (word32 r 44 - word32 r 48)
+    counted_in r ≤ 348 * (word32 r 44 - word32 r 48)
 
 -- 3: word 16, the scenes, is at most the greatest number that N pictures shown for d can have (document 02, R-9)
 abbrev pub EverySealFewScenes : Type 0
 EverySealFewScenes =
     (o : Opening) (capture luma r : List ℕ) → SealedBy o capture luma r →
-    word32 r 16 ≤ mostScenes (word32 r 32) (word32 r 40)
+    word32 r 16 ≤ most_scenes (word32 r 32) (word32 r 40)
 
 -- 4 and 5, of every unit row
 abbrev pub EverySealSoundUnits : Type 0
@@ -81,7 +81,7 @@ EverySealSoundUnits =
 -- word 28 of a unit row is 0 before edition 4. No mark asks this: the reader refuses any other (18)
 abbrev pub EverySealUndamaged : Type 0
 EverySealUndamaged =
-    (o : Opening) (capture luma r : List ℕ) → SealedBy o capture luma r → knowsDamage (word32 r 0) ≡ false →
+    (o : Opening) (capture luma r : List ℕ) → SealedBy o capture luma r → knows_damage (word32 r 0) ≡ false →
     (j : ℕ) → j < word32 r 8 → (unit_at r j).damaged ≡ 0
 
 -- 6 to 12, of every scene row
@@ -105,4 +105,4 @@ EverySealLongScenes =
 -- so `verify` says of every sealed record that it could have been sealed, with what its rows reach
 abbrev pub EverySealCouldBe : Type 0
 EverySealCouldBe =
-    (o : Opening) (capture luma r : List ℕ) → SealedBy o capture luma r → verdictOf r ≡ CouldBeSealed (reachedOf r)
+    (o : Opening) (capture luma r : List ℕ) → SealedBy o capture luma r → verdict_of r ≡ CouldBeSealed (reached_of r)

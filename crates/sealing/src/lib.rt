@@ -1,6 +1,6 @@
 // The record of what was fed, written into a lent buffer from the table of units and the luma words.
 ghost use Rattle.std.specs.Prelude.{◌≤◌, ◌<◌, length};
-ghost use Rattle.rules.specs.Record.{recordLength, sceneOffset};
+ghost use Rattle.rules.specs.Record.{record_length, scene_offset};
 ghost use Rattle.sealing.specs.Contract.{UnitsWritten, ScenesWritten, RecordWritten};
 
 use capture_units::Table;
@@ -8,7 +8,7 @@ use rules::Header;
 
 // The rows of n units, behind the header.
 fn write_units(buffer: &mut [u8], table: &Table, n: usize)
-    requires { sceneOffset n ≤ length buffer.old }
+    requires { scene_offset n ≤ length buffer.old }
     ensures { UnitsWritten table.now n buffer.old buffer.new }
 {
     let mut j: usize = 0;
@@ -29,7 +29,7 @@ fn write_scenes(
     pictures: usize,
     time: u64,
 )
-    requires { recordLength units n ≤ length buffer.old }
+    requires { record_length units n ≤ length buffer.old }
     ensures { ScenesWritten luma.now pictures time units n buffer.old
         buffer.new }
 {
@@ -47,8 +47,8 @@ fn write_scenes(
 
 // The whole record with the header h, whose counts say how many rows there are.
 pub fn write_record(buffer: &mut [u8], table: &Table, luma: &luma_state::Words, h: Header)
-    requires { (recordLength h.units h.scenes ≤ length buffer.old)
-        × (recordLength h.units h.scenes < 4294967296) }
+    requires { (record_length h.units h.scenes ≤ length buffer.old)
+        × (record_length h.units h.scenes < 4294967296) }
     ensures { RecordWritten table.now luma.now h buffer.old
         buffer.new }
 {

@@ -11,23 +11,23 @@ use lib.ListN.{length, take, drop, length-drop, length-take, get_or-eq_default}
 use lib.Seq.{take_all, drop-drop, take-add, get_or-drop, get_or-take}
 use lib.Dec.{leb, ltb, eqb}
 use borrow.Author.Tests.{ltb-true, ltb-false, leb-true, eqb-true, lt-ltb, le-ltb}
-use Rattle.rules.specs.Bytes.{byte, word32, total, table, endToEnd}
-use Rattle.rules.specs.Reading.{headerAnswer, unitAnswer}
+use Rattle.rules.specs.Bytes.{byte, word32, total, table, end_to_end}
+use Rattle.rules.specs.Reading.{header_answer, unit_answer}
 use Rattle.record_laws.proofs.Words.{EachByte}
 use Rattle.rules.proofs.Laws.Lists.{both}
 use Rattle.record_reader.proofs.Promise.{units-few, lost-fits}
-use Rattle.rules.specs.Shelf.{recordCount, headLength, edge, rising, laidOut, part, records}
-use Rattle.rules.specs.Shelf.{unitsGiven, lostGiven, recordLost, shelfLost, PartsAreTheShelf}
+use Rattle.rules.specs.Shelf.{record_count, head_length, edge, rising, laid_out, part, records}
+use Rattle.rules.specs.Shelf.{units_given, lost_given, record_lost, shelf_lost, PartsAreTheShelf}
 
 -- ---- edges
 
-pub edge-inside : (s : List ℕ) (j : ℕ) → j < recordCount s → edge s j ≡ word32 s (8 + 4 * j)
+pub edge-inside : (s : List ℕ) (j : ℕ) → j < record_count s → edge s j ≡ word32 s (8 + 4 * j)
 unfolding edge
-edge-inside s j h = rw (lt-ltb j (recordCount s) h)
+edge-inside s j h = rw (lt-ltb j (record_count s) h)
 
-pub edge-end : (s : List ℕ) (j : ℕ) → recordCount s ≤ j → edge s j ≡ length s
+pub edge-end : (s : List ℕ) (j : ℕ) → record_count s ≤ j → edge s j ≡ length s
 unfolding edge
-edge-end s j h = rw (le-ltb j (recordCount s) h)
+edge-end s j h = rw (le-ltb j (record_count s) h)
 
 module _ (s : List ℕ) where
   -- of n rising edges from edge i on, each is below the next, and the first at most the last
@@ -60,8 +60,8 @@ module _ (s : List ℕ) where
 
   -- the parts of n rising edges, joined
   joined-from : (n i : ℕ) → rising s n i ≡ true →
-      endToEnd (table n i (part s)) ≡ take (edge s (i + n) - edge s i) (drop (edge s i) s)
-  unfolding table endToEnd part
+      end_to_end (table n i (part s)) ≡ take (edge s (i + n) - edge s i) (drop (edge s i) s)
+  unfolding table end_to_end part
   joined-from zero i e = let z : edge s (i + 0) - edge s i ≡ 0 = rw (add-zero i) (omega arith) in rw z
   joined-from (suc n) i e =
       let f = rising-split n i e in
@@ -82,34 +82,34 @@ module _ (s : List ℕ) where
 -- ---- what is laid out as a shelf
 
 pub record LaidOut (s : List ℕ) : Type 0 where
-  pub few : recordCount s ≤ 4096
-  pub head : headLength (recordCount s) ≤ length s
+  pub few : record_count s ≤ 4096
+  pub head : head_length (record_count s) ≤ length s
   pub size : word32 s 4 ≡ length s
-  pub first : edge s 0 ≡ headLength (recordCount s)
-  pub rises : rising s (recordCount s) 0 ≡ true
+  pub first : edge s 0 ≡ head_length (record_count s)
+  pub rises : rising s (record_count s) 0 ≡ true
 
-pub laid_out : (s : List ℕ) → laidOut s ≡ true → LaidOut s
-unfolding laidOut
-laid_out s e =
-    let n = recordCount s in
+pub laid_out_lem : (s : List ℕ) → laid_out s ≡ true → LaidOut s
+unfolding laid_out
+laid_out_lem s e =
+    let n = record_count s in
     let b₁ = both _ (rising s n 0) e in
-    let b₂ = both _ (eqb (edge s 0) (headLength n)) b₁.0 in
+    let b₂ = both _ (eqb (edge s 0) (head_length n)) b₁.0 in
     let b₃ = both _ (eqb (word32 s 4) (length s)) b₂.0 in
-    let b₄ = both _ (leb (headLength n) (length s)) b₃.0 in
+    let b₄ = both _ (leb (head_length n) (length s)) b₃.0 in
     let b₅ = both (leb 8 (length s)) (leb n 4096) b₄.0 in
     record {
       few = leb-true n 4096 b₅.1;
-      head = leb-true (headLength n) (length s) b₄.1;
+      head = leb-true (head_length n) (length s) b₄.1;
       size = eqb-true (word32 s 4) (length s) b₃.1;
-      first = eqb-true (edge s 0) (headLength n) b₂.1;
+      first = eqb-true (edge s 0) (head_length n) b₂.1;
       rises = b₁.1;
     }
 
 module _ (s : List ℕ) (l : LaidOut s) where
   -- record j has its part within the shelf
-  pub part-inside : (j : ℕ) → j < recordCount s → (edge s j < edge s (j + 1)) × (edge s (j + 1) ≤ length s)
+  pub part-inside : (j : ℕ) → j < record_count s → (edge s j < edge s (j + 1)) × (edge s (j + 1) ≤ length s)
   part-inside j h =
-      let n = recordCount s in
+      let n = record_count s in
       let low : edge s j < edge s (j + 1) = rw zero-add at (rising-at s n 0 j l.rises h) in
       let high : edge s (j + 1) ≤ edge s n =
       rw (zero-add (j + 1), zero-add n) at (rising-below s n 0 (j + 1) l.rises (omega arith))
@@ -117,17 +117,17 @@ module _ (s : List ℕ) (l : LaidOut s) where
       (low, omega (arith, high, edge-end s n (omega arith)))
 
   -- the parts joined are what stands behind the head
-  pub joined : endToEnd (records s) ≡ drop (headLength (recordCount s)) s
+  pub joined : end_to_end (records s) ≡ drop (head_length (record_count s)) s
   unfolding records
   joined =
-      let n = recordCount s in
+      let n = record_count s in
       let end : edge s (0 + n) ≡ length s = rw (zero-add n) (edge-end s n (omega arith)) in
       joined-from s n 0 l.rises
       ∙ rw (end, l.first)
-      (take_all (length s - headLength n) (drop (headLength n) s) (simp length-drop (omega arith)))
+      (take_all (length s - head_length n) (drop (head_length n) s) (simp length-drop (omega arith)))
 
 pub parts-are-the-shelf : PartsAreTheShelf
-parts-are-the-shelf s e = joined s (laid_out s e)
+parts-are-the-shelf s e = joined s (laid_out_lem s e)
 
 -- ---- lost cells
 
@@ -151,13 +151,13 @@ map-table g f (suc n) i = ap (λ (xs : List ℕ). g (f i) ∷ xs) (map-table g f
 
 -- a record's: what the reader promises of units and lost holds every sum
 module _ (r : List ℕ) where
-  pub record-fits : EachByte r → recordLost r ≤ 3221225471250
-  unfolding recordLost
+  pub record-fits : EachByte r → record_lost r ≤ 3221225471250
+  unfolding record_lost
   record-fits b =
       omega (
         arith,
         units-few r,
-        table-most (λ (i : ℕ). lostGiven (unitAnswer r i)) 4294967295 (unitsGiven (headerAnswer r)) 0 (lost-fits r b),
+        table-most (λ (i : ℕ). lost_given (unit_answer r i)) 4294967295 (units_given (header_answer r)) 0 (lost-fits r b),
       )
 
 module _ (s : List ℕ) where
@@ -172,17 +172,17 @@ module _ (s : List ℕ) where
           let short : length (take n (drop (edge s j) s)) ≤ i = simp length-take (omega (arith, ltb-false i n e)) in
           rw (get_or-eq_default (take n (drop (edge s j) s)) 0 short) (omega arith)
 
-  pub shelf-lost : shelfLost s ≡ total (table (recordCount s) 0 (λ (j : ℕ). recordLost (part s j)))
-  unfolding shelfLost records
-  shelf-lost = ap total (map-table recordLost (part s) (recordCount s) 0)
+  pub shelf-lost : shelf_lost s ≡ total (table (record_count s) 0 (λ (j : ℕ). record_lost (part s j)))
+  unfolding shelf_lost records
+  shelf-lost = ap total (map-table record_lost (part s) (record_count s) 0)
 
   -- 64 bits hold the total
-  pub shelf-fits : EachByte s → laidOut s ≡ true → shelfLost s < 2 ^ 64
+  pub shelf-fits : EachByte s → laid_out s ≡ true → shelf_lost s < 2 ^ 64
   shelf-fits b e =
       omega (
         arith,
         shelf-lost,
-        (laid_out s e).few,
-        table-most (λ (j : ℕ). recordLost (part s j)) 3221225471250 (recordCount s) 0
+        (laid_out_lem s e).few,
+        table-most (λ (j : ℕ). record_lost (part s j)) 3221225471250 (record_count s) 0
             (λ j. record-fits (part s j) (part_bytes b j)),
       )

@@ -2,10 +2,10 @@
 // knows how one is made.
 ghost use Rattle.std.specs.Prelude.{◌≡◌, true, ◌+◌, ◌*◌, ◌≤◌, length};
 ghost use Rattle.rules.specs.Refusals.{none, answer};
-ghost use Rattle.rules.specs.Reading.{readingFault, headerAnswer};
-ghost use Rattle.rules.specs.Shelf.{headLength, recordCount, edge as ruleEdge, rising as ruleRising, laidOut};
-ghost use Rattle.rules.specs.Shelf.{unitsGiven, recordLost, shelfLost, records as allRecords, firstRefused};
-ghost use Rattle.rules.specs.Shelf.{orShelf, shelfAnswer, partAnswer};
+ghost use Rattle.rules.specs.Reading.{reading_fault, header_answer};
+ghost use Rattle.rules.specs.Shelf.{head_length, record_count, edge as rule_edge, rising as rule_rising, laid_out};
+ghost use Rattle.rules.specs.Shelf.{units_given, record_lost, shelf_lost, records as all_records, first_refused};
+ghost use Rattle.rules.specs.Shelf.{or_shelf, shelf_answer, part_answer};
 
 use record_reader::Opened;
 use rules::{Answer, PartAnswer, ShelfAnswer};
@@ -15,8 +15,8 @@ const RECORDS_MOST: usize = 4096;
 
 // Where record j starts, and behind the last record the shelf's end.
 fn edge(bytes: &[u8], records: usize, j: usize) -> usize
-    requires { (records ≡ recordCount bytes.now) × (headLength records ≤ length bytes.now) }
-    ensures { result ≡ ruleEdge bytes.now j }
+    requires { (records ≡ record_count bytes.now) × (head_length records ≤ length bytes.now) }
+    ensures { result ≡ rule_edge bytes.now j }
 {
     if j < records {
         return words::word32(bytes, 8 + 4 * j) as usize;
@@ -26,8 +26,8 @@ fn edge(bytes: &[u8], records: usize, j: usize) -> usize
 
 // Whether each record starts below the next, and the last below the end.
 fn rising(bytes: &[u8], records: usize) -> bool
-    requires { (records ≡ recordCount bytes.now) × (headLength records ≤ length bytes.now) }
-    ensures { result ≡ ruleRising bytes.now records 0 }
+    requires { (records ≡ record_count bytes.now) × (head_length records ≤ length bytes.now) }
+    ensures { result ≡ rule_rising bytes.now records 0 }
 {
     let mut j = 0;
     while j < records {
@@ -43,7 +43,7 @@ fn rising(bytes: &[u8], records: usize) -> bool
 
 // Whether the bytes are laid out as a shelf, whatever its records are.
 fn laid_out(bytes: &[u8]) -> bool
-    ensures { result ≡ laidOut bytes.now }
+    ensures { result ≡ laid_out bytes.now }
 {
     if bytes.len() < 8 {
         return false;
@@ -68,8 +68,8 @@ fn laid_out(bytes: &[u8]) -> bool
 
 // The lost cells of all units of a record that the reader accepted with so many.
 fn lost_in(bytes: &[u8], units: usize) -> u64
-    requires { (readingFault bytes.now ≡ none) × (units ≡ unitsGiven (headerAnswer bytes.now)) }
-    ensures { result ≡ recordLost bytes.now }
+    requires { (reading_fault bytes.now ≡ none) × (units ≡ units_given (header_answer bytes.now)) }
+    ensures { result ≡ record_lost bytes.now }
 {
     let mut lost: u64 = 0;
     let mut i = 0;
@@ -83,7 +83,7 @@ fn lost_in(bytes: &[u8], units: usize) -> u64
 
 // The lost cells of a record, or the reader's refusal.
 fn read_record(bytes: &[u8]) -> Answer
-    ensures { result ≡ answer (readingFault bytes.now) (recordLost bytes.now) }
+    ensures { result ≡ answer (reading_fault bytes.now) (record_lost bytes.now) }
 {
     match record_reader::open(bytes) {
         Opened::Accepted { units, scenes: _ } => Answer::Done(lost_in(bytes, units)),
@@ -96,9 +96,9 @@ fn read_record(bytes: &[u8]) -> Answer
 
 // All records of what is laid out as a shelf.
 fn read_records(bytes: &[u8], records: usize) -> ShelfAnswer
-    requires { (records ≡ recordCount bytes.now) × (laidOut bytes.now ≡ true) }
-    ensures { result ≡ orShelf (firstRefused 0 (allRecords bytes.now)) records
-        (shelfLost bytes.now) }
+    requires { (records ≡ record_count bytes.now) × (laid_out bytes.now ≡ true) }
+    ensures { result ≡ or_shelf (first_refused 0 (all_records bytes.now)) records
+        (shelf_lost bytes.now) }
 {
     let mut lost: u64 = 0;
     let mut j = 0;
@@ -124,7 +124,7 @@ fn read_records(bytes: &[u8], records: usize) -> ShelfAnswer
 // Reads a shelf, every record with it: how many records it holds and how many cells they lost in all. Refused as 27 or
 // 28, tried in this order.
 pub fn open(bytes: &[u8]) -> ShelfAnswer
-    ensures { result ≡ shelfAnswer bytes.now }
+    ensures { result ≡ shelf_answer bytes.now }
 {
     if !laid_out(bytes) {
         return ShelfAnswer::Refused {
@@ -138,7 +138,7 @@ pub fn open(bytes: &[u8]) -> ShelfAnswer
 
 // Reads a shelf likewise: where record j starts and ends, or the refusal: 27, 28, then 19 where it has no such record.
 pub fn part(bytes: &[u8], j: usize) -> PartAnswer
-    ensures { result ≡ partAnswer bytes.now j }
+    ensures { result ≡ part_answer bytes.now j }
 {
     match open(bytes) {
         ShelfAnswer::Given { records, lost: _ } => {

@@ -10,13 +10,13 @@ use lib.ListN.{length, take, drop, get_or, length-append, length-drop, take-appe
 use lib.Seq.{take-suc, drop-cons, drop-drop, take_at, drop_at, length-take-le}
 use lib.Dec.{leb, eqb}
 use borrow.Author.Tests.{leb-true, eqb-true}
-use Rattle.rules.specs.Bytes.{total, endToEnd, All, empty, and}
-use Rattle.rules.specs.Refusals.{Fault, none, fault, ◌orElse◌}
-use Rattle.rules.specs.Reading.{readingFault}
-use Rattle.rules.specs.Shelf.{refusedAt, firstRefused, headBytes, shelfOf}
+use Rattle.rules.specs.Bytes.{total, end_to_end, All, empty, and}
+use Rattle.rules.specs.Refusals.{Fault, none, fault, ◌or_else◌}
+use Rattle.rules.specs.Reading.{reading_fault}
+use Rattle.rules.specs.Shelf.{refused_at, first_refused, head_bytes, shelf_of}
 use Rattle.rules.proofs.Laws.Lists.{both, total-append}
 use Rattle.shelf.proofs.Written.{joined_length, few_bytes, head-length}
-use Rattle.shelf_writer.specs.Writing.{cutUp, goodLengths, shelfLength}
+use Rattle.shelf_writer.specs.Writing.{cut_up, good_lengths, shelf_length}
 
 -- ---- lengths
 
@@ -41,8 +41,8 @@ total-part [] (suc j) = omega arith
 total-part (l ∷ ls) zero = omega arith
 total-part (l ∷ ls) (suc j) = omega (arith, total-part ls j)
 
-pub good : (s ls : List ℕ) → goodLengths ls (length s) ≡ true → (length ls ≤ 4096) × (total ls ≡ length s)
-unfolding goodLengths
+pub good : (s ls : List ℕ) → good_lengths ls (length s) ≡ true → (length ls ≤ 4096) × (total ls ≡ length s)
+unfolding good_lengths
 good s ls e =
     let b = both (leb (length ls) 4096) (eqb (total ls) (length s)) e in
     (leb-true (length ls) 4096 b.0, eqb-true (total ls) (length s) b.1)
@@ -51,18 +51,18 @@ good s ls e =
 
 -- the next one, and those behind it
 pub cut-next : (s ls : List ℕ) (start j : ℕ) → j < length ls →
-    cutUp (drop start s) (drop j ls) ≡
-    take (get_or ls j 0) (drop start s) ∷ cutUp (drop (start + get_or ls j 0) s) (drop (j + 1) ls)
-unfolding cutUp
+    cut_up (drop start s) (drop j ls) ≡
+    take (get_or ls j 0) (drop start s) ∷ cut_up (drop (start + get_or ls j 0) s) (drop (j + 1) ls)
+unfolding cut_up
 cut-next s ls start j h =
     let l = get_or ls j 0 in
     let r = take l (drop start s) in
-    ap (cutUp (drop start s)) (drop-cons ls j 0 h)
-    ∙ ap (λ (z : List ℕ). r ∷ cutUp z (drop (suc j) ls)) (drop-drop l start s)
-    ∙ ap (λ (k : ℕ). r ∷ cutUp (drop (start + l) s) (drop k ls)) (sym (add-one j))
+    ap (cut_up (drop start s)) (drop-cons ls j 0 h)
+    ∙ ap (λ (z : List ℕ). r ∷ cut_up z (drop (suc j) ls)) (drop-drop l start s)
+    ∙ ap (λ (k : ℕ). r ∷ cut_up (drop (start + l) s) (drop k ls)) (sym (add-one j))
 
-pub cut-count : (s ls : List ℕ) → length (cutUp s ls) ≡ length ls
-unfolding cutUp
+pub cut-count : (s ls : List ℕ) → length (cut_up s ls) ≡ length ls
+unfolding cut_up
 cut-count s [] = refl
 cut-count s (l ∷ ls) = ap suc (cut-count (drop l s) ls)
 
@@ -70,11 +70,11 @@ cut-count s (l ∷ ls) = ap suc (cut-count (drop l s) ls)
 left_over : (s : List ℕ) (l n : ℕ) → l + n ≡ length s → n ≡ length (drop l s)
 left_over s l n e = simp length-drop (omega arith)
 
-pub cut-lengths : (s ls : List ℕ) → total ls ≡ length s → map length (cutUp s ls) ≡ ls
-unfolding cutUp total
+pub cut-lengths : (s ls : List ℕ) → total ls ≡ length s → map length (cut_up s ls) ≡ ls
+unfolding cut_up total
 cut-lengths s [] e = refl
 cut-lengths s (l ∷ ls) e =
-    ap (λ (k : ℕ). k ∷ map length (cutUp (drop l s) ls)) (length-take-le l s (omega arith))
+    ap (λ (k : ℕ). k ∷ map length (cut_up (drop l s) ls)) (length-take-le l s (omega arith))
     ∙ ap (λ (z : List ℕ). l ∷ z) (cut-lengths (drop l s) ls (left_over s l (total ls) e))
 
 nothing : (s : List ℕ) → 0 ≡ length s → [] ≡ s
@@ -82,48 +82,48 @@ nothing [] e = refl
 nothing (x ∷ s) e = absurd (omega arith)
 
 -- all of the string, and nothing twice
-pub cut-joined : (s ls : List ℕ) → total ls ≡ length s → endToEnd (cutUp s ls) ≡ s
-unfolding cutUp endToEnd total
+pub cut-joined : (s ls : List ℕ) → total ls ≡ length s → end_to_end (cut_up s ls) ≡ s
+unfolding cut_up end_to_end total
 cut-joined s [] e = nothing s e
 cut-joined s (l ∷ ls) e =
     ap (λ (z : List ℕ). take l s ++ z) (cut-joined (drop l s) ls (left_over s l (total ls) e))
     ∙ take-append-drop l s
 
 -- records laid end to end are cut from there as they were
-pub cut-back : (rs : List (List ℕ)) → cutUp (endToEnd rs) (map length rs) ≡ rs
-unfolding cutUp endToEnd
+pub cut-back : (rs : List (List ℕ)) → cut_up (end_to_end rs) (map length rs) ≡ rs
+unfolding cut_up end_to_end
 cut-back [] = refl
 cut-back (r ∷ rs) =
-    let more = endToEnd rs in
-    ap (λ (z : List ℕ). z ∷ cutUp (drop (length r) (r ++ more)) (map length rs)) (take_at r more (length r) refl)
-    ∙ ap (λ (z : List ℕ). r ∷ cutUp z (map length rs)) (drop_at r more (length r) refl)
+    let more = end_to_end rs in
+    ap (λ (z : List ℕ). z ∷ cut_up (drop (length r) (r ++ more)) (map length rs)) (take_at r more (length r) refl)
+    ∙ ap (λ (z : List ℕ). r ∷ cut_up z (map length rs)) (drop_at r more (length r) refl)
     ∙ ap (λ (z : List (List ℕ)). r ∷ z) (cut-back rs)
 
 -- where none is refused, the reader takes each
-pub each-taken : (j : ℕ) (rs : List (List ℕ)) → firstRefused j rs ≡ none →
-    All (λ (r : List ℕ). readingFault r ≡ none) rs
-unfolding firstRefused
+pub each-taken : (j : ℕ) (rs : List (List ℕ)) → first_refused j rs ≡ none →
+    All (λ (r : List ℕ). reading_fault r ≡ none) rs
+unfolding first_refused
 each-taken j [] e = empty
-each-taken j (r ∷ rs) e = go (readingFault r) refl e (each-taken (j + 1) rs)
+each-taken j (r ∷ rs) e = go (reading_fault r) refl e (each-taken (j + 1) rs)
   where
-    go : (f : Fault) → readingFault r ≡ f → (refusedAt f j or_else firstRefused (j + 1) rs) ≡ none →
-        (firstRefused (j + 1) rs ≡ none → All (λ (q : List ℕ). readingFault q ≡ none) rs) →
-        All (λ (q : List ℕ). readingFault q ≡ none) (r ∷ rs)
+    go : (f : Fault) → reading_fault r ≡ f → (refused_at f j or_else first_refused (j + 1) rs) ≡ none →
+        (first_refused (j + 1) rs ≡ none → All (λ (q : List ℕ). reading_fault q ≡ none) rs) →
+        All (λ (q : List ℕ). reading_fault q ≡ none) (r ∷ rs)
     go none k d more = and {x = r} k (more d)
     go (fault i p) k d more = absurd (let z : ◌≡◌ {A = ℕ} 0 1 = cc in omega arith)
 
 -- ---- the shelf's length
 
-pub shelf-length : (rs : List (List ℕ)) → length (shelfOf rs) ≡ shelfLength (map length rs)
-unfolding shelfOf shelfLength
+pub shelf-length : (rs : List (List ℕ)) → length (shelf_of rs) ≡ shelf_length (map length rs)
+unfolding shelf_of shelf_length
 shelf-length rs =
-    length-append (headBytes (map length rs)) (endToEnd rs)
+    length-append (head_bytes (map length rs)) (end_to_end rs)
     ∙ omega (arith, head-length (map length rs), joined_length rs)
 
 -- 32 bits hold it where the reader takes each record
-pub shelf-small : (s ls : List ℕ) → length ls ≤ 4096 → total ls ≡ length s → firstRefused 0 (cutUp s ls) ≡ none →
-    shelfLength ls < 2 ^ 32
-unfolding shelfLength
+pub shelf-small : (s ls : List ℕ) → length ls ≤ 4096 → total ls ≡ length s → first_refused 0 (cut_up s ls) ≡ none →
+    shelf_length ls < 2 ^ 32
+unfolding shelf_length
 shelf-small s ls few fits e =
-    let rs = cutUp s ls in
+    let rs = cut_up s ls in
     omega (arith, few_bytes (each-taken 0 rs e), ap total (cut-lengths s ls fits), cut-count s ls)

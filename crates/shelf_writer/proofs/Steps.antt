@@ -12,23 +12,23 @@ use lib.Dec.{eqb}
 use borrow.Author.Tests.{lt-ltb, le-ltb, lt-leb, le-leb}
 use Rattle.rules.specs.declared.Answer.{Answer}
 use Rattle.rules.specs.declared.Answer.TheVariants.{Done, Refused}
-use Rattle.rules.specs.Bytes.{bytes_of, total, endToEnd}
-use Rattle.rules.specs.Refusals.{Fault, none, fault, ◌orElse◌, answer}
-use Rattle.rules.specs.Reading.{readingFault}
-use Rattle.rules.specs.Seal.{noRoom, over}
-use Rattle.rules.specs.Shelf.{headLength, refusedAt, firstRefused, offsetsFrom, headBytes, shelfOf}
-use Rattle.rules.proofs.Laws.Lists.{endToEnd-append}
+use Rattle.rules.specs.Bytes.{bytes_of, total, end_to_end}
+use Rattle.rules.specs.Refusals.{Fault, none, fault, ◌or_else◌, answer}
+use Rattle.rules.specs.Reading.{reading_fault}
+use Rattle.rules.specs.Seal.{no_room, over}
+use Rattle.rules.specs.Shelf.{head_length, refused_at, first_refused, offsets_from, head_bytes, shelf_of}
+use Rattle.rules.proofs.Laws.Lists.{end_to_end-append}
 use Rattle.words.specs.Written.{written}
-use Rattle.words.proofs.Laws.{length-bytesOf}
+use Rattle.words.proofs.Laws.{length-bytes_of}
 use Rattle.words.proofs.Behind.{next, over-written}
 use Rattle.record_text.proofs.Texts.{none_yet}
 use Rattle.record_reader.specs.declared.Opened.{Opened}
 use Rattle.record_reader.specs.declared.Opened.TheVariants as of-opened
-use Rattle.record_reader.specs.Opened.{openedAs}
+use Rattle.record_reader.specs.Opened.{opened_as}
 use Rattle.record_reader.proofs.Answers.{accepted, refused}
 use Rattle.shelf.proofs.Written.{offset-is, offsets-count, words-length}
-use Rattle.shelf_writer.specs.Writing.{cutUp, goodLengths, shelfLength, offsetBytes, writingAnswer, writingFault}
-use Rattle.shelf_writer.specs.Writing.{writtenBuffer}
+use Rattle.shelf_writer.specs.Writing.{cut_up, good_lengths, shelf_length, offset_bytes, writing_answer, writing_fault}
+use Rattle.shelf_writer.specs.Writing.{written_buffer}
 use Rattle.shelf_writer.proofs.Laws.{total-more, total-part, cut-next, cut-lengths, cut-joined}
 
 -- ---- lengths, one by one
@@ -40,17 +40,17 @@ no-sum ls = refl
 pub whole_sum : (ls : List ℕ) (j : ℕ) → length ls ≤ j → total (take j ls) ≡ total ls
 whole_sum ls j h = ap total (take_all j ls h)
 
-pub too_many : (ls : List ℕ) (n : ℕ) → 4096 < length ls → false ≡ goodLengths ls n
-unfolding goodLengths
+pub too_many : (ls : List ℕ) (n : ℕ) → 4096 < length ls → false ≡ good_lengths ls n
+unfolding good_lengths
 too_many ls n h = rw (lt-leb (length ls) 4096 h)
 
-pub sum-tested : (ls : List ℕ) (n sum : ℕ) → length ls ≤ 4096 → sum ≡ total ls → eqb sum n ≡ goodLengths ls n
-unfolding goodLengths
+pub sum-tested : (ls : List ℕ) (n sum : ℕ) → length ls ≤ 4096 → sum ≡ total ls → eqb sum n ≡ good_lengths ls n
+unfolding good_lengths
 sum-tested ls n sum h e = rw (le-leb (length ls) 4096 h, e)
 
 -- ---- records, one by one
 
-pub cut-start : (s ls : List ℕ) → firstRefused 0 (cutUp s ls) ≡ firstRefused 0 (cutUp (drop 0 s) (drop 0 ls))
+pub cut-start : (s ls : List ℕ) → first_refused 0 (cut_up s ls) ≡ first_refused 0 (cut_up (drop 0 s) (drop 0 ls))
 cut-start s ls = refl
 
 module _ (s ls : List ℕ) (fits : total ls ≡ length s) (start j : ℕ) (h : j < length ls) where
@@ -59,160 +59,160 @@ module _ (s ls : List ℕ) (fits : total ls ≡ length s) (start j : ℕ) (h : j
   cut_inside e = omega (arith, total-more ls j h, total-part ls (j + 1))
 
 module _ (s ls : List ℕ) (start j : ℕ) (h : j < length ls) (f : Fault)
-    (rest : f ≡ firstRefused j (cutUp (drop start s) (drop j ls))) (l : ℕ) (is-l : l ≡ get_or ls j 0) (o : Opened)
-    (e : o ≡ openedAs (take (start + l - start) (drop start s))) where
-  record-next : f ≡ (refusedAt (readingFault (take l (drop start s))) j or_else
-      firstRefused (j + 1) (cutUp (drop (start + l) s) (drop (j + 1) ls)))
-  unfolding firstRefused
-  record-next = rest ∙ (ap (firstRefused j) (cut-next s ls start j h) ∙ rw is-l)
+    (rest : f ≡ first_refused j (cut_up (drop start s) (drop j ls))) (l : ℕ) (is-l : l ≡ get_or ls j 0) (o : Opened)
+    (e : o ≡ opened_as (take (start + l - start) (drop start s))) where
+  record-next : f ≡ (refused_at (reading_fault (take l (drop start s))) j or_else
+      first_refused (j + 1) (cut_up (drop (start + l) s) (drop (j + 1) ls)))
+  unfolding first_refused
+  record-next = rest ∙ (ap (first_refused j) (cut-next s ls start j h) ∙ rw is-l)
 
-  opened : o ≡ openedAs (take l (drop start s))
+  opened : o ≡ opened_as (take l (drop start s))
   opened =
       let size : start + l - start ≡ l = omega arith in
-      e ∙ ap (λ (k : ℕ). openedAs (take k (drop start s))) size
+      e ∙ ap (λ (k : ℕ). opened_as (take k (drop start s))) size
 
   pub cut-more : (u n : ℕ) → o ≡ of-opened.Accepted u n →
-      f ≡ firstRefused (j + 1) (cutUp (drop (start + l) s) (drop (j + 1) ls))
+      f ≡ first_refused (j + 1) (cut_up (drop (start + l) s) (drop (j + 1) ls))
   cut-more u n d = record-next ∙ rw (accepted (take l (drop start s)) o opened u n d).fault
 
   pub cut-stop : (k p : ℕ) → o ≡ of-opened.Refused k p → f ≡ fault 28 j
   cut-stop k p d = record-next ∙ rw (refused (take l (drop start s)) o opened k p d)
 
 pub cut-end : (s ls : List ℕ) (start j : ℕ) (f : Fault) → length ls ≤ j →
-    f ≡ firstRefused j (cutUp (drop start s) (drop j ls)) → f ≡ none
-unfolding firstRefused cutUp
+    f ≡ first_refused j (cut_up (drop start s) (drop j ls)) → f ≡ none
+unfolding first_refused cut_up
 cut-end s ls start j f h e =
-    e ∙ ap (λ (z : List ℕ). firstRefused j (cutUp (drop start s) z)) (drop_of_length-le ls h)
+    e ∙ ap (λ (z : List ℕ). first_refused j (cut_up (drop start s) z)) (drop_of_length-le ls h)
 
 -- ---- words, one by one
 
 -- the first j of some words
 abbrev pub words_to : ℕ → List ℕ → List ℕ
-words_to j xs = endToEnd (map (bytes_of 4) (take j xs))
+words_to j xs = end_to_end (map (bytes_of 4) (take j xs))
 
 words_more : (xs : List ℕ) (j : ℕ) → j < length xs → words_to (j + 1) xs ≡ words_to j xs ++ bytes_of 4 (get_or xs j 0)
-unfolding endToEnd
+unfolding end_to_end
 words_more xs j h =
     let last = get_or xs j 0 in
-    let joined = endToEnd-append (map (bytes_of 4) (take j xs)) (bytes_of 4 last ∷ []) in
+    let joined = end_to_end-append (map (bytes_of 4) (take j xs)) (bytes_of 4 last ∷ []) in
     rw (add-one j, take-suc xs j 0 h, map-append (bytes_of 4) (take j xs) (last ∷ []), joined)
-    (ap (λ (x : List ℕ). endToEnd (map (bytes_of 4) (take j xs)) ++ x) (append-nil (bytes_of 4 last)))
+    (ap (λ (x : List ℕ). end_to_end (map (bytes_of 4) (take j xs)) ++ x) (append-nil (bytes_of 4 last)))
 
 abbrev pub offsets : List ℕ → List ℕ
-offsets ls = offsetsFrom (headLength (length ls)) ls
+offsets ls = offsets_from (head_length (length ls)) ls
 
 pub no_words : (ls b : List ℕ) → b ≡ written 8 (words_to 0 (offsets ls)) b
-unfolding endToEnd
+unfolding end_to_end
 no_words ls b = none_yet b [] 8
 
-module _ (ls b : List ℕ) (j : ℕ) {b₁ : List ℕ} (room : headLength (length ls) ≤ length b)
+module _ (ls b : List ℕ) (j : ℕ) {b₁ : List ℕ} (room : head_length (length ls) ≤ length b)
     (e : b₁ ≡ written 8 (words_to j (offsets ls)) b) where
-  pub word_more : (start : ℕ) {b₂ : List ℕ} → start ≡ headLength (length ls) + total (take j ls) → j < length ls →
+  pub word_more : (start : ℕ) {b₂ : List ℕ} → start ≡ head_length (length ls) + total (take j ls) → j < length ls →
       b₂ ≡ written (8 + 4 * j) (bytes_of 4 start) b₁ → b₂ ≡ written 8 (words_to (j + 1) (offsets ls)) b
   word_more start {b₂} is h d =
       let xs = offsets ls in
-      let count = offsets-count (headLength (length ls)) ls in
+      let count = offsets-count (head_length (length ls)) ls in
       let ws = words_to j xs in
       let size : length ws ≡ 4 * j =
       words-length (take j xs) ∙ ap (λ (k : ℕ). 4 * k) (length-take-le j xs (omega (arith, count)))
       in
       let same : bytes_of 4 start ≡ bytes_of 4 (get_or xs j 0) =
-      ap (bytes_of 4) (is ∙ sym (offset-is (headLength (length ls)) ls j h))
+      ap (bytes_of 4) (is ∙ sym (offset-is (head_length (length ls)) ls j h))
       in
       next 8 (4 * j) ws (bytes_of 4 start) b size (omega arith) e d
       ∙ ap (λ (z : List ℕ). written 8 (ws ++ z) b) same
       ∙ ap (λ (z : List ℕ). written 8 z b) (sym (words_more xs j (omega (arith, count))))
 
-  pub all_words : length ls ≤ j → b₁ ≡ written 8 (offsetBytes ls) b
-  unfolding offsetBytes
+  pub all_words : length ls ≤ j → b₁ ≡ written 8 (offset_bytes ls) b
+  unfolding offset_bytes
   all_words h =
       let all : take j (offsets ls) ≡ offsets ls =
-      take_all j (offsets ls) (omega (arith, offsets-count (headLength (length ls)) ls))
+      take_all j (offsets ls) (omega (arith, offsets-count (head_length (length ls)) ls))
       in
-      e ∙ ap (λ (z : List ℕ). written 8 (endToEnd (map (bytes_of 4) z)) b) all
+      e ∙ ap (λ (z : List ℕ). written 8 (end_to_end (map (bytes_of 4) z)) b) all
 
 -- ---- the shelf, put part by part
 
-module _ (s ls b : List ℕ) (size : ℕ) (is : size ≡ shelfLength ls) (fits : total ls ≡ length s)
+module _ (s ls b : List ℕ) (size : ℕ) (is : size ≡ shelf_length ls) (fits : total ls ≡ length s)
     (room : size ≤ length b) where
   head-size : length (bytes_of 4 (length ls) ++ bytes_of 4 size) ≡ 8
-  head-size = simp (length-append, length-bytesOf)
+  head-size = simp (length-append, length-bytes_of)
 
-  offsets-size : length (offsetBytes ls) ≡ 4 * length ls
-  unfolding offsetBytes
+  offsets-size : length (offset_bytes ls) ≡ 4 * length ls
+  unfolding offset_bytes
   offsets-size =
-      words-length (offsets ls) ∙ ap (λ (k : ℕ). 4 * k) (offsets-count (headLength (length ls)) ls)
+      words-length (offsets ls) ∙ ap (λ (k : ℕ). 4 * k) (offsets-count (head_length (length ls)) ls)
 
-  shelf-is : bytes_of 4 (length ls) ++ bytes_of 4 size ++ offsetBytes ls ++ s ≡ shelfOf (cutUp s ls)
-  unfolding shelfOf headBytes offsetBytes shelfLength
+  shelf-is : bytes_of 4 (length ls) ++ bytes_of 4 size ++ offset_bytes ls ++ s ≡ shelf_of (cut_up s ls)
+  unfolding shelf_of head_bytes offset_bytes shelf_length
   shelf-is = rw (cut-lengths s ls fits, cut-joined s ls fits, is)
 
   pub shelf-put : {b₁ b₂ b₃ b₄ : List ℕ} →
       b₁ ≡ written 0 (bytes_of 4 (length ls)) b → b₂ ≡ written 4 (bytes_of 4 size) b₁ →
-      b₃ ≡ written 8 (offsetBytes ls) b₂ → b₄ ≡ written (8 + 4 * length ls) s b₃ →
-      b₄ ≡ over (shelfOf (cutUp s ls)) b
-  unfolding shelfLength
+      b₃ ≡ written 8 (offset_bytes ls) b₂ → b₄ ≡ written (8 + 4 * length ls) s b₃ →
+      b₄ ≡ over (shelf_of (cut_up s ls)) b
+  unfolding shelf_length
   shelf-put {b₁} {b₂} {b₃} {b₄} e₁ e₂ e₃ e₄ =
       let count = bytes_of 4 (length ls) in
       let front = count ++ bytes_of 4 size in
-      let long : length (front ++ offsetBytes ls) ≡ 8 + 4 * length ls =
-      length-append front (offsetBytes ls) ∙ omega (arith, head-size, offsets-size)
+      let long : length (front ++ offset_bytes ls) ≡ 8 + 4 * length ls =
+      length-append front (offset_bytes ls) ∙ omega (arith, head-size, offsets-size)
       in
-      let two = next 0 4 count (bytes_of 4 size) b (length-bytesOf 4 (length ls)) (omega arith) e₁ e₂ in
-      let three = next 0 8 front (offsetBytes ls) b head-size (omega arith) two e₃ in
+      let two = next 0 4 count (bytes_of 4 size) b (length-bytes_of 4 (length ls)) (omega arith) e₁ e₂ in
+      let three = next 0 8 front (offset_bytes ls) b head-size (omega arith) two e₃ in
       let last = e₄ ∙ ap (λ (k : ℕ). written k s b₃) (sym (zero-add (8 + 4 * length ls))) in
-      next 0 (8 + 4 * length ls) (front ++ offsetBytes ls) s b long (omega arith) three last
-      ∙ over-written (front ++ offsetBytes ls ++ s) b
+      next 0 (8 + 4 * length ls) (front ++ offset_bytes ls) s b long (omega arith) three last
+      ∙ over-written (front ++ offset_bytes ls ++ s) b
       ∙ ap (λ (z : List ℕ). over z b) shelf-is
 
 -- ---- the answers
 
-pub size_is : (s ls : List ℕ) → total ls ≡ length s → 8 + 4 * length ls + length s ≡ shelfLength ls
-unfolding shelfLength
+pub size_is : (s ls : List ℕ) → total ls ≡ length s → 8 + 4 * length ls + length s ≡ shelf_length ls
+unfolding shelf_length
 size_is s ls e = omega arith
 
 module _ (s ls : List ℕ) (m : ℕ) where
-  pub not_good : goodLengths ls (length s) ≡ false → Refused 27 0 ≡ writingAnswer s ls m
-  unfolding writingAnswer writingFault
+  pub not_good : good_lengths ls (length s) ≡ false → Refused 27 0 ≡ writing_answer s ls m
+  unfolding writing_answer writing_fault
   not_good e = rw e
 
 -- of an answer a of reading the records
-module _ (s ls : List ℕ) (a : Answer) (e : a ≡ answer (firstRefused 0 (cutUp s ls)) 0) where
-  pub all_read : (k : ℕ) → a ≡ Done k → firstRefused 0 (cutUp s ls) ≡ none
-  all_read k d = go (firstRefused 0 (cutUp s ls)) (sym e ∙ d)
+module _ (s ls : List ℕ) (a : Answer) (e : a ≡ answer (first_refused 0 (cut_up s ls)) 0) where
+  pub all_read : (k : ℕ) → a ≡ Done k → first_refused 0 (cut_up s ls) ≡ none
+  all_read k d = go (first_refused 0 (cut_up s ls)) (sym e ∙ d)
     where
       go : (f : Fault) → answer f 0 ≡ Done k → f ≡ none
       go none g = refl
       go (fault i p) g = absurd (let z : ◌≡◌ {A = ℕ} 0 1 = cc in omega arith)
 
-  one-refused : (k p : ℕ) → a ≡ Refused k p → firstRefused 0 (cutUp s ls) ≡ fault k p
-  one-refused k p d = go (firstRefused 0 (cutUp s ls)) (sym e ∙ d)
+  one-refused : (k p : ℕ) → a ≡ Refused k p → first_refused 0 (cut_up s ls) ≡ fault k p
+  one-refused k p d = go (first_refused 0 (cut_up s ls)) (sym e ∙ d)
     where
       go : (f : Fault) → answer f 0 ≡ Refused k p → f ≡ fault k p
       go none g = absurd (let z : ◌≡◌ {A = ℕ} 0 1 = cc in omega arith)
       go (fault i q) g = cc
 
-  module _ (good : goodLengths ls (length s) ≡ true) (m : ℕ) where
-    pub record-refused : (k p : ℕ) → a ≡ Refused k p → Refused k p ≡ writingAnswer s ls m
-    unfolding writingAnswer writingFault
+  module _ (good : good_lengths ls (length s) ≡ true) (m : ℕ) where
+    pub record-refused : (k p : ℕ) → a ≡ Refused k p → Refused k p ≡ writing_answer s ls m
+    unfolding writing_answer writing_fault
     record-refused k p d = rw (good, one-refused k p d)
 
-    module _ (k : ℕ) (d : a ≡ Done k) (size : ℕ) (is : size ≡ shelfLength ls) where
-      pub no_room : m < size → Refused 15 size ≡ writingAnswer s ls m
-      unfolding writingAnswer writingFault noRoom
-      no_room h = rw (good, all_read k d, ← is, lt-ltb m size h)
+    module _ (k : ℕ) (d : a ≡ Done k) (size : ℕ) (is : size ≡ shelf_length ls) where
+      pub no_room_lem : m < size → Refused 15 size ≡ writing_answer s ls m
+      unfolding writing_answer writing_fault no_room
+      no_room_lem h = rw (good, all_read k d, ← is, lt-ltb m size h)
 
-      pub wrote : size ≤ m → Done size ≡ writingAnswer s ls m
-      unfolding writingAnswer writingFault noRoom
+      pub wrote : size ≤ m → Done size ≡ writing_answer s ls m
+      unfolding writing_answer writing_fault no_room
       wrote h = rw (good, all_read k d, ← is, le-ltb m size h)
 
 -- and the buffer
 module _ (s ls b : List ℕ) where
-  pub stands : (k p : ℕ) → Refused k p ≡ writingAnswer s ls (length b) → b ≡ writtenBuffer s ls b
-  unfolding writtenBuffer
+  pub stands : (k p : ℕ) → Refused k p ≡ writing_answer s ls (length b) → b ≡ written_buffer s ls b
+  unfolding written_buffer
   stands k p e = rw (← e)
 
-  pub stored : (n : ℕ) {t : List ℕ} → Done n ≡ writingAnswer s ls (length b) → t ≡ over (shelfOf (cutUp s ls)) b →
-      t ≡ writtenBuffer s ls b
-  unfolding writtenBuffer
+  pub stored : (n : ℕ) {t : List ℕ} → Done n ≡ writing_answer s ls (length b) → t ≡ over (shelf_of (cut_up s ls)) b →
+      t ≡ written_buffer s ls b
+  unfolding written_buffer
   stored n e d = rw (← e) d

@@ -9,15 +9,15 @@ use lib.ListN.{length, take, drop, length-map}
 use lib.Seq.{take_at, drop_at}
 use borrow.Author.Tests.{le-leb, le-ltb, eq-eqb}
 use Rattle.rules.specs.declared.Answer.TheVariants.{Done}
-use Rattle.rules.specs.Bytes.{total, endToEnd}
-use Rattle.rules.specs.Refusals.{Fault, none, fault, unless, ◌orElse◌, answer}
-use Rattle.rules.specs.Seal.{noRoom, over}
-use Rattle.rules.specs.Reading.{readingFault}
-use Rattle.rules.specs.Shelf.{records, refusedAt, firstRefused, shelfOf, Shelved}
+use Rattle.rules.specs.Bytes.{total, end_to_end}
+use Rattle.rules.specs.Refusals.{Fault, none, fault, unless, ◌or_else◌, answer}
+use Rattle.rules.specs.Seal.{no_room, over}
+use Rattle.rules.specs.Reading.{reading_fault}
+use Rattle.rules.specs.Shelf.{records, refused_at, first_refused, shelf_of, Shelved}
 use Rattle.rules.proofs.Laws.Listed.{Numbered, of_either, of-unless, room}
 use Rattle.shelf.proofs.Written.{joined_length, none-refused, every-shelf}
-use Rattle.shelf_writer.specs.Writing.{cutUp, goodLengths, shelfLength, writingFault, writingAnswer}
-use Rattle.shelf_writer.specs.Writing.{writtenBuffer, EveryWriting, EveryRecords, OneWriting}
+use Rattle.shelf_writer.specs.Writing.{cut_up, good_lengths, shelf_length, writing_fault, writing_answer}
+use Rattle.shelf_writer.specs.Writing.{written_buffer, EveryWriting, EveryRecords, OneWriting}
 use Rattle.shelf_writer.proofs.Laws.{good, cut-count, cut-lengths, cut-joined, cut-back, each-taken}
 use Rattle.shelf_writer.proofs.Laws.{shelf-length}
 
@@ -35,46 +35,46 @@ answer-done (fault k p) m n e = absurd (let z : ◌≡◌ {A = ℕ} 0 1 = cc in 
 
 -- ---- a call that was not refused
 
-module _ (s ls b : List ℕ) (n : ℕ) (e : writingAnswer s ls (length b) ≡ Done n) where
-  done : (writingFault s ls (length b) ≡ none) × (shelfLength ls ≡ n)
-  unfolding writingAnswer
-  done = answer-done (writingFault s ls (length b)) (shelfLength ls) n e
+module _ (s ls b : List ℕ) (n : ℕ) (e : writing_answer s ls (length b) ≡ Done n) where
+  done : (writing_fault s ls (length b) ≡ none) × (shelf_length ls ≡ n)
+  unfolding writing_answer
+  done = answer-done (writing_fault s ls (length b)) (shelf_length ls) n e
 
-  passed : (goodLengths ls (length s) ≡ true) × (firstRefused 0 (cutUp s ls) ≡ none)
-  unfolding writingFault
+  passed : (good_lengths ls (length s) ≡ true) × (first_refused 0 (cut_up s ls) ≡ none)
+  unfolding writing_fault
   passed =
-      let first = unless (goodLengths ls (length s)) 27 in
-      let second = firstRefused 0 (cutUp s ls) in
-      let third = noRoom (length b) (shelfLength ls) in
+      let first = unless (good_lengths ls (length s)) 27 in
+      let second = first_refused 0 (cut_up s ls) in
+      let third = no_room (length b) (shelf_length ls) in
       let x = either-none first (second or_else third) done.0 in
-      (unless-none (goodLengths ls (length s)) 27 x.0, (either-none second third x.1).0)
+      (unless-none (good_lengths ls (length s)) 27 x.0, (either-none second third x.1).0)
 
   fits : (length ls ≤ 4096) × (total ls ≡ length s)
   fits = good s ls passed.0
 
-  shelved : Shelved (cutUp s ls)
-  shelved = record { few = omega (arith, cut-count s ls, fits.0); each = each-taken 0 (cutUp s ls) passed.1 }
+  shelved : Shelved (cut_up s ls)
+  shelved = record { few = omega (arith, cut-count s ls, fits.0); each = each-taken 0 (cut_up s ls) passed.1 }
 
-  long : length (shelfOf (cutUp s ls)) ≡ n
-  long = shelf-length (cutUp s ls) ∙ ap shelfLength (cut-lengths s ls fits.1) ∙ done.1
+  long : length (shelf_of (cut_up s ls)) ≡ n
+  long = shelf-length (cut_up s ls) ∙ ap shelf_length (cut-lengths s ls fits.1) ∙ done.1
 
-  after : writtenBuffer s ls b ≡ over (shelfOf (cutUp s ls)) b
-  unfolding writtenBuffer
+  after : written_buffer s ls b ≡ over (shelf_of (cut_up s ls)) b
+  unfolding written_buffer
   after = rw e
 
-  front : take n (writtenBuffer s ls b) ≡ shelfOf (cutUp s ls)
+  front : take n (written_buffer s ls b) ≡ shelf_of (cut_up s ls)
   unfolding over
-  front = let x = shelfOf (cutUp s ls) in ap (take n) after ∙ take_at x (drop (length x) b) n long
+  front = let x = shelf_of (cut_up s ls) in ap (take n) after ∙ take_at x (drop (length x) b) n long
 
-  past : drop n (writtenBuffer s ls b) ≡ drop n b
+  past : drop n (written_buffer s ls b) ≡ drop n b
   unfolding over
   past =
-      let x = shelfOf (cutUp s ls) in
+      let x = shelf_of (cut_up s ls) in
       ap (drop n) after ∙ drop_at x (drop (length x) b) n long ∙ ap (λ (k : ℕ). drop k b) long
 
 pub every-writing : EveryWriting
 every-writing s ls b n e =
-    let back = every-shelf (cutUp s ls) (shelved s ls b n e) in
+    let back = every-shelf (cut_up s ls) (shelved s ls b n e) in
     record {
       accepted = rw (front s ls b n e) back.accepted;
       back = ap records (front s ls b n e) ∙ back.back;
@@ -84,28 +84,28 @@ every-writing s ls b n e =
 
 -- ---- any records
 
-module _ (rs : List (List ℕ)) (h : Shelved rs) (b : List ℕ) (fit : length (shelfOf rs) ≤ length b) where
-  lengths-good : goodLengths (map length rs) (length (endToEnd rs)) ≡ true
-  unfolding goodLengths
+module _ (rs : List (List ℕ)) (h : Shelved rs) (b : List ℕ) (fit : length (shelf_of rs) ≤ length b) where
+  lengths-good : good_lengths (map length rs) (length (end_to_end rs)) ≡ true
+  unfolding good_lengths
   lengths-good =
       rw (
         le-leb (length (map length rs)) 4096 (omega (arith, length-map rs length, h.few)),
-        eq-eqb (total (map length rs)) (length (endToEnd rs)) (sym (joined_length rs)),
+        eq-eqb (total (map length rs)) (length (end_to_end rs)) (sym (joined_length rs)),
       )
 
-  answered : writingAnswer (endToEnd rs) (map length rs) (length b) ≡ Done (length (shelfOf rs))
-  unfolding writingAnswer writingFault noRoom
+  answered : writing_answer (end_to_end rs) (map length rs) (length b) ≡ Done (length (shelf_of rs))
+  unfolding writing_answer writing_fault no_room
   answered =
       rw (
         lengths-good,
         cut-back rs,
         none-refused 0 h.each,
         ← shelf-length rs,
-        le-ltb (length b) (length (shelfOf rs)) fit,
+        le-ltb (length b) (length (shelf_of rs)) fit,
       )
 
-  stored : writtenBuffer (endToEnd rs) (map length rs) b ≡ over (shelfOf rs) b
-  unfolding writtenBuffer
+  stored : written_buffer (end_to_end rs) (map length rs) b ≡ over (shelf_of rs) b
+  unfolding written_buffer
   stored = rw (answered, cut-back rs)
 
 pub every-records : EveryRecords
@@ -117,27 +117,27 @@ pub one-writing : OneWriting
 one-writing s t ls ms b c n m d e same =
     let x = every-writing s ls b n d in
     let y = every-writing t ms c m e in
-    let equal : cutUp s ls ≡ cutUp t ms = sym x.back ∙ (ap records same ∙ y.back) in (
-      sym x.whole ∙ (ap endToEnd equal ∙ y.whole),
+    let equal : cut_up s ls ≡ cut_up t ms = sym x.back ∙ (ap records same ∙ y.back) in (
+      sym x.whole ∙ (ap end_to_end equal ∙ y.whole),
       sym (cut-lengths s ls (fits s ls b n d).1)
           ∙ (ap (map length) equal ∙ cut-lengths t ms (fits t ms c m e).1),
     )
 
 -- ---- the numbers are the table's
 
-of-refused : (f : Fault) (j : ℕ) → Numbered (refusedAt f j)
+of-refused : (f : Fault) (j : ℕ) → Numbered (refused_at f j)
 of-refused none j = tt
 of-refused (fault k p) j = refl
 
-of-records : (j : ℕ) (rs : List (List ℕ)) → Numbered (firstRefused j rs)
-unfolding firstRefused
+of-records : (j : ℕ) (rs : List (List ℕ)) → Numbered (first_refused j rs)
+unfolding first_refused
 of-records j [] = tt
 of-records j (r ∷ rs) =
-    of_either (refusedAt (readingFault r) j) (firstRefused (j + 1) rs) (of-refused (readingFault r) j)
+    of_either (refused_at (reading_fault r) j) (first_refused (j + 1) rs) (of-refused (reading_fault r) j)
     (of-records (j + 1) rs)
 
-pub writing-numbered : (s ls : List ℕ) (m : ℕ) → Numbered (writingFault s ls m)
-unfolding writingFault
+pub writing-numbered : (s ls : List ℕ) (m : ℕ) → Numbered (writing_fault s ls m)
+unfolding writing_fault
 writing-numbered s ls m =
-    of_either (unless (goodLengths ls (length s)) 27) _ (of-unless (goodLengths ls (length s)) 27 refl)
-    (of_either (firstRefused 0 (cutUp s ls)) _ (of-records 0 (cutUp s ls)) (room m (shelfLength ls)))
+    of_either (unless (good_lengths ls (length s)) 27) _ (of-unless (good_lengths ls (length s)) 27 refl)
+    (of_either (first_refused 0 (cut_up s ls)) _ (of-records 0 (cut_up s ls)) (room m (shelf_length ls)))

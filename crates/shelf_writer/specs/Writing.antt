@@ -4,78 +4,78 @@
 use Rattle.std.specs.Prelude.{ℕ, ◌+◌, ◌≤◌, ◌≡◌, List, [], ◌∷◌, map, Bool, ◌&&◌, length, take, drop, leb, eqb}
 use Rattle.rules.specs.declared.Answer.{Answer}
 use Rattle.rules.specs.declared.Answer.TheVariants.{Done}
-use Rattle.rules.specs.Bytes.{total, endToEnd}
-use Rattle.rules.specs.Refusals.{Fault, none, unless, ◌orElse◌, answer}
+use Rattle.rules.specs.Bytes.{total, end_to_end}
+use Rattle.rules.specs.Refusals.{Fault, none, unless, ◌or_else◌, answer}
 use Rattle.rules.specs.Record.{le32}
-use Rattle.rules.specs.Seal.{noRoom, over, ifDone}
-use Rattle.rules.specs.Shelf.{headLength, records, firstRefused, shelfFault, offsetsFrom, shelfOf, Shelved}
+use Rattle.rules.specs.Seal.{no_room, over, if_done}
+use Rattle.rules.specs.Shelf.{head_length, records, first_refused, shelf_fault, offsets_from, shelf_of, Shelved}
 
 -- ---- records, end to end
 
 -- the records of these lengths, from the front of a string
-unfoldable pub cutUp : List ℕ → List ℕ → List (List ℕ)
-cutUp s [] = []
-cutUp s (l ∷ ls) = take l s ∷ cutUp (drop l s) ls
+unfoldable pub cut_up : List ℕ → List ℕ → List (List ℕ)
+cut_up s [] = []
+cut_up s (l ∷ ls) = take l s ∷ cut_up (drop l s) ls
 
 -- at most 4,096 of them, which together have the string's length
-unfoldable pub goodLengths : List ℕ → ℕ → Bool
-goodLengths lengths size = leb (length lengths) 4096 && eqb (total lengths) size
+unfoldable pub good_lengths : List ℕ → ℕ → Bool
+good_lengths lengths size = leb (length lengths) 4096 && eqb (total lengths) size
 
 -- the length of their shelf
-unfoldable pub shelfLength : List ℕ → ℕ
-shelfLength lengths = headLength (length lengths) + total lengths
+unfoldable pub shelf_length : List ℕ → ℕ
+shelf_length lengths = head_length (length lengths) + total lengths
 
 -- where each of them starts, as the shelf's head has it
-unfoldable pub offsetBytes : List ℕ → List ℕ
-offsetBytes lengths = endToEnd (map le32 (offsetsFrom (headLength (length lengths)) lengths))
+unfoldable pub offset_bytes : List ℕ → List ℕ
+offset_bytes lengths = end_to_end (map le32 (offsets_from (head_length (length lengths)) lengths))
 
 -- ---- the call
 
 -- 27 where the lengths are not as they should be; 28 at the number of the first record that the reader refuses, an
 -- empty one with it; then 15 with the length needed, for a buffer of `room` bytes
-unfoldable pub writingFault : List ℕ → List ℕ → ℕ → Fault
-writingFault s lengths room =
-    unless (goodLengths lengths (length s)) 27
-    or_else firstRefused 0 (cutUp s lengths)
-    or_else noRoom room (shelfLength lengths)
+unfoldable pub writing_fault : List ℕ → List ℕ → ℕ → Fault
+writing_fault s lengths room =
+    unless (good_lengths lengths (length s)) 27
+    or_else first_refused 0 (cut_up s lengths)
+    or_else no_room room (shelf_length lengths)
 
 -- the shelf's length, or the refusal
-unfoldable pub writingAnswer : List ℕ → List ℕ → ℕ → Answer
-writingAnswer s lengths room = answer (writingFault s lengths room) (shelfLength lengths)
+unfoldable pub writing_answer : List ℕ → List ℕ → ℕ → Answer
+writing_answer s lengths room = answer (writing_fault s lengths room) (shelf_length lengths)
 
 -- the shelf at the front and behind it the bytes as they were; after a refusal all bytes as they were
-unfoldable pub writtenBuffer : List ℕ → List ℕ → List ℕ → List ℕ
-writtenBuffer s lengths buffer =
-    let new = over (shelfOf (cutUp s lengths)) buffer in
-    ifDone (writingAnswer s lengths (length buffer)) new buffer
+unfoldable pub written_buffer : List ℕ → List ℕ → List ℕ → List ℕ
+written_buffer s lengths buffer =
+    let new = over (shelf_of (cut_up s lengths)) buffer in
+    if_done (writing_answer s lengths (length buffer)) new buffer
 
 -- ---- what is proved of it
 
 -- n bytes of a buffer, after a call that wrote so many: a shelf that the reader takes and whose records are those that
 -- were lent, byte by byte and all of them; behind it the buffer is as it was
 pub record OnTheShelf (s lengths before : List ℕ) (n : ℕ) (after : List ℕ) : Type 0 where
-  pub accepted : shelfFault (take n after) ≡ none
-  pub back : records (take n after) ≡ cutUp s lengths
-  pub whole : endToEnd (cutUp s lengths) ≡ s
+  pub accepted : shelf_fault (take n after) ≡ none
+  pub back : records (take n after) ≡ cut_up s lengths
+  pub whole : end_to_end (cut_up s lengths) ≡ s
   pub behind : drop n after ≡ drop n before
 
 abbrev pub EveryWriting : Type 0
 EveryWriting =
-    (s lengths buffer : List ℕ) (n : ℕ) → writingAnswer s lengths (length buffer) ≡ Done n →
-    OnTheShelf s lengths buffer n (writtenBuffer s lengths buffer)
+    (s lengths buffer : List ℕ) (n : ℕ) → writing_answer s lengths (length buffer) ≡ Done n →
+    OnTheShelf s lengths buffer n (written_buffer s lengths buffer)
 
 -- records that may stand on a shelf, lent to the call with their lengths and with room: their shelf is written
 pub record AllWritten (rs : List (List ℕ)) (buffer : List ℕ) : Type 0 where
-  pub answered : writingAnswer (endToEnd rs) (map length rs) (length buffer) ≡ Done (length (shelfOf rs))
-  pub written : writtenBuffer (endToEnd rs) (map length rs) buffer ≡ over (shelfOf rs) buffer
+  pub answered : writing_answer (end_to_end rs) (map length rs) (length buffer) ≡ Done (length (shelf_of rs))
+  pub written : written_buffer (end_to_end rs) (map length rs) buffer ≡ over (shelf_of rs) buffer
 
 abbrev pub EveryRecords : Type 0
 EveryRecords =
-    (rs : List (List ℕ)) (buffer : List ℕ) → Shelved rs → length (shelfOf rs) ≤ length buffer → AllWritten rs buffer
+    (rs : List (List ℕ)) (buffer : List ℕ) → Shelved rs → length (shelf_of rs) ≤ length buffer → AllWritten rs buffer
 
 -- calls that write one shelf were lent the same records with the same lengths
 abbrev pub OneWriting : Type 0
 OneWriting =
-    (s t ls ms b c : List ℕ) (n m : ℕ) → writingAnswer s ls (length b) ≡ Done n →
-    writingAnswer t ms (length c) ≡ Done m → take n (writtenBuffer s ls b) ≡ take m (writtenBuffer t ms c) →
+    (s t ls ms b c : List ℕ) (n m : ℕ) → writing_answer s ls (length b) ≡ Done n →
+    writing_answer t ms (length c) ≡ Done m → take n (written_buffer s ls b) ≡ take m (written_buffer t ms c) →
     (s ≡ t) × (ls ≡ ms)

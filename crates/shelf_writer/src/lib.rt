@@ -3,10 +3,10 @@ ghost use Rattle.std.specs.Prelude.{◌≡◌, ◌≤◌, ◌<◌, ◌^◌, leng
 ghost use Rattle.rules.specs.Bytes.{total};
 ghost use Rattle.rules.specs.Refusals.{answer};
 ghost use Rattle.rules.specs.Seal.{over};
-ghost use Rattle.rules.specs.Shelf.{headLength, firstRefused, shelfOf};
+ghost use Rattle.rules.specs.Shelf.{head_length, first_refused, shelf_of};
 ghost use Rattle.words.specs.Written.{written};
-ghost use Rattle.shelf_writer.specs.Writing.{cutUp, goodLengths, shelfLength, offsetBytes};
-ghost use Rattle.shelf_writer.specs.Writing.{writingAnswer, writtenBuffer};
+ghost use Rattle.shelf_writer.specs.Writing.{cut_up, good_lengths, shelf_length, offset_bytes};
+ghost use Rattle.shelf_writer.specs.Writing.{writing_answer, written_buffer};
 
 use record_reader::Opened;
 use rules::Answer;
@@ -36,7 +36,7 @@ fn sum(lengths: &[u32]) -> usize
 
 // Whether they are the lengths of at most 4,096 records that have so many bytes together.
 fn good_lengths(lengths: &[u32], size: usize) -> bool
-    ensures { result ≡ goodLengths lengths.now size }
+    ensures { result ≡ good_lengths lengths.now size }
 {
     if RECORDS_MOST < lengths.len() {
         return false;
@@ -47,7 +47,7 @@ fn good_lengths(lengths: &[u32], size: usize) -> bool
 // Reads every record: 0, or 28 with the number of the first that is refused.
 fn read_records(records: &[u8], lengths: &[u32]) -> Answer
     requires { total lengths.now ≡ length records.now }
-    ensures { result ≡ answer (firstRefused 0 (cutUp records.now lengths.now)) 0 }
+    ensures { result ≡ answer (first_refused 0 (cut_up records.now lengths.now)) 0 }
 {
     let mut start: usize = 0;
     let mut j: usize = 0;
@@ -72,9 +72,9 @@ fn read_records(records: &[u8], lengths: &[u32]) -> Answer
 
 // Where each record starts, as the head has it behind the count and the total length.
 fn put_offsets(lengths: &[u32], buffer: &mut [u8])
-    requires lengths_bound { shelfLength lengths.now < 2 ^ 32 }
-    requires lengths_in_bounds { headLength (length lengths.now) ≤ length buffer.old }
-    ensures { buffer.new ≡ written 8 (offsetBytes lengths.now) buffer.old }
+    requires lengths_bound { shelf_length lengths.now < 2 ^ 32 }
+    requires lengths_in_bounds { head_length (length lengths.now) ≤ length buffer.old }
+    ensures { buffer.new ≡ written 8 (offset_bytes lengths.now) buffer.old }
 {
     let mut start = 8 + 4 * lengths.len();
     let mut j: usize = 0;
@@ -87,9 +87,9 @@ fn put_offsets(lengths: &[u32], buffer: &mut [u8])
 
 // The shelf, of so many bytes, in a buffer that has room for them.
 fn put_shelf(records: &[u8], lengths: &[u32], size: usize, buffer: &mut [u8])
-    requires size_value { (size ≡ shelfLength lengths.now) × (size < 2 ^ 32) × (size ≤ length buffer.old) }
+    requires size_value { (size ≡ shelf_length lengths.now) × (size < 2 ^ 32) × (size ≤ length buffer.old) }
     requires lengths_value { total lengths.now ≡ length records.now }
-    ensures { buffer.new ≡ over (shelfOf (cutUp records.now lengths.now))
+    ensures { buffer.new ≡ over (shelf_of (cut_up records.now lengths.now))
         buffer.old }
 {
     let n = lengths.len();
@@ -102,9 +102,9 @@ fn put_shelf(records: &[u8], lengths: &[u32], size: usize, buffer: &mut [u8])
 // Writes a shelf of the records, which lie end to end and have these lengths, to the buffer's front. The answer is the
 // shelf's length; or 27, 28, then 15 with the length needed, and the buffer stands unaltered.
 pub fn write(records: &[u8], lengths: &[u32], buffer: &mut [u8]) -> Answer
-    ensures value { result ≡ writingAnswer records.now lengths.now
+    ensures value { result ≡ writing_answer records.now lengths.now
         (length buffer.old) }
-    ensures buffer_after { buffer.new ≡ writtenBuffer records.now lengths.now
+    ensures buffer_after { buffer.new ≡ written_buffer records.now lengths.now
         buffer.old }
 {
     if !good_lengths(lengths, records.len()) {

@@ -9,9 +9,9 @@ use lib.Seq.{take-add, take_all}
 use borrow.Author.Tests.{ne_eqb}
 use Rattle.rules.specs.Bytes.{count}
 use Rattle.rules.specs.Refusals.{Fault, fault, answer, listed}
-use Rattle.rules.specs.Seal.{captureUnfinished}
-use Rattle.rules.specs.Survey.{goodPackets, identifiers, withMost, HasMost, surveyFeedAnswer, noGood, surveyFault}
-use Rattle.rules.specs.Survey.{surveyAnswer}
+use Rattle.rules.specs.Seal.{capture_unfinished}
+use Rattle.rules.specs.Survey.{good_packets, identifiers, with_most, HasMost, survey_feed_answer, no_good, survey_fault}
+use Rattle.rules.specs.Survey.{survey_answer}
 use Rattle.rules.specs.declared.Answer.{Answer}
 use Rattle.rules.specs.declared.Answer.TheVariants.{Done, Refused as RefusedAnswer}
 use Rattle.rules.specs.declared.SurveyAnswer.TheVariants.{Most, Refused}
@@ -19,13 +19,13 @@ use Rattle.rules.proofs.Laws.Listed.{Numbered, listed_in, format}
 use Rattle.capture_laws.proofs.Survey.{with-most-is, most-alike}
 use Rattle.capture_steps.specs.declared.types.Walk.{Walk}
 use Rattle.capture_steps.specs.declared.types.Step.{Step}
-use Rattle.capture_steps.specs.Format.{formatFault, wholeCells}
+use Rattle.capture_steps.specs.Format.{format_fault, whole_cells}
 use Rattle.capture_steps.specs.State as walk
 use Rattle.capture_steps.specs.Contract.{whole_of, Stored}
 use Rattle.capture_walk.specs.Contract.{Stood, Stepped, Asks}
 use Rattle.capture_steps.proofs.Use.{says-fault, says-clear, says-fed, clear-before, clear-long, tells-whole}
 use Rattle.capture_steps.proofs.Use.{none-whole, whole-few}
-use Rattle.survey_counts.specs.Table.{tally, countIn, Tallied}
+use Rattle.survey_counts.specs.Table.{tally, count_in, Tallied}
 use Rattle.survey_counts.proofs.Counts.{tally-good}
 use Rattle.survey.specs.State.{state_of, Surveys, Means}
 use Rattle.survey.specs.Contract.{Opened, FeedPost, AskPost, Goes, Replies}
@@ -49,11 +49,11 @@ goes_step {k} {k'} {k''} {t} {t'} {t''} {s} {w} {r} {piece} {i} g st ta joined h
       table = λ c.
           let e = tells-whole r.event r.walk piece before (before ++ chunk) n.tells c in
           let b = clear-before before chunk c in
-          let l = length-append (wholeCells before) (whole_of r.event piece) in
+          let l = length-append (whole_cells before) (whole_of r.event piece) in
           let f = whole-few (before ++ chunk) in
           let m = clear-long (before ++ chunk) c in
           let q = ap length e in
-          rw e (ta.counts (wholeCells before) u.room (omega arith) (u.table b));
+          rw e (ta.counts (whole_cells before) u.room (omega arith) (u.table b));
     })
   where
     before : List ℕ
@@ -91,18 +91,18 @@ numbered : {f : Fault} {k p : ℕ} → f ≡ fault k p → Numbered f → listed
 numbered e n = rw e at n
 
 stands-listed : {kept : List ℕ} {s : Walk} {joined : List ℕ} → (s.status ≡ 0 → ⊥) → walk.Stands kept s joined →
-    formatFault joined ≡ fault (listed s.status) s.place
+    format_fault joined ≡ fault (listed s.status) s.place
 stands-listed {s = s} {joined = joined} h st =
     let e = says-fault h st in rw (numbered e (format joined)) e
 
 pub reply-stopped : {s : Walk} {k : ℕ} (n : ℕ) → (s.status ≡ 0 → ⊥) → k ≡ listed s.status →
     Replies s n (RefusedAnswer k s.place)
-unfolding surveyFeedAnswer
+unfolding survey_feed_answer
 reply-stopped {s} n h e =
     record { rule = λ kept joined st. rw (stands-listed h st, e); listed = rw e (listed_in s.status) }
 
 pub reply-done : {s : Walk} (n : ℕ) → s.status ≡ 0 → Replies s n (Done n)
-unfolding surveyFeedAnswer
+unfolding survey_feed_answer
 reply-done n h = record { rule = λ kept joined st. rw (says-clear h st); listed = tt }
 
 pub feed-post : (words kept t piece : List ℕ) (a : Answer) (words' kept' t' : List ℕ) (s r : Walk) →
@@ -124,12 +124,12 @@ module _ (words t : List ℕ) (s : Walk) (l : s ≡ walk.loaded words) where
   stands m = rw l m.surveys.walk
 
   pub ask-stopped : {k : ℕ} → (s.status ≡ 0 → ⊥) → k ≡ listed s.status → AskPost words t (Refused k s.place)
-  unfolding surveyAnswer surveyFault
+  unfolding survey_answer survey_fault
   ask-stopped h e =
       record { rule = λ kept joined m. rw (stands-listed h (stands m), e); sensible = rw e (listed_in s.status) }
 
   pub ask-inside : {b : Bool} → s.status ≡ 0 → Asks s b → b ≡ true → AskPost words t (Refused 11 s.fed)
-  unfolding surveyAnswer surveyFault captureUnfinished
+  unfolding survey_answer survey_fault capture_unfinished
   ask-inside h a e =
       record {
         rule = λ kept joined m.
@@ -138,22 +138,22 @@ module _ (words t : List ℕ) (s : Walk) (l : s ≡ walk.loaded words) where
       }
 
   module _ {b : Bool} {best : ℕ} (h : s.status ≡ 0) (a : Asks s b) (e : b ≡ false)
-      (be : HasMost (countIn t) identifiers best) where
+      (be : HasMost (count_in t) identifiers best) where
     counts : {kept joined : List ℕ} → Means (state_of words kept t) joined →
-        (id : ℕ) → id < identifiers → countIn t id ≡ goodPackets joined id
+        (id : ℕ) → id < identifiers → count_in t id ≡ good_packets joined id
     counts {joined = joined} m id k = (m.surveys.table (says-clear h (stands m))).at id k ∙ tally-good joined id
 
     best-is : {kept joined : List ℕ} → Means (state_of words kept t) joined →
-        best ≡ withMost (goodPackets joined) identifiers
+        best ≡ with_most (good_packets joined) identifiers
     best-is {joined = joined} m =
-        with-most-is (goodPackets joined) best (most-alike (countIn t) (goodPackets joined) best (counts m) be)
+        with-most-is (good_packets joined) best (most-alike (count_in t) (good_packets joined) best (counts m) be)
 
     most-is : {kept joined : List ℕ} → Means (state_of words kept t) joined →
-        countIn t best ≡ goodPackets joined (withMost (goodPackets joined) identifiers)
-    most-is {joined = joined} m = counts m best be.below ∙ ap (goodPackets joined) (best-is m)
+        count_in t best ≡ good_packets joined (with_most (good_packets joined) identifiers)
+    most-is {joined = joined} m = counts m best be.below ∙ ap (good_packets joined) (best-is m)
 
-    pub ask-none : countIn t best ≡ 0 → AskPost words t (Refused 21 0)
-    unfolding surveyAnswer surveyFault captureUnfinished noGood
+    pub ask-none : count_in t best ≡ 0 → AskPost words t (Refused 21 0)
+    unfolding survey_answer survey_fault capture_unfinished no_good
     ask-none z =
         record {
           rule = λ kept joined m.
@@ -161,12 +161,12 @@ module _ (words t : List ℕ) (s : Walk) (l : s ≡ walk.loaded words) where
           sensible = (omega arith, omega arith);
         }
 
-    pub ask-most : {x : ℕ} → x ≡ countIn t best → (x ≡ 0 → ⊥) → AskPost words t (Most best x)
-    unfolding surveyAnswer surveyFault captureUnfinished noGood
+    pub ask-most : {x : ℕ} → x ≡ count_in t best → (x ≡ 0 → ⊥) → AskPost words t (Most best x)
+    unfolding survey_answer survey_fault capture_unfinished no_good
     ask-most xe z =
         record {
           rule = λ kept joined m.
               rw (xe, says-clear h (stands m), ← a kept joined h (stands m), e, ← most-is m)
-              (rw (ne_eqb (countIn t best) 0 (λ y. z (xe ∙ y)), best-is m));
+              (rw (ne_eqb (count_in t best) 0 (λ y. z (xe ∙ y)), best-is m));
           sensible = (be.below, omega arith);
         }

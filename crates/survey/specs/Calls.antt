@@ -4,8 +4,8 @@
 use Rattle.std.specs.Prelude.{ℕ, ◌≡◌, List, [], ◌∷◌, ◌++◌}
 use Rattle.rules.specs.declared.Answer.{Answer}
 use Rattle.rules.specs.declared.SurveyAnswer.{SurveyAnswer}
-use Rattle.rules.specs.Survey.{SurveyCall, feedSurvey, askSurvey, SurveyOutcome, fedSurvey, found, surveyExpected}
-use Rattle.rules.specs.Survey.{surveyFed}
+use Rattle.rules.specs.Survey.{SurveyCall, feed_survey, ask_survey, SurveyOutcome, fed_survey, found, survey_expected}
+use Rattle.rules.specs.Survey.{survey_fed}
 use Rattle.survey.specs.State.{State}
 use Rattle.survey.specs.Contract.{Opened, FeedPost, AskPost}
 
@@ -13,8 +13,8 @@ use Rattle.survey.specs.Contract.{Opened, FeedPost, AskPost}
 -- the state that it found
 pub data Ran : State → SurveyCall → SurveyOutcome → State → Type 0 where
   feeds : {st st' : State} {piece : List ℕ} {a : Answer} → FeedPost st piece a st' →
-      Ran st (feedSurvey piece) (fedSurvey a) st'
-  asks : {st : State} {a : SurveyAnswer} → AskPost st.walk st.counts a → Ran st askSurvey (found a) st
+      Ran st (feed_survey piece) (fed_survey a) st'
+  asks : {st : State} {a : SurveyAnswer} → AskPost st.walk st.counts a → Ran st ask_survey (found a) st
 
 -- calls that are made one after the other, the first on the state st; what they come to; and the state that the last
 -- leaves
@@ -27,12 +27,12 @@ pub data Runs : State → List SurveyCall → List SurveyOutcome → State → T
 abbrev pub EverySurvey : Type 0
 EverySurvey =
     (st : State) (cs : List SurveyCall) (os : List SurveyOutcome) (end : State) → Opened st → Runs st cs os end →
-    os ≡ surveyExpected [] cs
+    os ≡ survey_expected [] cs
 
 -- and so every cutting of one capture ends alike: a question at the end of two lists that feed equal joined bytes to
 -- fresh surveys comes to the same, whatever their pieces and the questions between them
 abbrev pub CuttingsAlike : Type 0
 CuttingsAlike =
     (st st' end end' : State) (cs cs' : List SurveyCall) (os os' : List SurveyOutcome) (s s' : SurveyOutcome) →
-    Opened st → Opened st' → surveyFed cs ≡ surveyFed cs' →
-    Runs st (cs ++ askSurvey ∷ []) (os ++ s ∷ []) end → Runs st' (cs' ++ askSurvey ∷ []) (os' ++ s' ∷ []) end' → s ≡ s'
+    Opened st → Opened st' → survey_fed cs ≡ survey_fed cs' →
+    Runs st (cs ++ ask_survey ∷ []) (os ++ s ∷ []) end → Runs st' (cs' ++ ask_survey ∷ []) (os' ++ s' ∷ []) end' → s ≡ s'

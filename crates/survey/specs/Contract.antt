@@ -5,7 +5,7 @@ use Rattle.rules.specs.declared.Answer.TheVariants as of-feed
 use Rattle.rules.specs.declared.SurveyAnswer.{SurveyAnswer}
 use Rattle.rules.specs.declared.SurveyAnswer.TheVariants.{Most, Refused}
 use Rattle.rules.specs.Refusals.{InTable}
-use Rattle.rules.specs.Survey.{identifiers, surveyFeedAnswer, surveyAnswer}
+use Rattle.rules.specs.Survey.{identifiers, survey_feed_answer, survey_answer}
 use Rattle.capture_steps.specs.declared.types.Walk.{Walk}
 use Rattle.capture_steps.specs.State.{Stands}
 use Rattle.survey.specs.State.{State, state_of, Surveys, Means}
@@ -22,7 +22,7 @@ ListedFeed (of-feed.Refused k p) = InTable k
 -- `feed`: the state before, the piece, the answer, the state after
 pub record FeedPost (before : State) (piece : List ℕ) (a : Answer) (after : State) : Type 0 where
   pub means : (joined : List ℕ) → Means before joined → Means after (joined ++ piece)
-  pub answer : (joined : List ℕ) → Means before joined → a ≡ surveyFeedAnswer (joined ++ piece) (length piece)
+  pub answer : (joined : List ℕ) → Means before joined → a ≡ survey_feed_answer (joined ++ piece) (length piece)
   pub listed : ListedFeed a
 
 -- of any state: what is answered is an identifier with some packets, or a number of the table
@@ -32,7 +32,7 @@ Sensible (Refused k p) = InTable k
 
 -- `ask`: the walk's words, the counts, the answer. It changes nothing
 pub record AskPost (walk counts : List ℕ) (a : SurveyAnswer) : Type 0 where
-  pub rule : (kept joined : List ℕ) → Means (state_of walk kept counts) joined → a ≡ surveyAnswer joined
+  pub rule : (kept joined : List ℕ) → Means (state_of walk kept counts) joined → a ≡ survey_answer joined
   pub sensible : Sensible a
 
 -- ---- of the functions within
@@ -43,5 +43,5 @@ Goes kept t s chunk kept' t' r = (joined : List ℕ) → Surveys kept t s joined
 
 -- what a feed of n bytes answers, from the walk behind it
 pub record Replies (s : Walk) (n : ℕ) (a : Answer) : Type 0 where
-  pub rule : (kept joined : List ℕ) → Stands kept s joined → a ≡ surveyFeedAnswer joined n
+  pub rule : (kept joined : List ℕ) → Stands kept s joined → a ≡ survey_feed_answer joined n
   pub listed : ListedFeed a

@@ -2,7 +2,7 @@
 use Rattle.std.specs.Prelude.{ℕ, ◌≡◌, List, length}
 use Rattle.rules.specs.Refusals.{none}
 use Rattle.capture_steps.specs.declared.types.Walk.{Walk}
-use Rattle.capture_steps.specs.Format.{formatFault, wholeCells}
+use Rattle.capture_steps.specs.Format.{format_fault, whole_cells}
 use Rattle.capture_steps.specs.State as of-walk
 use Rattle.survey_counts.specs.Table.{Table}
 
@@ -18,7 +18,7 @@ state_of walk kept counts = record { walk = walk; kept = kept; counts = counts }
 pub record Surveys (kept t : List ℕ) (s : Walk) (joined : List ℕ) : Type 0 where
   pub walk : of-walk.Stands kept s joined
   pub room : length t ≡ 8192
-  pub table : formatFault joined ≡ none → Table t (wholeCells joined)
+  pub table : format_fault joined ≡ none → Table t (whole_cells joined)
 
 -- as they lie in the lent arrays between calls
 pub record Means (st : State) (joined : List ℕ) : Type 0 where

@@ -2,15 +2,15 @@
 use Rattle.std.proofs.Common.{◌≡◌, ℕ, zero, suc, ◌+◌, ◌*◌, ◌%◌, ◌^◌, ◌<◌, ◌≤◌, Bool, true, false, ◌&&◌, eqb, List, [], ◌∷◌, ◌++◌, map, length, get_or, drop, set, replicate, sym, refl, ap, ◌∙◌, append_assoc, append-nil, arith, length-append, length-set, get_or-set_other, get_or-set_same, drop-drop, eq-eqb, ne_eqb}
 use native.Mathlib.Decide.{dec_le}
 use Rattle.rules.specs.Bytes.{pick, count}
-use Rattle.rules.specs.Packets.{Packet, packets, whole, isGood, identifier}
-use Rattle.rules.specs.Capture.{allFrames}
-use Rattle.rules.specs.Survey.{goodOf, goodPackets}
+use Rattle.rules.specs.Packets.{Packet, packets, whole, is_good, identifier}
+use Rattle.rules.specs.Capture.{all_frames}
+use Rattle.rules.specs.Survey.{good_of, good_packets}
 use Rattle.rules.proofs.Laws.Lists.{count-append, count-few}
 use Rattle.capture_cells.specs.declared.Cell.{Cell}
-use Rattle.capture_cells.specs.Cells.{cellIn, cell_of}
-use Rattle.capture_steps.specs.Format.{wholeCells, cellsFrom}
+use Rattle.capture_cells.specs.Cells.{cell_in, cell_of}
+use Rattle.capture_steps.specs.Format.{whole_cells, cells_from}
 use Rattle.capture_steps.proofs.Lists.{cells-more}
-use Rattle.survey_counts.specs.Table.{tally, countIn, Table, Tallied}
+use Rattle.survey_counts.specs.Table.{tally, count_in, Table, Tallied}
 
 same : (a b : ℕ) → Dec (a ≡ b)
 same a b = go (dec_le a b) (dec_le b a)
@@ -23,16 +23,16 @@ same a b = go (dec_le a b) (dec_le b a)
 -- ---- the table
 
 abbrev one : ℕ → Cell → ℕ
-one id c = pick (isGood c.condition && eqb c.identifier id) 1 0
+one id c = pick (is_good c.condition && eqb c.identifier id) 1 0
 
 tally-more : (cs : List Cell) (c : Cell) (id : ℕ) → tally (cs ++ c ∷ []) id ≡ tally cs id + one id c
 unfolding tally count
 tally-more cs c id =
-    count-append (λ (x : Cell). isGood x.condition && eqb x.identifier id) cs (c ∷ []) ∙ omega arith
+    count-append (λ (x : Cell). is_good x.condition && eqb x.identifier id) cs (c ∷ []) ∙ omega arith
 
 tally-few : (cs : List Cell) (id : ℕ) → tally cs id ≤ length cs
 unfolding tally
-tally-few cs id = count-few (λ (x : Cell). isGood x.condition && eqb x.identifier id) cs
+tally-few cs id = count-few (λ (x : Cell). is_good x.condition && eqb x.identifier id) cs
 
 pub tallied-none : (t : List ℕ) → Tallied t [] t
 tallied-none t = record { size = refl; counts = λ xs l h b. rw append-nil b }
@@ -49,7 +49,7 @@ tallied-on {t} {t'} {t''} {cs} {ds} a b =
     }
 
 -- a cell that is not good
-pub tallied-other : (t : List ℕ) (c : Cell) {b : Bool} → b ≡ isGood c.condition → b ≡ false →
+pub tallied-other : (t : List ℕ) (c : Cell) {b : Bool} → b ≡ is_good c.condition → b ≡ false →
     Tallied t (c ∷ []) t
 tallied-other t c e f =
     record {
@@ -63,7 +63,7 @@ tallied-other t c e f =
     }
 
 -- a good one
-pub tallied-good : (t t' : List ℕ) (c : Cell) {b : Bool} {x : ℕ} → b ≡ isGood c.condition → b ≡ true →
+pub tallied-good : (t t' : List ℕ) (c : Cell) {b : Bool} {x : ℕ} → b ≡ is_good c.condition → b ≡ true →
     c.identifier < 8192 → x ≡ (get_or t c.identifier 0 + 1) % 2 ^ 32 →
     t' ≡ set t c.identifier x → Tallied t (c ∷ []) t'
 tallied-good t t' c {b} {x} e f small xe put =
@@ -72,7 +72,7 @@ tallied-good t t' c {b} {x} e f small xe put =
       counts = λ xs l h d. record { at = λ id k. go xs l h d id k (same c.identifier id) };
     }
   where
-    good : isGood c.condition ≡ true
+    good : is_good c.condition ≡ true
     good = sym e ∙ f
 
     go : (xs : List Cell) → length t ≡ 8192 → length xs + 1 < 4294967296 → Table t xs → (id : ℕ) → id < 8192 →
@@ -84,7 +84,7 @@ tallied-good t t' c {b} {x} e f small xe put =
         let g : get_or t' c.identifier 0 ≡ x = rw put (get_or-set_same t c.identifier x 0 (omega arith)) in
         let y : get_or t' c.identifier 0 ≡ tally xs c.identifier + 1 = g ∙ xe ∙ omega arith in
         let m = tally-more xs c id in
-        ap (countIn t') (sym q) ∙ y ∙ ap (λ (n : ℕ). tally xs n + 1) q ∙ omega arith
+        ap (count_in t') (sym q) ∙ y ∙ ap (λ (n : ℕ). tally xs n + 1) q ∙ omega arith
     go xs l h d id k (no q) =
         let z : one id c ≡ 0 = rw (good, ne_eqb c.identifier id q) in
         let m = tally-more xs c id in
@@ -92,32 +92,32 @@ tallied-good t t' c {b} {x} e f small xe put =
 
 -- ---- the rules' counts
 
-tally-of : (ps : List Packet) (id : ℕ) → tally (map cell_of ps) id ≡ goodOf ps id
-unfolding tally goodOf count cellIn
+tally-of : (ps : List Packet) (id : ℕ) → tally (map cell_of ps) id ≡ good_of ps id
+unfolding tally good_of count cell_in
 tally-of [] id = refl
 tally-of (p ∷ ps) id = rw (tally-of ps id)
 
-pub tally-good : (capture : List ℕ) (id : ℕ) → tally (wholeCells capture) id ≡ goodPackets capture id
-unfolding wholeCells goodPackets
-tally-good capture id = tally-of (whole (packets 24 (allFrames capture))) id
+pub tally-good : (capture : List ℕ) (id : ℕ) → tally (whole_cells capture) id ≡ good_packets capture id
+unfolding whole_cells good_packets
+tally-good capture id = tally-of (whole (packets 24 (all_frames capture))) id
 
 -- ---- a run of cells, one by one
 
-pub run_none : (t : List ℕ) (time place : ℕ) (s : List ℕ) → Tallied t (cellsFrom 0 time place s) t
-unfolding cellsFrom
+pub run_none : (t : List ℕ) (time place : ℕ) (s : List ℕ) → Tallied t (cells_from 0 time place s) t
+unfolding cells_from
 run_none t time place s = tallied-none t
 
 pub run_more : {t t' t'' : List ℕ} {c : Cell} (k time place₀ at₀ : ℕ) (piece : List ℕ) (at place : ℕ) →
-    Tallied t (cellsFrom k time place₀ (drop at₀ piece)) t' →
-    at ≡ at₀ + 188 * k → place ≡ place₀ + 188 * k → c ≡ cellIn time place (drop at piece) → Tallied t' (c ∷ []) t'' →
-    Tallied t (cellsFrom (k + 1) time place₀ (drop at₀ piece)) t''
+    Tallied t (cells_from k time place₀ (drop at₀ piece)) t' →
+    at ≡ at₀ + 188 * k → place ≡ place₀ + 188 * k → c ≡ cell_in time place (drop at piece) → Tallied t' (c ∷ []) t'' →
+    Tallied t (cells_from (k + 1) time place₀ (drop at₀ piece)) t''
 run_more {t} {t'} {t''} {c} k time place₀ at₀ piece at place a ae pe ce b =
     let d : drop at piece ≡ drop (188 * k) (drop at₀ piece) = rw ae (sym (drop-drop (188 * k) at₀ piece)) in
-    let e : c ≡ cellIn time (place₀ + 188 * k) (drop (188 * k) (drop at₀ piece)) = ce ∙ rw (pe, d) in
+    let e : c ≡ cell_in time (place₀ + 188 * k) (drop (188 * k) (drop at₀ piece)) = ce ∙ rw (pe, d) in
     rw (cells-more k time place₀ (drop at₀ piece), ← e) (tallied-on a b)
 
-pub run-all : {t t' : List ℕ} (k n time place : ℕ) (s : List ℕ) → k ≡ n → Tallied t (cellsFrom k time place s) t' →
-    Tallied t (cellsFrom n time place s) t'
+pub run-all : {t t' : List ℕ} (k n time place : ℕ) (s : List ℕ) → k ≡ n → Tallied t (cells_from k time place s) t' →
+    Tallied t (cells_from n time place s) t'
 run-all k n time place s e a = rw (← e) a
 
 -- ---- a fresh table

@@ -1,15 +1,15 @@
 -- The table of counts: what it holds, and what cells more leave.
 use Rattle.std.specs.Prelude.{◌≡◌, ℕ, ◌+◌, ◌<◌, ◌&&◌, List, ◌++◌, length, ◌==◌, slice_index}
 use Rattle.rules.specs.Bytes.{count}
-use Rattle.rules.specs.Packets.{isGood}
+use Rattle.rules.specs.Packets.{is_good}
 use Rattle.capture_cells.specs.declared.Cell.{Cell}
 
--- how many of some cells are good and have this identifier: the rules' goodOf (proofs/Counts, tally-good)
+-- how many of some cells are good and have this identifier: the rules' good_of (proofs/Counts, tally-good)
 unfoldable pub tally : List Cell → ℕ → ℕ
-tally cs id = count (λ c. isGood c.condition && c.identifier == id) cs
+tally cs id = count (λ c. is_good c.condition && c.identifier == id) cs
 
-abbrev pub countIn : List ℕ → ℕ → ℕ
-countIn t id = slice_index t id
+abbrev pub count_in : List ℕ → ℕ → ℕ
+count_in t id = slice_index t id
 
 -- the table holds the counts of the cells
 pub record Table (t : List ℕ) (cs : List Cell) : Type 0 where

@@ -1,9 +1,9 @@
 // Good packets, counted by identifier.
 ghost use Rattle.std.specs.Prelude.{◌≡◌, ◌+◌, ◌*◌, ◌<◌, ◌≤◌, [], ◌∷◌, length};
-ghost use Rattle.rules.specs.Packets.{isGood};
+ghost use Rattle.rules.specs.Packets.{is_good};
 ghost use Rattle.rules.specs.Survey.{HasMost, identifiers};
 ghost use Rattle.capture_steps.specs.Contract.{Fits, cells_of, whole_of};
-ghost use Rattle.survey_counts.specs.Table.{countIn, Tallied};
+ghost use Rattle.survey_counts.specs.Table.{count_in, Tallied};
 
 use capture_cells::Cell;
 use capture_steps::{Event, Run};
@@ -16,7 +16,7 @@ pub type Counts = [u32; IDENTIFIERS];
 
 // It starts with 0x47 and is not marked as damaged.
 fn is_good(k: Condition) -> bool
-    ensures { result ≡ isGood k }
+    ensures { result ≡ is_good k }
 {
     match k {
         Condition::Good => true,
@@ -85,7 +85,7 @@ pub fn take(counts: &mut Counts, piece: &[u8], e: Event)
 
 // The identifier with the highest count, the lowest among equals.
 pub fn with_most(counts: &Counts) -> usize
-    ensures { HasMost (countIn counts.now) identifiers result }
+    ensures { HasMost (count_in counts.now) identifiers result }
 {
     let mut best: usize = 0;
     let mut i: usize = 0;

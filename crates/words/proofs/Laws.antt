@@ -10,10 +10,10 @@ use Rattle.rules.specs.Bytes.{bytes_of}
 use Rattle.words.specs.Written.{written}
 
 -- a number has as many bytes as are asked for
-pub length-bytesOf : (n x : ℕ) → length (bytes_of n x) ≡ n
+pub length-bytes_of : (n x : ℕ) → length (bytes_of n x) ≡ n
 unfolding bytes_of
-length-bytesOf zero x = refl
-length-bytesOf (suc n) x = ap suc (length-bytesOf n (x / 256))
+length-bytes_of zero x = refl
+length-bytes_of (suc n) x = ap suc (length-bytes_of n (x / 256))
 
 -- one byte stored, and the rest of them behind it
 pub byte-stored : (s : List ℕ) (at i n x : ℕ) → i < n →

@@ -6,48 +6,48 @@ use mathlib.Core.Path.{◌≡◌, refl}
 use mathlib.Core.List.{List, [], ◌∷◌, ◌++◌, map}
 use lib.ListN.{replicate, drop}
 use lib.Ieee.{add, mul, div, of_int, to_bits}
-use Rattle.rules.specs.Bytes.{word32, word64, network16, bytes_of, total, greatestOf, leastOf, count, only, table}
-use Rattle.rules.specs.Bytes.{parts, endToEnd}
-use Rattle.rules.specs.Editions.{isEdition, heedsSplices, roundsToNearest, knowsDamage}
-use Rattle.rules.specs.Opening.{goodSize, goodTime, goodPid, openingFault, openAnswer, levelUpTo, level, side}
+use Rattle.rules.specs.Bytes.{word32, word64, network16, bytes_of, total, greatest_of, least_of, count, only, table}
+use Rattle.rules.specs.Bytes.{parts, end_to_end}
+use Rattle.rules.specs.Editions.{is_edition, heeds_splices, rounds_to_nearest, knows_damage}
+use Rattle.rules.specs.Opening.{good_size, good_time, good_pid, opening_fault, open_answer, level_up_to, level, side}
 use Rattle.rules.specs.Opening.{area, columns, lines}
-use Rattle.rules.specs.Frames.{seconds, microseconds, storedLength, frameTime, body, frameSize, framesUpTo}
-use Rattle.rules.specs.Frames.{restUpTo, frames, rest, behindHeader}
-use Rattle.rules.specs.Packets.{Packet, ipLength, udpLength, carries, skipped, packetsFrom, packetsIn, packetsOf}
-use Rattle.rules.specs.Packets.{packets, shown, whole, startsCell, damageMark, condition, identifier, isWanted}
-use Rattle.rules.specs.Packets.{startMark, counter, spliceMark, wantedOf, badOf}
-use Rattle.rules.specs.Units.{gapLoss, setApart, lossBetween, arrivalsAfter, arrivals, beforeUnits, groups}
-use Rattle.rules.specs.Units.{cells_of, leastTime, unit_of, unitsOf, beginnings}
-use Rattle.rules.specs.Capture.{wholeFrames, unfinished, allFrames, wholeWanted, shownWanted, units, frameCount}
-use Rattle.rules.specs.Capture.{skippedCount, badCount, showing, tooLong, wrongMagic, wrongLink}
-use Rattle.rules.specs.Capture.{wrongFrameHeader, wrongFrame, tooManyUnits, beginsAt, formatFault, captureFault}
-use Rattle.rules.specs.Capture.{captureInside}
-use Rattle.rules.specs.Pictures.{pictureSize, pictureCount, pictures, lumaFault, rows, band, blockSum, pixelIn}
-use Rattle.rules.specs.Pictures.{pixel, pixelLine, pixels}
-use Rattle.rules.specs.Histograms.{third, tileAt, bin, inTileFrom, inTile, inBin, histogram, histograms}
-use Rattle.rules.specs.Cuts.{binsApart, perMillion, tileDifference, tileDifferences, insert, sorted, fifth}
-use Rattle.rules.specs.Cuts.{difference, leastOfSix, cutScore, cutScores}
-use Rattle.rules.specs.Scenes.{startsScene, isStart, startsFrom, starts, longestFrom, scene_of, scenesAt}
-use Rattle.rules.specs.Scenes.{scenesOf}
-use Rattle.rules.specs.Changes.{same, squares, spread, rootFrom, root, nearest, changeFrom, change}
-use Rattle.rules.specs.Changes.{repeatsAfter, changesAfter, repeats, changes}
-use Rattle.rules.specs.Index.{icOf, ipOf, value_of, index_of, indexBits}
-use Rattle.rules.specs.Record.{recordLength, sceneOffset, headerBytes, unitBytes, sceneBytes, recordBytes}
-use Rattle.rules.specs.Reading.{scenePlace, unitPlace, allowedHeader, allowedUnit, allowedUnits, allowedScene}
-use Rattle.rules.specs.Reading.{allowedScenes, allowedRows, allowed, readingFault, rowFault, unitFault}
-use Rattle.rules.specs.Reading.{sceneFault}
-use Rattle.rules.specs.Seal.{reduced, scenesIn, scenes, unrepeated, indexFrom, index, header, sealed}
-use Rattle.rules.specs.Seal.{sealedLength, captureUnfinished, noPacket, lumaUnfinished, noPicture, noRoom}
-use Rattle.rules.specs.Seal.{sealFault, captureAnswer, lumaAnswer, sealAnswer, over, sealedBuffer}
-use Rattle.rules.specs.Calls.{feedCapture, feedLuma, ask, seal}
+use Rattle.rules.specs.Frames.{seconds, microseconds, stored_length, frame_time, body, frame_size, frames_up_to}
+use Rattle.rules.specs.Frames.{rest_up_to, frames, rest, behind_header}
+use Rattle.rules.specs.Packets.{Packet, ip_length, udp_length, carries, skipped, packets_from, packets_in, packets_of}
+use Rattle.rules.specs.Packets.{packets, shown, whole, starts_cell, damage_mark, condition, identifier, is_wanted}
+use Rattle.rules.specs.Packets.{start_mark, counter, splice_mark, wanted_of, bad_of}
+use Rattle.rules.specs.Units.{gap_loss, set_apart, loss_between, arrivals_after, arrivals, before_units, groups}
+use Rattle.rules.specs.Units.{cells_of, least_time, unit_of, units_of, beginnings}
+use Rattle.rules.specs.Capture.{whole_frames, unfinished, all_frames, whole_wanted, shown_wanted, units, frame_count}
+use Rattle.rules.specs.Capture.{skipped_count, bad_count, showing, too_long, wrong_magic, wrong_link}
+use Rattle.rules.specs.Capture.{wrong_frame_header, wrong_frame, too_many_units, begins_at, format_fault, capture_fault}
+use Rattle.rules.specs.Capture.{capture_inside}
+use Rattle.rules.specs.Pictures.{picture_size, picture_count, pictures, luma_fault, rows, band, block_sum, pixel_in}
+use Rattle.rules.specs.Pictures.{pixel, pixel_line, pixels}
+use Rattle.rules.specs.Histograms.{third, tile_at, bin, in_tile_from, in_tile, in_bin, histogram, histograms}
+use Rattle.rules.specs.Cuts.{bins_apart, per_million, tile_difference, tile_differences, insert, sorted, fifth}
+use Rattle.rules.specs.Cuts.{difference, least_of_six, cut_score, cut_scores}
+use Rattle.rules.specs.Scenes.{starts_scene, is_start, starts_from, starts, longest_from, scene_of, scenes_at}
+use Rattle.rules.specs.Scenes.{scenes_of}
+use Rattle.rules.specs.Changes.{same, squares, spread, root_from, root, nearest, change_from, change}
+use Rattle.rules.specs.Changes.{repeats_after, changes_after, repeats, changes}
+use Rattle.rules.specs.Index.{ic_of, ip_of, value_of, index_of, index_bits}
+use Rattle.rules.specs.Record.{record_length, scene_offset, header_bytes, unit_bytes, scene_bytes, record_bytes}
+use Rattle.rules.specs.Reading.{scene_place, unit_place, allowed_header, allowed_unit, allowed_units, allowed_scene}
+use Rattle.rules.specs.Reading.{allowed_scenes, allowed_rows, allowed, reading_fault, row_fault, unit_fault}
+use Rattle.rules.specs.Reading.{scene_fault}
+use Rattle.rules.specs.Seal.{reduced, scenes_in, scenes, unrepeated, index_from, index, header, sealed}
+use Rattle.rules.specs.Seal.{sealed_length, capture_unfinished, no_packet, luma_unfinished, no_picture, no_room}
+use Rattle.rules.specs.Seal.{seal_fault, capture_answer, luma_answer, seal_answer, over, sealed_buffer}
+use Rattle.rules.specs.Calls.{feed_capture, feed_luma, ask, seal}
 use Rattle.rules.specs.Calls.{expected}
 use Rattle.rules.proofs.Worked.{Case}
-use Rattle.rules.proofs.Samples.{opened, words, toldFault, run, small, oneFrame}
-use Rattle.rules.proofs.Samples.{marks, showRecord}
+use Rattle.rules.proofs.Samples.{opened, words, told_fault, run, small, one_frame}
+use Rattle.rules.proofs.Samples.{marks, show_record}
 
 -- 750 start marks and a damaged one
-oneBroken : List Packet
-oneBroken = marks 750 ++ record { time = 0; place = 141000; bytes = 0x47 ∷ 0xC1 ∷ 0x00 ∷ 0x10 ∷ [] } ∷ []
+one_broken : List Packet
+one_broken = marks 750 ++ record { time = 0; place = 141000; bytes = 0x47 ∷ 0xC1 ∷ 0x00 ∷ 0x10 ∷ [] } ∷ []
 
 pub samples : List Case
 samples =
@@ -55,12 +55,12 @@ samples =
     record {
       rule =
           run (opened 30 30 40000 256)
-          (feedCapture oneFrame ∷ feedLuma (replicate 1800 16) ∷ ask (seal (replicate 130 0xA5)) ∷ []);
-      paper = 0 ∷ 0 ∷ 0 ∷ 270 ∷ 0 ∷ 1800 ∷ 0 ∷ 128 ∷ showRecord ++ 0xA5 ∷ 0xA5 ∷ [];
+          (feed_capture one_frame ∷ feed_luma (replicate 1800 16) ∷ ask (seal (replicate 130 0xA5)) ∷ []);
+      paper = 0 ∷ 0 ∷ 0 ∷ 270 ∷ 0 ∷ 1800 ∷ 0 ∷ 128 ∷ show_record ++ 0xA5 ∷ 0xA5 ∷ [];
     }
     -- a cut from black to white at picture 3 of 6: s is 1,000,000 there, and q is 0, since every pixel rises alike
     ∷ record {
-      rule = sealed small oneFrame (replicate 1350 16 ++ replicate 1350 235);
+      rule = sealed small one_frame (replicate 1350 16 ++ replicate 1350 235);
       paper =
           words (1 ∷ 160 ∷ 1 ∷ 64 ∷ 2 ∷ 96 ∷ 15 ∷ 30 ∷ 200000 ∷ 256 ∷ 6 ∷ 1 ∷ 0 ∷ 0 ∷ 0xAAAAAAAA ∷ 0x4002AAAA ∷ [])
           ++ words (10000005 ∷ 0 ∷ 10000005 ∷ 0 ∷ 184 ∷ 1 ∷ 0 ∷ 0 ∷ [])
@@ -69,35 +69,35 @@ samples =
     }
     -- 9: 751 start marks; 750 pass
     ∷ record {
-      rule = toldFault (beginsAt (drop 750 (beginnings 1 (marks 751))))
-          ++ toldFault (beginsAt (drop 750 (beginnings 1 (marks 750))));
+      rule = told_fault (begins_at (drop 750 (beginnings 1 (marks 751))))
+          ++ told_fault (begins_at (drop 750 (beginnings 1 (marks 750))));
       paper = 9 ∷ 141003 ∷ 0 ∷ 0 ∷ [];
     }
     -- 9: a damaged start mark begins no 751st unit
     ∷ record {
-      rule = toldFault (beginsAt (drop 750 (beginnings 4 oneBroken)))
-          ++ toldFault (beginsAt (drop 750 (beginnings 3 oneBroken)));
+      rule = told_fault (begins_at (drop 750 (beginnings 4 one_broken)))
+          ++ told_fault (begins_at (drop 750 (beginnings 3 one_broken)));
       paper = 0 ∷ 0 ∷ 9 ∷ 141003 ∷ [];
     }
     ∷ []
 
 -- the theorem: the rules give what the paper says
 pub sampled : map (λ (c : Case). c.rule) samples ≡ map (λ (c : Case). c.paper) samples
-unfolding oneBroken words run marks oneFrame showRecord samples openAnswer unitPlace scenePlace allowedHeader
-    allowedUnit allowedUnits allowedScene allowedScenes allowedRows allowed readingFault rowFault isEdition unitFault
-    sceneFault word32 word64 network16 bytes_of total greatestOf leastOf count only table parts endToEnd goodSize
-    goodTime goodPid openingFault levelUpTo level side area columns lines seconds microseconds storedLength frameTime
-    body frameSize framesUpTo restUpTo frames rest behindHeader ipLength udpLength carries skipped packetsFrom
-    packetsIn packetsOf packets shown whole startsCell damageMark condition identifier isWanted startMark counter
-    wantedOf badOf gapLoss setApart lossBetween heedsSplices knowsDamage spliceMark arrivalsAfter arrivals beforeUnits
-    groups cells_of leastTime unit_of unitsOf beginnings wholeFrames unfinished allFrames wholeWanted shownWanted units
-    frameCount skippedCount badCount showing tooLong wrongMagic wrongLink wrongFrameHeader wrongFrame tooManyUnits
-    formatFault captureFault captureInside pictureSize pictureCount pictures lumaFault rows band blockSum pixelIn pixel
-    pixelLine pixels third tileAt bin inTileFrom inTile inBin histogram histograms binsApart perMillion tileDifference
-    tileDifferences insert sorted fifth difference leastOfSix cutScore cutScores startsScene isStart startsFrom starts
-    longestFrom scene_of scenesAt scenesOf same squares spread rootFrom root nearest changeFrom roundsToNearest change
-    repeatsAfter changesAfter repeats changes icOf ipOf value_of index_of indexBits recordLength sceneOffset headerBytes
-    unitBytes sceneBytes recordBytes reduced scenesIn scenes unrepeated indexFrom index header sealed sealedLength
-    captureUnfinished noPacket lumaUnfinished noPicture noRoom sealFault captureAnswer lumaAnswer sealAnswer over
-    sealedBuffer expected add mul div of_int to_bits
+unfolding one_broken words run marks one_frame show_record samples open_answer unit_place scene_place allowed_header
+    allowed_unit allowed_units allowed_scene allowed_scenes allowed_rows allowed reading_fault row_fault is_edition unit_fault
+    scene_fault word32 word64 network16 bytes_of total greatest_of least_of count only table parts end_to_end good_size
+    good_time good_pid opening_fault level_up_to level side area columns lines seconds microseconds stored_length frame_time
+    body frame_size frames_up_to rest_up_to frames rest behind_header ip_length udp_length carries skipped packets_from
+    packets_in packets_of packets shown whole starts_cell damage_mark condition identifier is_wanted start_mark counter
+    wanted_of bad_of gap_loss set_apart loss_between heeds_splices knows_damage splice_mark arrivals_after arrivals before_units
+    groups cells_of least_time unit_of units_of beginnings whole_frames unfinished all_frames whole_wanted shown_wanted units
+    frame_count skipped_count bad_count showing too_long wrong_magic wrong_link wrong_frame_header wrong_frame too_many_units
+    format_fault capture_fault capture_inside picture_size picture_count pictures luma_fault rows band block_sum pixel_in pixel
+    pixel_line pixels third tile_at bin in_tile_from in_tile in_bin histogram histograms bins_apart per_million tile_difference
+    tile_differences insert sorted fifth difference least_of_six cut_score cut_scores starts_scene is_start starts_from starts
+    longest_from scene_of scenes_at scenes_of same squares spread root_from root nearest change_from rounds_to_nearest change
+    repeats_after changes_after repeats changes ic_of ip_of value_of index_of index_bits record_length scene_offset header_bytes
+    unit_bytes scene_bytes record_bytes reduced scenes_in scenes unrepeated index_from index header sealed sealed_length
+    capture_unfinished no_packet luma_unfinished no_picture no_room seal_fault capture_answer luma_answer seal_answer over
+    sealed_buffer expected add mul div of_int to_bits
 sampled = refl

@@ -1,6 +1,6 @@
 use Prim.{tt}
 use Rattle.std.proofs.Common.{◌≡◌, length, take, drop, refl, ◌∙◌, arith, rules}
-use Rattle.capture_cells.specs.Cells.{cellIn}
+use Rattle.capture_cells.specs.Cells.{cell_in}
 use Rattle.capture_steps.proofs.Pieces.{at-live, many-taken}
 use Rattle.capture_steps.proofs.Cells.{known, gathered, cell-early, cell-shown, at-is}
 use Rattle.capture_payload.proofs.on_first.Statement.{statement}
@@ -14,7 +14,7 @@ returns c =
     let at-wrapping-add-u64 : tie.After-wrapping-add-u64 = search in
     record {
       taken = refl;
-      fits = (c.head_at.ensures.1, rw c.head_at.ensures.0 (unfold cellIn in omega arith));
+      fits = (c.head_at.ensures.1, rw c.head_at.ensures.0 (unfold cell_in in omega arith));
       goes = λ joined st. let k = at-start.pre in let a = at-start.args in
           let t = take a.n (drop a.i a.piece.now) in
           let e : length t ≡ a.n = many-taken a.piece.now a.i a.n k.7 in

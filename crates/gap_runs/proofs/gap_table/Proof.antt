@@ -6,8 +6,8 @@ use mathlib.Core.Path.{◌≡◌, refl, ◌∙◌}
 use lib.ListN.{length}
 use borrow.Author.Rules.{rules}
 use borrow.Author.Tests.{le-leb, lt-leb, lt-ltb}
-use Rattle.rules.specs.Seal.{noRoom}
-use Rattle.rules.specs.GapRuns.{gapFault, gapAnswer, tableAfter}
+use Rattle.rules.specs.Seal.{no_room}
+use Rattle.rules.specs.GapRuns.{gap_fault, gap_answer, table_after}
 use Rattle.gap_runs.proofs.Filling.{holding, held_start, holds-small, holds_more, done-answer, done-entries}
 use Rattle.gap_runs.proofs.gap_table.Statement.{statement}
 use Rattle.gap_runs.proofs.gap_table.Tie as tie
@@ -19,11 +19,11 @@ abbrev decreases-loop : tie.decreases-loop
 decreases-loop n table₀ size m₀ table m = n - m
 
 returns : tie.Need-returns invariant-loop decreases-loop
-unfolding gapAnswer gapFault tableAfter
+unfolding gap_answer gap_fault table_after
 returns c = let many = lt-leb _ 15 c.if1.true in record { answer = simp many; entries = simp many }
 
 returns-2 : tie.Need-returns-2 invariant-loop decreases-loop
-unfolding gapAnswer gapFault tableAfter noRoom
+unfolding gap_answer gap_fault table_after no_room
 returns-2 c =
     let few = le-leb _ 15 c.before.if1.false in
     let short = lt-ltb _ _ c.if2.true in

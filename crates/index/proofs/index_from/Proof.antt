@@ -20,12 +20,12 @@ returns-4 : tie.Need-returns-4
 returns-4 c =
     taken _ _ _ _ _ c.before.before.before.if1.false c.before.before.if2.false
     (record {
-      some-pictures = omega arith;
-      of-them = omega arith;
-      some-packets = omega arith;
-      few-pictures = omega arith;
-      few-packets = omega arith;
-      few-lost = omega arith;
+      some_pictures = omega arith;
+      of_them = omega arith;
+      some_packets = omega arith;
+      few_pictures = omega arith;
+      few_packets = omega arith;
+      few_lost = omega arith;
     })
     c.index_of.ensures
 

@@ -3,7 +3,7 @@
 use native.Mathlib.Omega.{arith}
 use mathlib.Core.Path.{◌≡◌, refl}
 use lib.Ieee.{binary64, of_bits, of_int}
-use Rattle.rules.specs.Index.{float, index_of, icOf, ipOf, value_of}
+use Rattle.rules.specs.Index.{float, index_of, ic_of, ip_of, value_of}
 use Rattle.index.proofs.Bound.{exact}
 use Rattle.index.proofs.index_of_totals.Statement.{statement}
 use Rattle.index.proofs.index_of_totals.Tie as tie
@@ -18,7 +18,7 @@ unfolding of_bits of_int
 one = refl
 
 returns : tie.Need-returns
-unfolding index_of icOf ipOf value_of
+unfolding index_of ic_of ip_of value_of
 returns c = simp (four, one)
 
 pub index-of-totals-spec : {M : Type 1} → statement M

@@ -4,13 +4,13 @@ use native.Mathlib.Omega.{arith}
 use mathlib.Core.Path.{◌≡◌, refl, sym, ◌∙◌}
 use lib.ListN.{length, drop}
 use borrow.Author.Rules.{rules}
-use Rattle.rules.specs.EffectiveLoss.{areProbabilities}
+use Rattle.rules.specs.EffectiveLoss.{are_probabilities}
 use Rattle.loss.proofs.Steps.{probable-more, probable-all}
 use Rattle.loss.proofs.are_probabilities.Statement.{statement}
 use Rattle.loss.proofs.are_probabilities.Tie as tie
 
 abbrev invariant-loop : tie.invariant-loop
-invariant-loop list j₀ j = (j ≤ length list) × (areProbabilities (drop j list) ≡ areProbabilities list)
+invariant-loop list j₀ j = (j ≤ length list) × (are_probabilities (drop j list) ≡ are_probabilities list)
 
 abbrev decreases-loop : tie.decreases-loop
 decreases-loop list j₀ j = length list - j

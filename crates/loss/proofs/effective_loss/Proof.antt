@@ -4,19 +4,19 @@ use mathlib.Core.Path.{sym, ◌∙◌}
 use lib.ListN.{length}
 use borrow.Author.Rules.{rules}
 use borrow.Author.Tests.{not-true, not-false}
-use Rattle.rules.specs.EffectiveLoss.{both, lossAnswer, lossFault, filled}
+use Rattle.rules.specs.EffectiveLoss.{both, loss_answer, loss_fault, filled}
 use Rattle.loss.proofs.Steps.{lengths-are, done-answer, done-lists}
 use Rattle.loss.proofs.effective_loss.Statement.{statement}
 use Rattle.loss.proofs.effective_loss.Tie as tie
 
 returns : tie.Need-returns
-unfolding lossAnswer lossFault filled
+unfolding loss_answer loss_fault filled
 returns c =
     let bad = sym c.before.good-lengths.ensures ∙ not-true _ c.if1.true in
     record { answer = simp bad; lists = simp bad }
 
 returns-2 : tie.Need-returns-2
-unfolding lossAnswer lossFault filled
+unfolding loss_answer loss_fault filled
 returns-2 c =
     let good = sym c.before.before.before.good-lengths.ensures ∙ not-false _ c.before.before.if1.false in
     let bad = sym c.before.are-probabilities.ensures ∙ not-true _ c.if2.true in
@@ -31,7 +31,7 @@ spread-requires c κs =
     (length a.plain.now) good in
     record {
       probable = omega arith;
-      key-frames = omega (arith, c.before.before.before.before.before.before.before.before.clear.auto.0);
+      key_frames = omega (arith, c.before.before.before.before.before.before.before.before.clear.auto.0);
       plains = omega (arith, c.before.before.before.before.clear2.auto.0);
     }
 

@@ -4,13 +4,13 @@ use native.Mathlib.Omega.{arith}
 use mathlib.Core.Path.{◌≡◌, sym}
 use lib.ListN.{length, length-set}
 use borrow.Author.Rules.{rules}
-use Rattle.rules.specs.EffectiveLoss.{addedAt}
+use Rattle.rules.specs.EffectiveLoss.{added_at}
 use Rattle.loss_spread.proofs.Steps.{added_none, added_more}
 use Rattle.loss_spread.proofs.add.Statement.{statement}
 use Rattle.loss_spread.proofs.add.Tie as tie
 
 abbrev invariant-loop : tie.invariant-loop
-invariant-loop list₀ i k x j₀ list j = (i ≤ j) × (j ≤ k) × (length list ≡ length list₀) × (list ≡ addedAt i j x list₀)
+invariant-loop list₀ i k x j₀ list j = (i ≤ j) × (j ≤ k) × (length list ≡ length list₀) × (list ≡ added_at i j x list₀)
 
 abbrev decreases-loop : tie.decreases-loop
 decreases-loop list₀ i k x j₀ list j = k - j

@@ -7,7 +7,7 @@ use mathlib.Core.Path.{◌≡◌, refl, sym, ap, ◌∙◌}
 use mathlib.Core.Logic.{⊎_elim}
 use lib.ListN.{length, drop}
 use borrow.Author.Rules.{rules}
-use Rattle.rules.specs.EffectiveLoss.{both, unitLosses}
+use Rattle.rules.specs.EffectiveLoss.{both, unit_losses}
 use Rattle.loss_spread.proofs.Steps.{left, taken, stopped, passed, ended, both-eq}
 use Rattle.loss_spread.proofs.Steps.{unit-spread, unit-none, units-done}
 use Rattle.loss_spread.proofs.spread.Statement.{statement}
@@ -25,8 +25,8 @@ decreases-loop2 losses probabilities keys₀ plain₀ n i loss own rest₀ k₀ 
 abbrev invariant-loop : tie.invariant-loop
 invariant-loop losses probabilities keys₀ plain₀ n i₀ keys plain i =
     (i ≤ n) × (length keys ≡ n) × (length plain ≡ n)
-    × (unitLosses i (drop i losses) (drop i probabilities) (both keys plain)
-    ≡ unitLosses 0 losses probabilities (both keys₀ plain₀))
+    × (unit_losses i (drop i losses) (drop i probabilities) (both keys plain)
+    ≡ unit_losses 0 losses probabilities (both keys₀ plain₀))
 
 abbrev decreases-loop : tie.decreases-loop
 decreases-loop losses probabilities keys₀ plain₀ n i₀ keys plain i = n - i
@@ -97,7 +97,7 @@ loop-again c =
       omega arith,
       omega (arith, ap length w.1),
       omega (arith, ap length w.2),
-      ap (unitLosses (unit.i + 1) (drop (unit.i + 1) ns) (drop (unit.i + 1) ps)) (both-eq w.1 w.2)
+      ap (unit_losses (unit.i + 1) (drop (unit.i + 1) ns) (drop (unit.i + 1) ps)) (both-eq w.1 w.2)
           ∙ unit-none ns ps unit.i before here long w.0.left ∙ unit.invariant.3,
     )) v) c.if1.branch
 

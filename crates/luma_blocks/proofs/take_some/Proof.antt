@@ -11,7 +11,7 @@ blocks-two-requires : tie.Need-blocks-two-requires
 blocks-two-requires c κs =
     let at-start : tie.Start = search in let p = at-start.pre.0 in
     let next = c.before.before.before.two-next.ensures c.before.before.if1.true in
-    record { some = p.some; few = p.few; room = p.room; inside = omega arith; inside-2 = omega arith }
+    record { some = p.some; few = p.few; room = p.room; inside = omega arith; inside_2 = omega arith }
 
 returns : tie.Need-returns
 returns c =

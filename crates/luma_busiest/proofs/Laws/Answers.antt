@@ -11,43 +11,43 @@ use borrow.Author.Tests.{le-leb, lt-leb, leb-true, eq-eqb, ne_eqb}
 use Rattle.rules.specs.declared.Answer.{Answer}
 use Rattle.rules.specs.declared.Answer.TheVariants.{Done, Refused}
 use Rattle.rules.specs.Bytes.{pick, within}
-use Rattle.rules.specs.Refusals.{Fault, none, fault, unless, ◌orElse◌, answer}
-use Rattle.rules.specs.Opening.{goodSize, goodTime}
-use Rattle.rules.specs.Seal.{noPicture, over}
+use Rattle.rules.specs.Refusals.{Fault, none, fault, unless, ◌or_else◌, answer}
+use Rattle.rules.specs.Opening.{good_size, good_time}
+use Rattle.rules.specs.Seal.{no_picture, over}
 use Rattle.rules.proofs.Laws.Lists.{both, inside}
-use Rattle.rules.specs.Busiest.{leastBetween, mostScenes, mostFault, mostAnswer}
-use Rattle.rules.specs.Busiest.{busiestLuma, busiestFault, busiestPart, busiestAnswer, busiestPiece}
+use Rattle.rules.specs.Busiest.{least_between, most_scenes, most_fault, most_answer}
+use Rattle.rules.specs.Busiest.{busiest_luma, busiest_fault, busiest_part, busiest_answer, busiest_piece}
 use Rattle.luma_laws.proofs.Most.{most-one, most-more}
 
 module _ (d n : ℕ) where
-  pub wrong-time : goodTime d ≡ false → Refused 2 0 ≡ mostAnswer d n
-  unfolding mostAnswer mostFault
+  pub wrong-time : good_time d ≡ false → Refused 2 0 ≡ most_answer d n
+  unfolding most_answer most_fault
   wrong-time e = simp e
 
-  module _ (time : goodTime d ≡ true) where
-    pub no-picture : n ≡ 0 → Refused 14 0 ≡ mostAnswer d n
-    unfolding mostAnswer mostFault noPicture
+  module _ (time : good_time d ≡ true) where
+    pub no-picture : n ≡ 0 → Refused 14 0 ≡ most_answer d n
+    unfolding most_answer most_fault no_picture
     no-picture e = simp (time, eq-eqb n 0 e)
 
-    pub many-pictures : 750 < n → Refused 10 0 ≡ mostAnswer d n
-    unfolding mostAnswer mostFault noPicture
+    pub many-pictures : 750 < n → Refused 10 0 ≡ most_answer d n
+    unfolding most_answer most_fault no_picture
     many-pictures h = simp (time, ne_eqb n 0 (λ e. omega arith), lt-leb n 750 h)
 
-    allowed : (n ≡ 0 → ⊥) → n ≤ 750 → Done (mostScenes d n) ≡ mostAnswer d n
-    unfolding mostAnswer mostFault noPicture
+    allowed : (n ≡ 0 → ⊥) → n ≤ 750 → Done (most_scenes d n) ≡ most_answer d n
+    unfolding most_answer most_fault no_picture
     allowed some few = simp (time, ne_eqb n 0 some, le-leb n 750 few)
 
-    pub few-pictures : n < 3 → (n ≡ 0 → ⊥) → Done 1 ≡ mostAnswer d n
-    few-pictures h some = ap Done (sym (most-one d n h)) ∙ allowed some (omega arith)
+    pub few_pictures : n < 3 → (n ≡ 0 → ⊥) → Done 1 ≡ most_answer d n
+    few_pictures h some = ap Done (sym (most-one d n h)) ∙ allowed some (omega arith)
 
-    pub more-pictures : 3 ≤ n → n ≤ 750 → Done (1 + (n - 3) / leastBetween d) ≡ mostAnswer d n
+    pub more-pictures : 3 ≤ n → n ≤ 750 → Done (1 + (n - 3) / least_between d) ≡ most_answer d n
     more-pictures h few = ap Done (sym (most-more d n h)) ∙ allowed (λ e. omega arith) few
 
 -- ---- what 1, 2, 14 and 10 let pass
 
 -- a picture has from 1 to 2,088,960 bytes
-pub picture-bytes : (w h : ℕ) → goodSize w h ≡ true → (0 < w * h) × (w * h ≤ 2088960)
-unfolding goodSize
+pub picture-bytes : (w h : ℕ) → good_size w h ≡ true → (0 < w * h) × (w * h ≤ 2088960)
+unfolding good_size
 picture-bytes w h g =
     let low = within 30 1088 h && within 15 1920 w in
     let two = (both low (leb h (2 * w)) (both (low && leb h (2 * w)) (leb w (4 * h)) g).0).0 in
@@ -59,18 +59,18 @@ picture-bytes w h g =
     (mul-pos some more, omega arith)
 
 -- and a luma at most 1,566,720,000
-pub luma-most : (w h n : ℕ) → goodSize w h ≡ true → n ≤ 750 → n * (w * h) ≤ 1566720000
+pub luma-most : (w h n : ℕ) → good_size w h ≡ true → n ≤ 750 → n * (w * h) ≤ 1566720000
 luma-most w h n g few =
     let area : w * h ≤ 2088960 = (picture-bytes w h g).1 in
     let most : n * (w * h) ≤ 750 * 2088960 = mul-le-mul {n₁ = n} {m₁ = w * h} {n₂ = 750} {m₂ = 2088960} few area in
     omega arith
 
-most-passed : (d n : ℕ) → mostFault d n ≡ none → (goodTime d ≡ true) × (n ≤ 750)
-unfolding mostFault noPicture
-most-passed d n e = go (goodTime d) (eqb n 0) (leb n 750) refl refl e
+most-passed : (d n : ℕ) → most_fault d n ≡ none → (good_time d ≡ true) × (n ≤ 750)
+unfolding most_fault no_picture
+most-passed d n e = go (good_time d) (eqb n 0) (leb n 750) refl refl e
   where
-    go : (a b c : Bool) → goodTime d ≡ a → leb n 750 ≡ c →
-        (unless a 2 or_else pick b (fault 14 0) none or_else unless c 10) ≡ none → (goodTime d ≡ true) × (n ≤ 750)
+    go : (a b c : Bool) → good_time d ≡ a → leb n 750 ≡ c →
+        (unless a 2 or_else pick b (fault 14 0) none or_else unless c 10) ≡ none → (good_time d ≡ true) × (n ≤ 750)
     go true false true x y f = (x, leb-true n 750 y)
     go true false false x y f = let z : ◌≡◌ {A = ℕ} 0 1 = cc in absurd (omega arith)
     go true true c x y f = let z : ◌≡◌ {A = ℕ} 0 1 = cc in absurd (omega arith)
@@ -85,15 +85,15 @@ turned : (f : Fault) (n k p : ℕ) → answer f n ≡ Refused k p → f ≡ faul
 turned none n k p e = let z : ◌≡◌ {A = ℕ} 0 1 = cc in absurd (omega arith)
 turned (fault a b) n k p e = cc
 
-pub answered : (d n k : ℕ) → mostAnswer d n ≡ Done k → (goodTime d ≡ true) × (n ≤ 750)
-unfolding mostAnswer
-answered d n k e = most-passed d n (passed (mostFault d n) (mostScenes d n) k e)
+pub answered : (d n k : ℕ) → most_answer d n ≡ Done k → (good_time d ≡ true) × (n ≤ 750)
+unfolding most_answer
+answered d n k e = most-passed d n (passed (most_fault d n) (most_scenes d n) k e)
 
-pub all-passed : (w h d n : ℕ) → busiestFault w h d n ≡ none → (goodSize w h ≡ true) × (n ≤ 750)
-unfolding busiestFault
-all-passed w h d n e = go (goodSize w h) refl e
+pub all-passed : (w h d n : ℕ) → busiest_fault w h d n ≡ none → (good_size w h ≡ true) × (n ≤ 750)
+unfolding busiest_fault
+all-passed w h d n e = go (good_size w h) refl e
   where
-    go : (b : Bool) → goodSize w h ≡ b → (unless b 1 or_else mostFault d n) ≡ none → (goodSize w h ≡ true) × (n ≤ 750)
+    go : (b : Bool) → good_size w h ≡ b → (unless b 1 or_else most_fault d n) ≡ none → (good_size w h ≡ true) × (n ≤ 750)
     go true g f = (g, (most-passed d n f).1)
     go false g f = let z : ◌≡◌ {A = ℕ} 0 1 = cc in absurd (omega arith)
 
@@ -102,32 +102,32 @@ all-passed w h d n e = go (goodSize w h) refl e
 module _ (w h d n at : ℕ) (piece : List ℕ) where
   -- the answer a, and this piece
   abbrev pub Left : Answer → List ℕ → Type 0
-  Left a after = (a ≡ busiestAnswer w h d n at (length piece)) × (after ≡ busiestPiece w h d n at piece)
+  Left a after = (a ≡ busiest_answer w h d n at (length piece)) × (after ≡ busiest_piece w h d n at piece)
 
-  pub wrong_size : goodSize w h ≡ false → Left (Refused 1 0) piece
-  unfolding busiestAnswer busiestPiece busiestFault
+  pub wrong_size : good_size w h ≡ false → Left (Refused 1 0) piece
+  unfolding busiest_answer busiest_piece busiest_fault
   wrong_size g = (simp g, simp g)
 
-  module _ (size : goodSize w h ≡ true) where
-    pub refused : (k p : ℕ) → mostAnswer d n ≡ Refused k p → Left (Refused k p) piece
-    unfolding busiestAnswer busiestPiece busiestFault mostAnswer
-    refused k p e = let f = turned (mostFault d n) (mostScenes d n) k p e in (simp (size, f), simp (size, f))
+  module _ (size : good_size w h ≡ true) where
+    pub refused : (k p : ℕ) → most_answer d n ≡ Refused k p → Left (Refused k p) piece
+    unfolding busiest_answer busiest_piece busiest_fault most_answer
+    refused k p e = let f = turned (most_fault d n) (most_scenes d n) k p e in (simp (size, f), simp (size, f))
 
-    pub filled : (k : ℕ) (r : ℕ) (after : List ℕ) → mostAnswer d n ≡ Done k →
-        r ≡ length (busiestPart w h d n at (length piece)) →
-        after ≡ over (busiestPart w h d n at (length piece)) piece → Left (Done r) after
-    unfolding busiestAnswer busiestPiece busiestFault mostAnswer
+    pub filled : (k : ℕ) (r : ℕ) (after : List ℕ) → most_answer d n ≡ Done k →
+        r ≡ length (busiest_part w h d n at (length piece)) →
+        after ≡ over (busiest_part w h d n at (length piece)) piece → Left (Done r) after
+    unfolding busiest_answer busiest_piece busiest_fault most_answer
     filled k r after e long made =
-        let f = passed (mostFault d n) (mostScenes d n) k e in
+        let f = passed (most_fault d n) (most_scenes d n) k e in
         (ap Done long ∙ simp (size, f), made ∙ simp (size, f))
 
 -- an answer counts bytes of the piece
-pub done-fits : (w h d n at size k : ℕ) → busiestAnswer w h d n at size ≡ Done k → k ≤ size
-unfolding busiestAnswer busiestPart
-done-fits w h d n at size k e = go (busiestFault w h d n) e
+pub done-fits : (w h d n at size k : ℕ) → busiest_answer w h d n at size ≡ Done k → k ≤ size
+unfolding busiest_answer busiest_part
+done-fits w h d n at size k e = go (busiest_fault w h d n) e
   where
     rest : List ℕ
-    rest = drop at (busiestLuma w h d n)
+    rest = drop at (busiest_luma w h d n)
 
     go : (f : Fault) → answer f (length (take size rest)) ≡ Done k → k ≤ size
     go none g = let z : length (take size rest) ≡ k = cc in omega (arith, length-take size rest)

@@ -12,18 +12,18 @@ use lib.Seq.{drop-cons}
 use lib.Dec.{leb}
 use borrow.Author.Tests.{le-leb, lt-leb}
 use Rattle.rules.specs.Bytes.{within}
-use Rattle.rules.specs.Busiest.{allDigits, withDigits, argumentOf}
+use Rattle.rules.specs.Busiest.{all_digits, with_digits, argument_of}
 
 -- the digits before place i are n, and the rest decides
 pub record Read (word : List ℕ) (n i : ℕ) : Type 0 where
   pub few : length word ≤ 9
   pub inside : i ≤ length word
   pub small : n < 10 ^ i
-  pub digits : allDigits word ≡ allDigits (drop i word)
-  pub value : withDigits 0 word ≡ withDigits n (drop i word)
+  pub digits : all_digits word ≡ all_digits (drop i word)
+  pub value : with_digits 0 word ≡ with_digits n (drop i word)
 
-pub too_long : (word : List ℕ) → 9 < length word → 0 ≡ argumentOf word
-unfolding argumentOf
+pub too_long : (word : List ℕ) → 9 < length word → 0 ≡ argument_of word
+unfolding argument_of
 too_long word h = rw (le-leb 1 (length word) (omega arith), lt-leb (length word) 9 h)
 
 pub read_none : (word : List ℕ) → length word ≤ 9 → Read word 0 0
@@ -40,20 +40,20 @@ module _ (word : List ℕ) (n i : ℕ) (r : Read word n i) (more : i < length wo
   rest : drop i word ≡ get_or word i 0 ∷ drop (i + 1) word
   rest = rw (add-one i) (drop-cons word i 0 more)
 
-  read-wrong : within 48 57 (get_or word i 0) ≡ false → 0 ≡ argumentOf word
-  unfolding argumentOf allDigits
+  read-wrong : within 48 57 (get_or word i 0) ≡ false → 0 ≡ argument_of word
+  unfolding argument_of all_digits
   read-wrong e =
-      let none : allDigits word ≡ false = r.digits ∙ rw (rest, e) in
+      let none : all_digits word ≡ false = r.digits ∙ rw (rest, e) in
       rw (none, and-false (within 1 9 (length word)))
 
-  pub read_below : get_or word i 0 < 48 → 0 ≡ argumentOf word
+  pub read_below : get_or word i 0 < 48 → 0 ≡ argument_of word
   read_below h = read-wrong (rw (lt-leb 48 (get_or word i 0) h))
 
-  pub read_above : 57 < get_or word i 0 → 0 ≡ argumentOf word
+  pub read_above : 57 < get_or word i 0 → 0 ≡ argument_of word
   read_above h = read-wrong (rw (lt-leb (get_or word i 0) 57 h) (and-false (leb 48 (get_or word i 0))))
 
   pub read-digit : 48 ≤ get_or word i 0 → get_or word i 0 ≤ 57 → Read word (10 * n + (get_or word i 0 - 48)) (i + 1)
-  unfolding allDigits withDigits
+  unfolding all_digits with_digits
   read-digit low high =
       let b = get_or word i 0 in
       record {
@@ -64,15 +64,15 @@ module _ (word : List ℕ) (n i : ℕ) (r : Read word n i) (more : i < length wo
         value = r.value ∙ rw rest;
       }
 
-pub read_all : (word : List ℕ) (n i : ℕ) → Read word n i → length word ≤ i → n ≡ argumentOf word
-unfolding argumentOf allDigits withDigits
+pub read_all : (word : List ℕ) (n i : ℕ) → Read word n i → length word ≤ i → n ≡ argument_of word
+unfolding argument_of all_digits with_digits
 read_all word n i r h =
     let none : drop i word ≡ [] = drop_of_length-le word h in
-    let digits : allDigits word ≡ true = r.digits ∙ rw none in
-    let value : withDigits 0 word ≡ n = r.value ∙ rw none in
+    let digits : all_digits word ≡ true = r.digits ∙ rw none in
+    let value : with_digits 0 word ≡ n = r.value ∙ rw none in
     go (dec_le 1 (length word)) digits value
   where
-    go : Dec (1 ≤ length word) → allDigits word ≡ true → withDigits 0 word ≡ n → n ≡ argumentOf word
+    go : Dec (1 ≤ length word) → all_digits word ≡ true → with_digits 0 word ≡ n → n ≡ argument_of word
     go (yes some) digits value = rw (le-leb 1 (length word) some, le-leb (length word) 9 r.few, digits, value)
     go (no some) digits value =
         let first : i ≡ 0 = omega (arith, r.inside) in

@@ -8,7 +8,7 @@ use mathlib.Core.Bool.{Bool, true, false}
 use mathlib.Core.List.{List, ◌∷◌, map}
 use lib.ListN.{length, take, drop, set, replicate, replicate-append-replicate, length-append}
 use lib.Seq.{take-suc-set, take_at, drop_at}
-use Rattle.rules.specs.Bytes.{pick, total, count, table, parts, endToEnd, Bytes, empty, and}
+use Rattle.rules.specs.Bytes.{pick, total, count, table, parts, end_to_end, Bytes, empty, and}
 use Rattle.luma_laws.proofs.Pictures.{bytes-append}
 
 module _ {ℓ} {A : Type ℓ} where
@@ -36,19 +36,19 @@ module _ {ℓ} {A : Type ℓ} where
       rw (e, flat-take w (w + h * w) a (omega arith), flat-drop w (h * w) a, flat_rows h w a)
 
   pub joined_length : (n from m : ℕ) (f : ℕ → List A) → ((i : ℕ) → length (f i) ≡ m) →
-      length (endToEnd (table n from f)) ≡ n * m
-  unfolding endToEnd table
+      length (end_to_end (table n from f)) ≡ n * m
+  unfolding end_to_end table
   joined_length zero from m f e = rw (zero-mul m)
   joined_length (suc n) from m f e =
       rw (length-append, suc-mul n m) (omega (arith, e from, joined_length n (suc from) m f e))
 
   -- lists of m elements laid end to end have these for their parts
   pub parts-joined : (n from m : ℕ) (f : ℕ → List A) → ((i : ℕ) → length (f i) ≡ m) →
-      parts n m (endToEnd (table n from f)) ≡ table n from f
-  unfolding parts endToEnd table
+      parts n m (end_to_end (table n from f)) ≡ table n from f
+  unfolding parts end_to_end table
   parts-joined zero from m f e = refl
   parts-joined (suc n) from m f e =
-      let rest = endToEnd (table n (suc from) f) in
+      let rest = end_to_end (table n (suc from) f) in
       rw (take_at (f from) rest m (e from), drop_at (f from) rest m (e from), parts-joined n (suc from) m f e)
 
   -- tables and lines of one value
@@ -59,8 +59,8 @@ module _ {ℓ} {A : Type ℓ} where
   flat-table (suc n) from f a e = cc (e from (omega arith), flat-table n (suc from) f a (λ i h. e i (omega arith)))
 
   pub flat-lines : (n from m : ℕ) (f : ℕ → List A) (a : A) → ((i : ℕ) → i < from + n → f i ≡ replicate m a) →
-      endToEnd (table n from f) ≡ replicate (n * m) a
-  unfolding table endToEnd
+      end_to_end (table n from f) ≡ replicate (n * m) a
+  unfolding table end_to_end
   flat-lines zero from m f a e = rw (zero-mul m)
   flat-lines (suc n) from m f a e =
       let size : suc n * m ≡ m + n * m = omega (arith, suc-mul n m) in
@@ -89,8 +89,8 @@ pub flat-bytes : (n v : ℕ) → v < 256 → Bytes (replicate n v)
 flat-bytes zero v h = empty
 flat-bytes (suc n) v h = and h (flat-bytes n v h)
 
-pub joined_bytes : (n from : ℕ) (f : ℕ → List ℕ) → ((i : ℕ) → Bytes (f i)) → Bytes (endToEnd (table n from f))
-unfolding endToEnd table
+pub joined_bytes : (n from : ℕ) (f : ℕ → List ℕ) → ((i : ℕ) → Bytes (f i)) → Bytes (end_to_end (table n from f))
+unfolding end_to_end table
 joined_bytes zero from f h = empty
 joined_bytes (suc n) from f h =
-    bytes-append (f from) (endToEnd (table n (suc from) f)) (h from) (joined_bytes n (suc from) f h)
+    bytes-append (f from) (end_to_end (table n (suc from) f)) (h from) (joined_bytes n (suc from) f h)

@@ -10,10 +10,10 @@ use lib.ListN.{length, take, drop, set, replicate, length-drop, drop_of_length-l
 use lib.ListN.{length-replicate, replicate-append-replicate}
 use lib.Seq.{take_all, take-nil, take-add, drop-drop, length-take-le}
 use borrow.Author.Tests.{le-leb, lt-leb}
-use Rattle.rules.specs.Bytes.{smaller, table, endToEnd}
+use Rattle.rules.specs.Bytes.{smaller, table, end_to_end}
 use Rattle.rules.specs.Seal.{over}
 use Rattle.rules.proofs.Laws.Lists.{smaller-min}
-use Rattle.rules.specs.Busiest.{shade, busiestLuma, busiestPart, InPieces}
+use Rattle.rules.specs.Busiest.{shade, busiest_luma, busiest_part, InPieces}
 use Rattle.words.specs.Written.{written}
 use Rattle.words.proofs.Laws.{written-sets, length-written, written-append}
 use Rattle.words.proofs.Behind.{behind}
@@ -59,11 +59,11 @@ picture-end size place some =
 module _ (w h d n at : ℕ) (before : List ℕ) where
   -- all of the luma from there on
   rest : List ℕ
-  rest = drop at (busiestLuma w h d n)
+  rest = drop at (busiest_luma w h d n)
 
   rest-length : length rest ≡ n * (w * h) - at
   unfolding rest
-  rest-length = length-drop at (busiestLuma w h d n) ∙ rw (luma-length w h d n)
+  rest-length = length-drop at (busiest_luma w h d n) ∙ rw (luma-length w h d n)
 
   -- its first bytes, up to `done`, are written
   pub Filled : ℕ → List ℕ → Type 0
@@ -76,7 +76,7 @@ module _ (w h d n at : ℕ) (before : List ℕ) where
   -- the bytes from `done` to `to` lie in picture i
   in-picture : (done to i : ℕ) → 0 < w * h → i ≡ (at + done) / (w * h) → done ≤ to → at + to ≤ (i + 1) * (w * h) →
       at + done < n * (w * h) → take (to - done) (drop done rest) ≡ replicate (to - done) (shade d i)
-  unfolding rest busiestLuma
+  unfolding rest busiest_luma
   in-picture done to i some e up most low =
       let size = w * h in
       let r = (at + done) % size in
@@ -85,7 +85,7 @@ module _ (w h d n at : ℕ) (before : List ℕ) where
       let inside : i < n = rw e below in
       let next : (i + 1) * size ≡ size + i * size = omega (arith, suc-mul i size) in
       let first : 0 + i ≡ i = omega arith in
-      ap (take (to - done)) (drop-drop done at (busiestLuma w h d n))
+      ap (take (to - done)) (drop-drop done at (busiest_luma w h d n))
       ∙ rw place (rw first at (within size (shade d) i n 0 r (to - done) inside (omega arith)))
 
   pub filled_more : (done to i : ℕ) (now after : List ℕ) → 0 < w * h → i ≡ (at + done) / (w * h) → done ≤ to →
@@ -107,8 +107,8 @@ module _ (w h d n at : ℕ) (before : List ℕ) where
   abbrev pub end : ℕ
   end = smaller (n * (w * h) - at) (length before)
 
-  end-part : take end rest ≡ busiestPart w h d n at (length before)
-  unfolding rest busiestPart
+  end-part : take end rest ≡ busiest_part w h d n at (length before)
+  unfolding rest busiest_part
   end-part = go (dec_le (n * (w * h) - at) (length before))
     where
       left : ℕ
@@ -121,29 +121,29 @@ module _ (w h d n at : ℕ) (before : List ℕ) where
           rw (le-leb left (length before) k) (take_all left rest short ∙ sym (take_all (length before) rest room))
       go (no k) = rw (lt-leb left (length before) (omega arith))
 
-  pub end-length : end ≡ length (busiestPart w h d n at (length before))
+  pub end-length : end ≡ length (busiest_part w h d n at (length before))
   end-length =
       let left = n * (w * h) - at in
       let short : end ≤ left = omega (arith, smaller-min left (length before)) in
       sym (rw end-part at (length-take-le end rest (omega (arith, rest-length))))
 
   pub filled-all : (after : List ℕ) → Filled end after →
-      after ≡ over (busiestPart w h d n at (length before)) before
+      after ≡ over (busiest_part w h d n at (length before)) before
   unfolding Filled
   filled-all after f = f ∙ rw end-part
 
   -- nothing of the luma is left there
-  pub none_left : n * (w * h) ≤ at → busiestPart w h d n at (length before) ≡ []
-  unfolding busiestPart rest
+  pub none_left : n * (w * h) ≤ at → busiest_part w h d n at (length before) ≡ []
+  unfolding busiest_part rest
   none_left past =
-      let gone : rest ≡ [] = drop_of_length-le (busiestLuma w h d n) {i = at} (omega (arith, luma-length w h d n)) in
+      let gone : rest ≡ [] = drop_of_length-le (busiest_luma w h d n) {i = at} (omega (arith, luma-length w h d n)) in
       rw gone (take-nil (length before))
 
 -- ---- pieces laid end to end
 
 pieces : (l : List ℕ) (size k from : ℕ) →
-    endToEnd (table k from (λ i. take size (drop (i * size) l))) ≡ take (k * size) (drop (from * size) l)
-unfolding endToEnd table
+    end_to_end (table k from (λ i. take size (drop (i * size) l))) ≡ take (k * size) (drop (from * size) l)
+unfolding end_to_end table
 pieces l size zero from = rw (zero-mul size)
 pieces l size (suc k) from =
     let all : suc k * size ≡ size + k * size = omega (arith, suc-mul k size) in
@@ -153,9 +153,9 @@ pieces l size (suc k) from =
     rw (all, take-add size (k * size) s, behind, pieces l size k (suc from))
 
 pub in_pieces : InPieces
-unfolding busiestPart
+unfolding busiest_part
 in_pieces w h d n ok =
     let p = all-passed w h d n ok in
     let whole = luma-most w h n p.0 p.1 in
-    let l = busiestLuma w h d n in
+    let l = busiest_luma w h d n in
     pieces l 65536 23907 0 ∙ take_all (23907 * 65536) l (omega (arith, luma-length w h d n))

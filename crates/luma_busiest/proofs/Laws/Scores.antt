@@ -11,7 +11,7 @@ use lib.Dec.{leb, ltb}
 use borrow.Author.Tests.{leb-true, ltb-true, le-leb, lt-ltb}
 use Rattle.rules.specs.declared.Opening.{Opening}
 use Rattle.rules.specs.Bytes.{pick, smaller}
-use Rattle.rules.specs.Cuts.{difference, leastOfSix, at, cutScore}
+use Rattle.rules.specs.Cuts.{difference, least_of_six, at, cut_score}
 use Rattle.luma_laws.proofs.Sizes.{Good}
 use Rattle.rules.specs.Busiest.{tone}
 use Rattle.luma_busiest.proofs.Laws.Plain.{plain, plain-same, black-to-white, white-to-black}
@@ -24,14 +24,14 @@ smaller-zero a b = rw (le-leb 0 b (omega arith)) (go (leb a 0) refl)
     go true e = omega (arith, leb-true a 0 e)
     go false e = refl
 
-least_zero : (a b x y z : List (List ℕ)) → difference b x ≡ 0 → leastOfSix a b x y z ≡ 0
-unfolding leastOfSix
+least_zero : (a b x y z : List (List ℕ)) → difference b x ≡ 0 → least_of_six a b x y z ≡ 0
+unfolding least_of_six
 least_zero a b x y z e =
     let first = smaller (difference a x) (smaller (difference a y) (difference a z)) in
     rw e (smaller-zero first (smaller (difference b y) (difference b z)))
 
-least-full : (a x : List (List ℕ)) → difference a x ≡ 1000000 → leastOfSix a a x x x ≡ 1000000
-unfolding leastOfSix
+least-full : (a x : List (List ℕ)) → difference a x ≡ 1000000 → least_of_six a a x x x ≡ 1000000
+unfolding least_of_six
 least-full a x e = rw e
 
 -- the histograms of pictures that come in runs of m
@@ -53,12 +53,12 @@ module _ (o : Opening) (g : Good o) where
         let here : i / m ≡ t = div-eq_of_lt-le m low (omega (arith, suc-mul t m)) in
         runs i h ∙ rw here
 
-    pub score-zero : (t i : ℕ) → t * m < i → i < suc t * m → cutScore hs i ≡ 0
-    unfolding cutScore
+    pub score-zero : (t i : ℕ) → t * m < i → i < suc t * m → cut_score hs i ≡ 0
+    unfolding cut_score
     score-zero t i low high = go (leb 2 i) (ltb (i + 2) (length hs)) refl refl
       where
         s : ℕ
-        s = leastOfSix (at hs (i - 2)) (at hs (i - 1)) (at hs i) (at hs (i + 1)) (at hs (i + 2))
+        s = least_of_six (at hs (i - 2)) (at hs (i - 1)) (at hs i) (at hs (i + 1)) (at hs (i + 2))
 
         go : (x y : Bool) → leb 2 i ≡ x → ltb (i + 2) (length hs) ≡ y → pick (x && y) s 0 ≡ 0
         go true true ex ey =
@@ -70,8 +70,8 @@ module _ (o : Opening) (g : Good o) where
         go true false ex ey = refl
         go false y ex ey = refl
 
-    pub score-full : (t : ℕ) → 3 ≤ m → suc t * m + 2 < length hs → cutScore hs (suc t * m) ≡ 1000000
-    unfolding cutScore
+    pub score-full : (t : ℕ) → 3 ≤ m → suc t * m + 2 < length hs → cut_score hs (suc t * m) ≡ 1000000
+    unfolding cut_score
     score-full t three inside =
         let i = suc t * m in
         let e = suc-mul t m in

@@ -10,7 +10,7 @@ use mathlib.Core.List.{List, [], ◌∷◌}
 use lib.ListN.{length, get_or}
 use borrow.Author.Tests.{le-leb, lt-ltb}
 use Rattle.rules.specs.Bytes.{pick, total, table}
-use Rattle.rules.specs.Scenes.{span, startsScene, isStart, startsFrom}
+use Rattle.rules.specs.Scenes.{span, starts_scene, is_start, starts_from}
 use Rattle.luma_laws.proofs.Scenes.{start-long, start-cut}
 use Rattle.luma_laws.proofs.Spans.{total-end, total-step}
 use Rattle.rules.specs.Busiest.{LeastReaching}
@@ -28,8 +28,8 @@ span-zero (suc n) k j xs e h z =
 
 -- a start whose score is 1,000,000, m pictures after the one before, with nothing between
 lone-start : (d : ℕ) (ss : List ℕ) (b m : ℕ) → 600000 ≤ m * d → 3 ≤ m →
-    get_or ss (b + m) 0 ≡ 1000000 → total (span (b + 1) (b + m) ss) ≡ 0 → isStart d ss b (b + m) ≡ true
-unfolding isStart startsScene
+    get_or ss (b + m) 0 ≡ 1000000 → total (span (b + 1) (b + m) ss) ≡ 0 → is_start d ss b (b + m) ≡ true
+unfolding is_start starts_scene
 lone-start d ss b m long three s sum =
     let gap : b + m - b ≡ m = omega arith in
     rw (gap, s, sum, le-leb 600000 (m * d) long) (lt-ltb (5 * 0) (1000000 * (m - 1)) (omega arith))
@@ -40,7 +40,7 @@ pub record Peaks (m : ℕ) (ss : List ℕ) : Type 0 where
   pub there : (t : ℕ) → suc t * m + 2 < length ss → get_or ss (suc t * m) 0 ≡ 1000000
 
 module _ (d m : ℕ) (ss : List ℕ) (m-least : LeastReaching d m) (three : 3 ≤ m) (peaks : Peaks m ss) where
-  starts-here : (t : ℕ) → suc t * m + 2 < length ss → isStart d ss (t * m) (suc t * m) ≡ true
+  starts-here : (t : ℕ) → suc t * m + 2 < length ss → is_start d ss (t * m) (suc t * m) ≡ true
   starts-here t h =
       let next = suc-mul t m in
       let from = t * m + 1 in
@@ -53,53 +53,53 @@ module _ (d m : ℕ) (ss : List ℕ) (m-least : LeastReaching d m) (three : 3 �
   module _ (q : ℕ) (inside : (t : ℕ) → t < q → suc t * m + 2 < length ss) (outside : length ss ≤ suc q * m + 2)
       (cut : (i : ℕ) → 1000 < get_or ss i 0 → i + 2 < length ss) where
     -- behind the last of them nothing starts
-    none-behind : (n i : ℕ) → q * m < i → startsFrom d ss n (q * m) i ≡ []
-    unfolding startsFrom
+    none-behind : (n i : ℕ) → q * m < i → starts_from d ss n (q * m) i ≡ []
+    unfolding starts_from
     none-behind zero i h = refl
-    none-behind (suc n) i h = go (isStart d ss (q * m) i) refl (none-behind n (suc i) (omega arith))
+    none-behind (suc n) i h = go (is_start d ss (q * m) i) refl (none-behind n (suc i) (omega arith))
       where
-        go : (b : Bool) → isStart d ss (q * m) i ≡ b → startsFrom d ss n (q * m) (suc i) ≡ [] →
-            pick b (i ∷ startsFrom d ss n i (suc i)) (startsFrom d ss n (q * m) (suc i)) ≡ []
+        go : (b : Bool) → is_start d ss (q * m) i ≡ b → starts_from d ss n (q * m) (suc i) ≡ [] →
+            pick b (i ∷ starts_from d ss n i (suc i)) (starts_from d ss n (q * m) (suc i)) ≡ []
         go true s more =
             let long = m-least.least (i - q * m) (start-long d ss (q * m) i s) in
             let here = cut i (start-cut d ss (q * m) i s) in
             absurd (omega (arith, suc-mul q m))
         go false s more = more
 
-    at_last : (n t i : ℕ) → t ≡ q → t * m < i → startsFrom d ss n (t * m) i ≡ []
+    at_last : (n t i : ℕ) → t ≡ q → t * m < i → starts_from d ss n (t * m) i ≡ []
     at_last n t i same h = rw same (none-behind n i (rw same at h))
 
     -- with the last start t × m, picture i not past the next multiple and n left, the multiples behind t follow
     pub named-starts : (n t i : ℕ) → t ≤ q → t * m < i → i ≤ suc t * m → i + n ≡ length ss →
-        startsFrom d ss n (t * m) i ≡ table (q - t) (suc t) (λ s. s * m)
-    unfolding startsFrom table
+        starts_from d ss n (t * m) i ≡ table (q - t) (suc t) (λ s. s * m)
+    unfolding starts_from table
     named-starts zero t i most low high e = elim (dec_lt t q) [
       | yes l ↦ absurd (omega (arith, inside t l))
       | no l ↦ let none : q - t ≡ 0 = omega arith in rw none
     ]
     named-starts (suc n) t i most low high e =
-        go (isStart d ss (t * m) i) refl (dec_lt t q)
+        go (is_start d ss (t * m) i) refl (dec_lt t q)
         (λ l here. rw (sym here) at
         (named-starts n (suc t) (suc i) (omega arith) (omega arith) (omega (arith, suc-mul (suc t) m)) (omega arith)))
         (λ l. named-starts n t (suc i) most (omega arith) l (omega arith))
         (λ l. at_last (suc n) t i (omega arith) low)
       where
-        go : (b : Bool) → isStart d ss (t * m) i ≡ b → Dec (t < q) →
-            (t < q → i ≡ suc t * m → startsFrom d ss n i (suc i) ≡ table (q - suc t) (suc (suc t)) (λ s. s * m)) →
-            (i < suc t * m → startsFrom d ss n (t * m) (suc i) ≡ table (q - t) (suc t) (λ s. s * m)) →
+        go : (b : Bool) → is_start d ss (t * m) i ≡ b → Dec (t < q) →
+            (t < q → i ≡ suc t * m → starts_from d ss n i (suc i) ≡ table (q - suc t) (suc (suc t)) (λ s. s * m)) →
+            (i < suc t * m → starts_from d ss n (t * m) (suc i) ≡ table (q - t) (suc t) (λ s. s * m)) →
             ((t < q → ⊥) →
-            pick (isStart d ss (t * m) i) (i ∷ startsFrom d ss n i (suc i)) (startsFrom d ss n (t * m) (suc i)) ≡ []) →
-            pick b (i ∷ startsFrom d ss n i (suc i)) (startsFrom d ss n (t * m) (suc i)) ≡
+            pick (is_start d ss (t * m) i) (i ∷ starts_from d ss n i (suc i)) (starts_from d ss n (t * m) (suc i)) ≡ []) →
+            pick b (i ∷ starts_from d ss n i (suc i)) (starts_from d ss n (t * m) (suc i)) ≡
             table (q - t) (suc t) (λ s. s * m)
         go true s (yes l) past on behind =
             let long = m-least.least (i - t * m) (start-long d ss (t * m) i s) in
             let here : i ≡ suc t * m = omega (arith, suc-mul t m) in
             let more : q - t ≡ suc (q - suc t) = omega arith in
             rw more
-            (ap (λ (x : ℕ). x ∷ startsFrom d ss n i (suc i)) here ∙ ap (λ (r : List ℕ). suc t * m ∷ r) (past l here))
+            (ap (λ (x : ℕ). x ∷ starts_from d ss n i (suc i)) here ∙ ap (λ (r : List ℕ). suc t * m ∷ r) (past l here))
         go false s (yes l) past on behind = later (dec_lt i (suc t * m))
           where
-            later : Dec (i < suc t * m) → startsFrom d ss n (t * m) (suc i) ≡ table (q - t) (suc t) (λ s. s * m)
+            later : Dec (i < suc t * m) → starts_from d ss n (t * m) (suc i) ≡ table (q - t) (suc t) (λ s. s * m)
             later (yes k) = on k
             later (no k) =
                 let here : i ≡ suc t * m = omega arith in

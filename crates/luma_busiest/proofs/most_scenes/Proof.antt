@@ -7,7 +7,7 @@ use borrow.Author.Rules.{rules}
 use borrow.Author.Tests.{not-true, not-false}
 use Rattle.rules.specs.declared.Answer.TheVariants.{Done}
 use Rattle.luma_laws.proofs.Least.{good-between}
-use Rattle.luma_busiest.proofs.Laws.Answers.{wrong-time, no-picture, many-pictures, few-pictures, more-pictures}
+use Rattle.luma_busiest.proofs.Laws.Answers.{wrong-time, no-picture, many-pictures, few_pictures, more-pictures}
 use Rattle.luma_busiest.proofs.most_scenes.Statement.{statement}
 use Rattle.luma_busiest.proofs.most_scenes.Tie as tie
 
@@ -29,7 +29,7 @@ returns-4 : tie.Need-returns-4
 returns-4 c =
     let p = c.before.before.before in
     let good = sym p.before.good-time.ensures ∙ not-false _ p.if1.false in
-    few-pictures _ _ good c.if4.true c.before.before.if2.false
+    few_pictures _ _ good c.if4.true c.before.before.if2.false
 
 least-between-requires : tie.Need-least-between-requires
 least-between-requires c κs =

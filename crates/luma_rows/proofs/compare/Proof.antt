@@ -13,7 +13,7 @@ abbrev decreases-loop : tie.decreases-loop
 decreases-loop picture base rest k sums₀ c₀ sums c = k - c
 
 compare-run-requires : tie.Need-compare-run-requires invariant-loop decreases-loop
-compare-run-requires c κs = record { kept_there = omega arith; made-there = omega arith; few = omega arith }
+compare-run-requires c κs = record { kept_there = omega arith; made_there = omega arith; few = omega arith }
 
 loop-less : tie.Need-loop-smaller invariant-loop decreases-loop
 loop-less c =

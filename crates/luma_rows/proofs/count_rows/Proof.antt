@@ -27,7 +27,7 @@ count-row-requires c κs =
     let i = c.before.before.before.before.loop.i in
     record {
       boundary = p.0.boundary;
-      boundary-2 = p.0.boundary-2;
+      boundary_2 = p.0.boundary_2;
       wide = omega arith;
       few = omega arith;
       inside = omega arith;

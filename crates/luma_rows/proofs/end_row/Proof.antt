@@ -37,7 +37,7 @@ compare-run-requires c κs =
     let c₁₂ = c₈.before.before.before.before in let p = c₁₂.before.before.requires in
     let a = c₁₂.before.before.args in
     record
-    { kept_there = omega arith; made-there = omega (arith, row_room a.g a.s p.line); few = omega arith }
+    { kept_there = omega arith; made_there = omega (arith, row_room a.g a.s p.line); few = omega arith }
 
 next-row-requires : tie.Need-next-row-requires
 next-row-requires c κs =

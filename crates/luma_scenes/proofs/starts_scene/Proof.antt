@@ -7,21 +7,21 @@ use native.Mathlib.Omega.{arith}
 use lib.Dec.{leb, ltb}
 use borrow.Author.Rules.{rules}
 use borrow.Author.Tests.{lt-leb, le-leb, le-ltb, lt-ltb}
-use Rattle.rules.specs.Scenes.{startsScene}
+use Rattle.rules.specs.Scenes.{starts_scene}
 use Rattle.luma_scenes.proofs.starts_scene.Statement.{statement}
 use Rattle.luma_scenes.proofs.starts_scene.Tie as tie
 
 module _ (d n s sum : ℕ) where
-  too_short : n * d < 600000 → false ≡ startsScene d n s sum
-  unfolding startsScene
+  too_short : n * d < 600000 → false ≡ starts_scene d n s sum
+  unfolding starts_scene
   too_short h = rw (lt-leb 600000 (n * d) h)
 
-  no_cut : s ≤ 1000 → false ≡ startsScene d n s sum
-  unfolding startsScene
+  no_cut : s ≤ 1000 → false ≡ starts_scene d n s sum
+  unfolding starts_scene
   no_cut h = rw (le-ltb 1000 s h, and-false (leb 600000 (n * d)))
 
-  by-mean : 600000 ≤ n * d → 1000 < s → ltb (5 * sum) (s * (n - 1)) ≡ startsScene d n s sum
-  unfolding startsScene
+  by-mean : 600000 ≤ n * d → 1000 < s → ltb (5 * sum) (s * (n - 1)) ≡ starts_scene d n s sum
+  unfolding starts_scene
   by-mean h k = rw (le-leb 600000 (n * d) h, lt-ltb 1000 s k)
 
 mul-if1 : tie.Need-overflow-mul-if1

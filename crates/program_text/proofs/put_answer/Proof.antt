@@ -1,15 +1,15 @@
 -- `answers::put_answer` meets its contract, by the two cases of an answer.
-use Rattle.program_text.specs.Text.{answerText}
+use Rattle.program_text.specs.Text.{answer_text}
 use borrow.Author.Rules.{rules}
 use Rattle.program_text.proofs.put_answer.Statement.{statement}
 use Rattle.program_text.proofs.put_answer.Tie as tie
 
 returns : tie.Need-returns
-unfolding answerText
+unfolding answer_text
 returns c = rw c.before.before.before.before.before.before.a.given.1 c.before.before.put-line.ensures
 
 returns-2 : tie.Need-returns-2
-unfolding answerText
+unfolding answer_text
 returns-2 c =
     rw c.before.before.before.before.before.before.a2.given.1 c.before.before.put-line2.ensures
 

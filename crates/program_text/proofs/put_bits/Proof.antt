@@ -3,22 +3,22 @@ use native.Mathlib.Omega.{arith}
 use Prim.Native.Nat.{ℕ}
 use mathlib.Core.List.{List, ◌∷◌}
 use borrow.Author.Rules.{rules}
-use Rattle.rules.specs.Digits.{hexIn}
+use Rattle.rules.specs.Digits.{hex_in}
 use Rattle.record_text.proofs.Texts.{line-of-three, length-hex}
-use Rattle.program_text.specs.Text.{bitsText}
+use Rattle.program_text.specs.Text.{bits_text}
 use Rattle.program_text.proofs.Counted.{counted}
 use Rattle.program_text.proofs.put_bits.Statement.{statement}
 use Rattle.program_text.proofs.put_bits.Tie as tie
 
 returns : tie.Need-returns
-unfolding bitsText
+unfolding bits_text
 returns c =
     let mid = c.before.before.before.before.before.before in
     let start = mid.before.before.before.before.before.before.before.before.before in
     let first = mid.before.before.before.before.put-text in
     let second = mid.put-hex in
     let third = c.before.before.put-text2 in
-    let digits : List ℕ = 32 ∷ hexIn 16 start.args.bits in
+    let digits : List ℕ = 32 ∷ hex_in 16 start.args.bits in
     let whole = line-of-three
     start.args.word.now digits start.args.end.now
     start.args.line.now first.new.0 second.new.0 third.new.0

@@ -5,7 +5,7 @@ use native.Mathlib.Omega.{arith}
 use mathlib.Core.Path.{◌≡◌, refl}
 use lib.ListN.{length, take, length-set}
 use Rattle.rules.specs.Seal.{over}
-use Rattle.program_text.specs.Text.{hexText}
+use Rattle.program_text.specs.Text.{hex_text}
 use Rattle.program_text.proofs.Hex.{byte_more, none_yet, all-written}
 use Rattle.program_text.proofs.Counted.{counted}
 use Rattle.program_text.proofs.put_hex.Statement.{statement}
@@ -13,7 +13,7 @@ use Rattle.program_text.proofs.put_hex.Tie as tie
 
 abbrev invariant-loop : tie.invariant-loop
 invariant-loop text₀ bytes i₀ text i =
-    (i ≤ length bytes) × (length text ≡ length text₀) × (text ≡ over (hexText (take i bytes)) text₀)
+    (i ≤ length bytes) × (length text ≡ length text₀) × (text ≡ over (hex_text (take i bytes)) text₀)
 
 abbrev decreases-loop : tie.decreases-loop
 decreases-loop text₀ bytes i₀ text i = length bytes - i

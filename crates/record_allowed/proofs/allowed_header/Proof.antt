@@ -1,11 +1,11 @@
 use borrow.Author.Rules.{rules}
-use Rattle.rules.specs.Record.{recordLength, sceneOffset}
-use Rattle.rules.specs.Reading.{allowedHeader}
+use Rattle.rules.specs.Record.{record_length, scene_offset}
+use Rattle.rules.specs.Reading.{allowed_header}
 use Rattle.record_allowed.proofs.allowed_header.Statement.{statement}
 use Rattle.record_allowed.proofs.allowed_header.Tie as tie
 
 returns : tie.Need-returns
-unfolding allowedHeader recordLength sceneOffset
+unfolding allowed_header record_length scene_offset
 returns c =
     let c₂ = c.before.before in
     let c₃ = c₂.before in

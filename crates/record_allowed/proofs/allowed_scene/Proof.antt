@@ -1,10 +1,10 @@
 use borrow.Author.Rules.{rules}
-use Rattle.rules.specs.Reading.{allowedScene}
+use Rattle.rules.specs.Reading.{allowed_scene}
 use Rattle.record_allowed.proofs.allowed_scene.Statement.{statement}
 use Rattle.record_allowed.proofs.allowed_scene.Tie as tie
 
 returns : tie.Need-returns
-unfolding allowedScene
+unfolding allowed_scene
 returns c =
     let c₂ = c.before.before in
     rw (c₂.word.ensures.0, c.before.word2.ensures.0, c.word3.ensures.0)

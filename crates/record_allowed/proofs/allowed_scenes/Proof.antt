@@ -5,14 +5,14 @@ use lib.ListN.{drop, length-take, length-drop}
 use borrow.Author.Tests.{not-true, not-false}
 use native.Mathlib.Nat.{sub-zero, add-zero}
 use Rattle.record_allowed.proofs.Rows.{scenes-more, scenes-stop, scenes-end}
-use Rattle.rules.specs.Reading.{allowedScenes}
+use Rattle.rules.specs.Reading.{allowed_scenes}
 use borrow.Author.Rules.{rules}
 use Rattle.record_allowed.proofs.allowed_scenes.Statement.{statement}
 use Rattle.record_allowed.proofs.allowed_scenes.Tie as tie
 
 abbrev invariant-loop : tie.invariant-loop
-invariant-loop bytes place n pictures from₀ j₀ from j = (j ≤ n) × (from ≤ 4294967296 * j) × (allowedScenes pictures n 0
-    (drop place bytes) ≡ allowedScenes pictures (n - j) from (drop (place + 32 * j) bytes))
+invariant-loop bytes place n pictures from₀ j₀ from j = (j ≤ n) × (from ≤ 4294967296 * j) × (allowed_scenes pictures n 0
+    (drop place bytes) ≡ allowed_scenes pictures (n - j) from (drop (place + 32 * j) bytes))
 
 abbrev decreases-loop : tie.decreases-loop
 decreases-loop bytes place n pictures from₀ j₀ from j = n - j

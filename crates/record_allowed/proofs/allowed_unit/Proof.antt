@@ -1,10 +1,10 @@
 use borrow.Author.Rules.{rules}
-use Rattle.rules.specs.Reading.{allowedUnit}
+use Rattle.rules.specs.Reading.{allowed_unit}
 use Rattle.record_allowed.proofs.allowed_unit.Statement.{statement}
 use Rattle.record_allowed.proofs.allowed_unit.Tie as tie
 
 returns : tie.Need-returns
-unfolding allowedUnit
+unfolding allowed_unit
 returns c =
     let c₂ = c.before.before in
     let c₃ = c₂.before in

@@ -5,14 +5,14 @@ use lib.ListN.{drop, length-take, length-drop}
 use borrow.Author.Tests.{not-true, not-false}
 use native.Mathlib.Nat.{sub-zero}
 use Rattle.record_allowed.proofs.Rows.{units-more, units-stop, units-end}
-use Rattle.rules.specs.Reading.{allowedUnits}
+use Rattle.rules.specs.Reading.{allowed_units}
 use borrow.Author.Rules.{rules}
 use Rattle.record_allowed.proofs.allowed_units.Statement.{statement}
 use Rattle.record_allowed.proofs.allowed_units.Tie as tie
 
 abbrev invariant-loop : tie.invariant-loop
 invariant-loop bytes n known j₀ j =
-    (j ≤ n) × (allowedUnits known n (drop 64 bytes) ≡ allowedUnits known (n - j) (drop (64 + 32 * j) bytes))
+    (j ≤ n) × (allowed_units known n (drop 64 bytes) ≡ allowed_units known (n - j) (drop (64 + 32 * j) bytes))
 
 abbrev decreases-loop : tie.decreases-loop
 decreases-loop bytes n known j₀ j = n - j

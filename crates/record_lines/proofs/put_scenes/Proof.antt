@@ -4,10 +4,10 @@ use borrow.Author.Rules.{rules}
 use mathlib.Core.Path.{◌≡◌, refl}
 use Prim.Native.Nat.{ℕ, ◌-◌, ◌*◌, ◌≤◌}
 use lib.ListN.{length}
-use Rattle.record_lines.specs.Put.{Put, linesTo}
-use Rattle.rules.specs.Record.{sceneOffset}
+use Rattle.record_lines.specs.Put.{Put, lines_to}
+use Rattle.rules.specs.Record.{scene_offset}
 use Rattle.rules.specs.Reading.{scene_at}
-use Rattle.rules.specs.Sheet.{sceneLine}
+use Rattle.rules.specs.Sheet.{scene_line}
 use Rattle.record_lines.proofs.Puts.{no_lines, line-more}
 use Rattle.record_lines.proofs.put_scenes.Statement.{statement}
 use Rattle.record_lines.proofs.put_scenes.Tie as tie
@@ -15,7 +15,7 @@ use Rattle.record_lines.proofs.put_scenes.Tie as tie
 abbrev invariant-loop : tie.invariant-loop
 invariant-loop buffer₀ at bytes units scenes end₀ j₀ buffer end j =
     (j ≤ scenes) × (length buffer ≡ length buffer₀)
-    × Put at (101 * j) (linesTo j (λ (i : ℕ). sceneLine i (scene_at (bytes) i))) buffer₀ end buffer
+    × Put at (101 * j) (lines_to j (λ (i : ℕ). scene_line i (scene_at (bytes) i))) buffer₀ end buffer
 
 abbrev decreases-loop : tie.decreases-loop
 decreases-loop buffer₀ at bytes units scenes end₀ j₀ buffer end j = scenes - j
@@ -23,10 +23,10 @@ decreases-loop buffer₀ at bytes units scenes end₀ j₀ buffer end j = scenes
 loop-holds : tie.Need-loop-init invariant-loop decreases-loop
 loop-holds c =
     let c₂ = c.before.before in let a = c₂.args in
-    (omega arith, refl, no_lines (λ (i : ℕ). sceneLine i (scene_at a.bytes.now i)) a.at a.buffer.now)
+    (omega arith, refl, no_lines (λ (i : ℕ). scene_line i (scene_at a.bytes.now i)) a.at a.buffer.now)
 
 scene-row-requires : tie.Need-scene-row-requires invariant-loop decreases-loop
-unfolding sceneOffset
+unfolding scene_offset
 scene-row-requires c κs =
     let c₄ = c.before.before.before.before in
     (c₄.requires.0.0, omega arith)
@@ -41,7 +41,7 @@ loop-again c =
     let l = c₆.loop in (
       omega arith,
       omega arith,
-      line-more (λ (i : ℕ). sceneLine i (scene_at a.bytes.now i)) l.j (omega arith) l.invariant.2
+      line-more (λ (i : ℕ). scene_line i (scene_at a.bytes.now i)) l.j (omega arith) l.invariant.2
           (rw c₄.scene-row.ensures at c₂.scene-line.ensures),
     )
 

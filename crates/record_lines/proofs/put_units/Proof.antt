@@ -4,9 +4,9 @@ use borrow.Author.Rules.{rules}
 use mathlib.Core.Path.{◌≡◌, refl}
 use Prim.Native.Nat.{ℕ, ◌-◌, ◌*◌, ◌≤◌}
 use lib.ListN.{length}
-use Rattle.record_lines.specs.Put.{Put, linesTo}
-use Rattle.rules.specs.Reading.{unitPlace, unit_at}
-use Rattle.rules.specs.Sheet.{unitLine}
+use Rattle.record_lines.specs.Put.{Put, lines_to}
+use Rattle.rules.specs.Reading.{unit_place, unit_at}
+use Rattle.rules.specs.Sheet.{unit_line}
 use Rattle.record_lines.proofs.Puts.{no_lines, line-more}
 use Rattle.record_lines.proofs.put_units.Statement.{statement}
 use Rattle.record_lines.proofs.put_units.Tie as tie
@@ -14,7 +14,7 @@ use Rattle.record_lines.proofs.put_units.Tie as tie
 abbrev invariant-loop : tie.invariant-loop
 invariant-loop buffer₀ at bytes units known end₀ j₀ buffer end j =
     (j ≤ units) × (length buffer ≡ length buffer₀)
-    × Put at (101 * j) (linesTo j (λ (i : ℕ). unitLine known i (unit_at bytes i))) buffer₀ end buffer
+    × Put at (101 * j) (lines_to j (λ (i : ℕ). unit_line known i (unit_at bytes i))) buffer₀ end buffer
 
 abbrev decreases-loop : tie.decreases-loop
 decreases-loop buffer₀ at bytes units known end₀ j₀ buffer end j = units - j
@@ -25,11 +25,11 @@ loop-holds c =
     let a = c₂.args in (
       omega arith,
       refl,
-      no_lines (λ (i : ℕ). unitLine a.known i (unit_at a.bytes.now i)) a.at a.buffer.now,
+      no_lines (λ (i : ℕ). unit_line a.known i (unit_at a.bytes.now i)) a.at a.buffer.now,
     )
 
 unit-row-requires : tie.Need-unit-row-requires invariant-loop decreases-loop
-unfolding unitPlace
+unfolding unit_place
 unit-row-requires c κs = omega arith
 
 loop-again : tie.Need-loop-preserved invariant-loop decreases-loop
@@ -42,7 +42,7 @@ loop-again c =
     let l = c₆.loop in (
       omega arith,
       omega arith,
-      line-more (λ (i : ℕ). unitLine a.known i (unit_at a.bytes.now i)) l.j (omega arith) l.invariant.2
+      line-more (λ (i : ℕ). unit_line a.known i (unit_at a.bytes.now i)) l.j (omega arith) l.invariant.2
           (rw c₄.unit_row.ensures at c₂.unit-line.ensures),
     )
 

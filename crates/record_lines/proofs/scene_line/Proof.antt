@@ -1,6 +1,6 @@
 -- `scene_line` meets its contract. Assumes nothing.
 use borrow.Author.Rules.{rules}
-use Rattle.rules.specs.Sheet.{sceneFields, sceneLine}
+use Rattle.rules.specs.Sheet.{scene_fields, scene_line}
 use Rattle.rules.specs.Bytes.{empty}
 use Rattle.record_lines.proofs.Puts.{figure, line-put}
 use Rattle.record_lines.proofs.scene_line.Statement.{statement}
@@ -15,8 +15,8 @@ put-numbers-requires c κs =
     ((search rules, figure a.j (search rules) (figure a.s.first (search rules) rest)), search rules)
 
 returns : tie.Need-returns
-unfolding sceneLine sceneFields
-returns c = search (rules, line-put, sceneFields)
+unfolding scene_line scene_fields
+returns c = search (rules, line-put, scene_fields)
 
 pub scene-line-spec : {M : Type 1} → statement M
 scene-line-spec =

@@ -3,7 +3,7 @@ use native.Mathlib.Omega.{arith}
 use mathlib.Core.Path.{refl, sym}
 use mathlib.Core.Bool.{true, false}
 use mathlib.Core.List.{append-nil}
-use Rattle.rules.specs.Sheet.{unitFields, unitLine}
+use Rattle.rules.specs.Sheet.{unit_fields, unit_line}
 use Rattle.rules.specs.Bytes.{empty}
 use Rattle.record_lines.proofs.Puts.{figure, time, join, same-put, line-put}
 use borrow.Author.Rules.{rules}
@@ -85,7 +85,7 @@ end-line-requires c κs =
     )
 
 returns : tie.Need-returns
-unfolding unitLine unitFields
+unfolding unit_line unit_fields
 returns c =
     let c₄ = c.before.before.before.before in let c₈ = c₄.before.before.before.before in
     let c₁₂ = c₈.before.before.before.before in let c₁₆ = c₁₂.before.before.before.before in
@@ -96,11 +96,11 @@ returns c =
     (omega arith) in
     let counts = join times c₁₂.before.put-numbers3.ensures (omega arith) in
     let fields = join counts c₄.before.before.put-numbers4.ensures (omega arith) in
-    rw c₈.before.before.if1.true (line-put 85 (unitFields true s.args.j s.args.u) 98 refl (omega arith)
+    rw c₈.before.before.if1.true (line-put 85 (unit_fields true s.args.j s.args.u) 98 refl (omega arith)
     s.requires mark.ensures fields c.before.before.end_line.ensures)
 
 returns-2 : tie.Need-returns-2
-unfolding unitLine unitFields
+unfolding unit_line unit_fields
 returns-2 c =
     let c₄ = c.before.before.before.before in let c₈ = c₄.before.before.before.before in
     let c₁₂ = c₈.before.before.before.before in let c₁₆ = c₁₂.before.before.before.before in
@@ -108,8 +108,8 @@ returns-2 c =
     let s = c₂₄.before.before.before.before in let mark = c₂₀.before.before.put_byte in
     let times = join c₁₆.before.put-numbers.ensures c₁₂.put-numbers2.ensures (omega arith) in
     let counts = join times c₄.before.before.before.put-numbers3.ensures (omega arith) in
-    let fields = same-put 86 _ (unitFields false s.args.j s.args.u) counts refl refl (sym (append-nil _)) in
-    rw c₄.if1.false (line-put 85 (unitFields false s.args.j s.args.u) 87 refl (omega arith) s.requires
+    let fields = same-put 86 _ (unit_fields false s.args.j s.args.u) counts refl refl (sym (append-nil _)) in
+    rw c₄.if1.false (line-put 85 (unit_fields false s.args.j s.args.u) 87 refl (omega arith) s.requires
     mark.ensures fields c.before.before.end-line2.ensures)
 
 pub unit-line-spec : {M : Type 1} → statement M

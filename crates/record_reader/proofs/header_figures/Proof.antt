@@ -1,10 +1,10 @@
 use borrow.Author.Rules.{rules}
-use Rattle.rules.specs.Reading.{headerOf}
+use Rattle.rules.specs.Reading.{header_of}
 use Rattle.record_reader.proofs.header_figures.Statement.{statement}
 use Rattle.record_reader.proofs.header_figures.Tie as tie
 
 returns : tie.Need-returns
-unfolding headerOf
+unfolding header_of
 returns c =
     let c₂ = c.before.before in
     let c₃ = c₂.before in

@@ -1,12 +1,12 @@
 use borrow.Author.Rules.{rules}
 use native.Mathlib.Omega.{arith}
 use Rattle.record_reader.proofs.Answers.{accepted, refused, scene-given, scene-missing, scene-refused}
-use Rattle.rules.specs.Record.{sceneOffset}
+use Rattle.rules.specs.Record.{scene_offset}
 use Rattle.record_reader.proofs.scene.Statement.{statement}
 use Rattle.record_reader.proofs.scene.Tie as tie
 
 scene-row-requires : tie.Need-scene-row-requires
-unfolding sceneOffset
+unfolding scene_offset
 scene-row-requires c κs =
     let c₂ = c.before.before in
     let c₄ = c₂.before.before in

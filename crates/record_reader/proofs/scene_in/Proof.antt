@@ -1,10 +1,10 @@
 use borrow.Author.Rules.{rules}
-use Rattle.rules.specs.Reading.{sceneIn}
+use Rattle.rules.specs.Reading.{scene_in}
 use Rattle.record_reader.proofs.scene_in.Statement.{statement}
 use Rattle.record_reader.proofs.scene_in.Tie as tie
 
 returns : tie.Need-returns
-unfolding sceneIn
+unfolding scene_in
 returns c =
     let c₂ = c.before.before in
     let c₃ = c₂.before in

@@ -1,12 +1,12 @@
 use borrow.Author.Rules.{rules}
 use native.Mathlib.Omega.{arith}
 use Rattle.record_reader.proofs.Answers.{accepted, refused, unit-given, unit-missing, unit-refused}
-use Rattle.rules.specs.Reading.{unitPlace}
+use Rattle.rules.specs.Reading.{unit_place}
 use Rattle.record_reader.proofs.unit.Statement.{statement}
 use Rattle.record_reader.proofs.unit.Tie as tie
 
 unit-row-requires : tie.Need-unit-row-requires
-unfolding unitPlace
+unfolding unit_place
 unit-row-requires c κs =
     let c₂ = c.before.before in let c₄ = c₂.before.before in let c₆ = c₄.before.before in
     omega (arith, (accepted c₆.args.bytes.now _ c₄.«open».ensures _ _ c₂.units.given.1).size)

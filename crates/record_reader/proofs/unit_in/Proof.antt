@@ -1,10 +1,10 @@
 use borrow.Author.Rules.{rules}
-use Rattle.rules.specs.Reading.{unitIn}
+use Rattle.rules.specs.Reading.{unit_in}
 use Rattle.record_reader.proofs.unit_in.Statement.{statement}
 use Rattle.record_reader.proofs.unit_in.Tie as tie
 
 returns : tie.Need-returns
-unfolding unitIn
+unfolding unit_in
 returns c =
     let c₂ = c.before.before in
     let c₃ = c₂.before in

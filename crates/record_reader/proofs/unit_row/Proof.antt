@@ -4,36 +4,36 @@ use Prim.Native.Nat.{◌+◌, ◌*◌}
 use mathlib.Core.Path.{ap, ◌∙◌}
 use lib.ListN.{length-take, length-drop}
 use Rattle.record_allowed.proofs.Rows.{part}
-use Rattle.rules.specs.Reading.{unitIn}
-use Rattle.rules.specs.Reading.{unitPlace, unit_at}
+use Rattle.rules.specs.Reading.{unit_in}
+use Rattle.rules.specs.Reading.{unit_place, unit_at}
 use Rattle.record_reader.proofs.unit_row.Statement.{statement}
 use Rattle.record_reader.proofs.unit_row.Tie as tie
 
 mul_at : tie.Need-overflow-mul-at
-unfolding unitPlace
+unfolding unit_place
 mul_at c = omega arith
 
 add_at : tie.Need-overflow-add-at
-unfolding unitPlace
+unfolding unit_place
 add_at c = omega arith
 
 sub-unit-in : tie.Need-overflow-sub-unit-in
-unfolding unitPlace
+unfolding unit_place
 sub-unit-in c = omega arith
 
 part-unit-in-start : tie.Need-slice-bounds-unit-in-start
-unfolding unitPlace
+unfolding unit_place
 part-unit-in-start c = omega arith
 
 unit-in-requires : tie.Need-unit-in-requires
-unfolding unitPlace
+unfolding unit_place
 unit-in-requires c κs = simp (length-take, length-drop) (omega arith)
 
 returns : tie.Need-returns
-unfolding unitPlace unit_at unitIn
+unfolding unit_place unit_at unit_in
 returns c =
     let c₃ = c.before.before.before in
-    c.unit-in.ensures ∙ ap unitIn (part (64 + 32 * c₃.args.j) c₃.args.bytes.now)
+    c.unit-in.ensures ∙ ap unit_in (part (64 + 32 * c₃.args.j) c₃.args.bytes.now)
 
 pub unit-row-spec : {M : Type 1} → statement M
 unit-row-spec =

@@ -3,14 +3,14 @@ use Prim.Native.Nat.{◌-◌}
 use native.Mathlib.Omega.{arith}
 use mathlib.Core.Path.{ap, ◌∙◌}
 use borrow.Author.Rules.{rules}
-use Rattle.rules.specs.Reading.{unitPlace}
-use Rattle.record_rows.specs.Rows.{unitFigures, unitRow}
+use Rattle.rules.specs.Reading.{unit_place}
+use Rattle.record_rows.specs.Rows.{unit_figures, unit_row}
 use Rattle.record_rows.proofs.Filling.{Laid, none-laid, one_more, all_laid}
 use Rattle.record_rows.proofs.put_units.Statement.{statement}
 use Rattle.record_rows.proofs.put_units.Tie as tie
 
 abbrev invariant-loop : tie.invariant-loop
-invariant-loop bytes units rows₀ j₀ rows j = Laid (unitRow bytes) units rows₀ rows j
+invariant-loop bytes units rows₀ j₀ rows j = Laid (unit_row bytes) units rows₀ rows j
 
 abbrev decreases-loop : tie.decreases-loop
 decreases-loop bytes units rows₀ j₀ rows j = units - j
@@ -19,14 +19,14 @@ loop-holds : tie.Need-loop-init invariant-loop decreases-loop
 loop-holds c = none-laid _ _ _
 
 unit-row-requires : tie.Need-unit-row-requires invariant-loop decreases-loop
-unfolding unitPlace
+unfolding unit_place
 unit-row-requires c κs = omega arith
 
 loop-again : tie.Need-loop-preserved invariant-loop decreases-loop
 loop-again c =
     let turn = c.before.before.before in
     one_more _ _ _ _ _ _ turn.loop.invariant c.before.before.loop-test.true turn.before.before.requires.1
-    (c.unit-figures.ensures ∙ ap unitFigures c.before.unit_row.ensures)
+    (c.unit-figures.ensures ∙ ap unit_figures c.before.unit_row.ensures)
 
 returns : tie.Need-returns invariant-loop decreases-loop
 returns c = all_laid _ _ _ _ _ c.before.loop.invariant c.loop-test.false

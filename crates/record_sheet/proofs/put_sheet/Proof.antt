@@ -2,9 +2,9 @@
 use native.Mathlib.Omega.{arith}
 use mathlib.Core.Path.{ap, ◌∙◌}
 use Rattle.rules.specs.declared.Header.{Header}
-use Rattle.rules.specs.Editions.{knowsDamage}
-use Rattle.rules.specs.Reading.{headerOf}
-use Rattle.rules.specs.Sheet.{pagesFor, blanksFor}
+use Rattle.rules.specs.Editions.{knows_damage}
+use Rattle.rules.specs.Reading.{header_of}
+use Rattle.rules.specs.Sheet.{pages_for, blanks_for}
 use Rattle.record_sheet.proofs.Answers.{sheet-size, sheet-put}
 use borrow.Author.Rules.{rules}
 use Rattle.record_sheet.proofs.put_sheet.Statement.{statement}
@@ -31,7 +31,7 @@ put-scenes-requires c κs =
     ((s.requires.0.0, s.requires.1.0.1), (s.requires.1.0.2, omega arith))
 
 put-blanks-requires : tie.Need-put-blanks-requires
-unfolding blanksFor pagesFor
+unfolding blanks_for pages_for
 put-blanks-requires c κs =
     let c₄ = c.before.before.before.before in let c₈ = c₄.before.before.before.before in
     let c₁₂ = c₈.before.before.before.before in let c₁₆ = c₁₂.before.before.before.before in
@@ -40,13 +40,13 @@ put-blanks-requires c κs =
     omega arith
 
 returns : tie.Need-returns
-unfolding blanksFor pagesFor headerOf
+unfolding blanks_for pages_for header_of
 returns c =
     let c₄ = c.before.before.before.before in let c₈ = c₄.before.before.before.before in
     let c₁₂ = c₈.before.before.before.before in let c₁₆ = c₁₂.before.before.before.before in
     let c₂₀ = c₁₆.before.before.before.before in let s = c₂₀.before in
     let figures = c₁₆.before.before.header-figures.ensures in
-    let known = c₁₆.knows-damage.ensures ∙ ap (λ (h : Header). knowsDamage h.edition) figures in
+    let known = c₁₆.knows-damage.ensures ∙ ap (λ (h : Header). knows_damage h.edition) figures in
     let first = rw figures at c₁₂.before.before.header-line.ensures in
     sheet-put s.args.bytes.now s.args.units s.args.scenes s.requires.0.0 s.requires.0.1 _ known
     s.requires.1.1 first c₈.before.before.put-units.ensures c₄.before.before.put-scenes.ensures

@@ -48,7 +48,7 @@ put-sheet-requires c κs =
     let a = accepted r _ c₅.«open».ensures _ _ c₃.units.given.1 in
     let b = c₈.args.buffer.now in
     let n = needed r (length b) _ _ a in
-    ((a.units, a.scenes), ((a.unitsLess, a.scenesLess, omega arith), omega arith))
+    ((a.units, a.scenes), ((a.units_less, a.scenes_less, omega arith), omega arith))
 
 returns-2 : tie.Need-returns-2
 returns-2 c =

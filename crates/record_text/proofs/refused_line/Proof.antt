@@ -2,12 +2,12 @@ use borrow.Author.Rules.{rules}
 use native.Mathlib.Omega.{arith}
 use mathlib.Core.List.{[], ◌∷◌}
 use Rattle.record_text.proofs.Texts.{line-of-three}
-use Rattle.record_text.specs.Lines.{field, refusedLine}
+use Rattle.record_text.specs.Lines.{field, refused_line}
 use Rattle.record_text.proofs.refused_line.Statement.{statement}
 use Rattle.record_text.proofs.refused_line.Tie as tie
 
 returns : tie.Need-returns
-unfolding refusedLine
+unfolding refused_line
 returns c =
     let c₂ = c.before.before in let c₂₄ = c₂.before.before.before.before in let c₇ = c₂₄.before in
     let c₁₁ = c₇.before.before.before.before in let c₁₅ = c₁₁.before.before.before.before in

@@ -2,8 +2,8 @@ use borrow.Author.Rules.{rules}
 use native.Mathlib.Omega.{arith}
 use mathlib.Core.List.{[], ◌∷◌}
 use Rattle.record_text.proofs.Texts.{line-of-four, length-hex}
-use Rattle.rules.specs.Digits.{hexIn}
-use Rattle.record_text.specs.Lines.{fields, sampleLine}
+use Rattle.rules.specs.Digits.{hex_in}
+use Rattle.record_text.specs.Lines.{fields, sample_line}
 use Rattle.record_text.proofs.sample_line.Statement.{statement}
 use Rattle.record_text.proofs.sample_line.Tie as tie
 
@@ -28,7 +28,7 @@ put-text-requires-2 c κs =
     )
 
 returns : tie.Need-returns
-unfolding sampleLine
+unfolding sample_line
 returns c =
     let c₂ = c.before.before in let c₂₄ = c₂.before.before.before.before in let c₇ = c₂₄.before in
     let c₁₁ = c₇.before.before.before.before in let c₁₁₄ = c₁₁.before.before.before.before in
@@ -36,7 +36,7 @@ returns c =
     let c₁₆₈ = c₁₆₄.before.before.before.before in let c₂₈ = c₁₆₈.before.before.before.before in
     line-of-four (115 ∷ 97 ∷ 109 ∷ 112 ∷ 108 ∷ 101 ∷ []) (fields (c₂₈.args.h.width ∷ c₂₈.args.h.height ∷
     c₂₈.args.h.time ∷ c₂₈.args.h.pid ∷ c₂₈.args.h.pictures ∷ c₂₈.args.h.frames ∷ c₂₈.args.h.skipped ∷
-    c₂₈.args.h.bad ∷ [])) (32 ∷ hexIn 16 c₂₈.args.h.index) (10 ∷ []) c₂₈.args.buffer.now
+    c₂₈.args.h.bad ∷ [])) (32 ∷ hex_in 16 c₂₈.args.h.index) (10 ∷ []) c₂₈.args.buffer.now
     c₁₆.put-text.new.0 c₁₁.put-fields.new.0 c₇.put-hex.new.0 c₂.put-text2.new.0
     c₁₆.put-text.result c₁₁.put-fields.result c₇.put-hex.result c₂.put-text2.result (omega arith)
     (omega arith) (omega arith) c₁₆.put-text.ensures c₁₁.put-fields.ensures.0 c₁₁.put-fields.ensures.2

@@ -2,12 +2,12 @@ use borrow.Author.Rules.{rules}
 use native.Mathlib.Omega.{arith}
 use mathlib.Core.List.{[], ◌∷◌}
 use Rattle.record_text.proofs.Texts.{line-of-three}
-use Rattle.record_text.specs.Lines.{fields, sceneLine}
+use Rattle.record_text.specs.Lines.{fields, scene_line}
 use Rattle.record_text.proofs.scene_line.Statement.{statement}
 use Rattle.record_text.proofs.scene_line.Tie as tie
 
 returns : tie.Need-returns
-unfolding sceneLine
+unfolding scene_line
 returns c =
     let c₂ = c.before.before in let c₂₄ = c₂.before.before.before.before in let c₇ = c₂₄.before in
     let c₇₄ = c₇.before.before.before.before in let c₁₂ = c₇₄.before in

@@ -2,19 +2,19 @@
 use Prim.Native.Nat.{◌+◌}
 use borrow.Author.Rules.{rules}
 use borrow.Author.Tests.{lt-ltb, le-ltb}
-use Rattle.record_verify.specs.Marks.{lengthChecks}
+use Rattle.record_verify.specs.Marks.{length_checks}
 use Rattle.record_verify.proofs.Answers.{of_none}
 use Rattle.record_verify.proofs.length_marks.Statement.{statement}
 use Rattle.record_verify.proofs.length_marks.Tie as tie
 
 returns : tie.Need-returns
-unfolding lengthChecks
+unfolding length_checks
 returns c =
     let a = c.before.before.args in
     rw (le-ltb (a.row + 1) a.h.scenes c.if1.true, of_none)
 
 returns-2 : tie.Need-returns-2
-unfolding lengthChecks
+unfolding length_checks
 returns-2 c =
     let test = c.before.before.before.before in
     let a = test.before.before.args in

@@ -5,9 +5,9 @@ use native.Mathlib.Omega.{arith}
 use mathlib.Core.Path.{◌≡◌, ap}
 use borrow.Author.Rules.{rules}
 use Rattle.rules.specs.declared.SceneRow.{SceneRow}
-use Rattle.rules.specs.Record.{sceneOffset}
+use Rattle.rules.specs.Record.{scene_offset}
 use Rattle.rules.specs.Reading.{scene_at}
-use Rattle.record_verify.specs.Totals.{repeatedTotal}
+use Rattle.record_verify.specs.Totals.{repeated_total}
 use Rattle.record_verify.proofs.Sums.{Left, none_yet, one_more, all_done}
 use Rattle.record_verify.proofs.repeated_total.Statement.{statement}
 use Rattle.record_verify.proofs.repeated_total.Tie as tie
@@ -15,20 +15,20 @@ use Rattle.record_verify.proofs.repeated_total.Tie as tie
 abbrev invariant-loop : tie.invariant-loop
 invariant-loop bytes units scenes sum₀ j₀ sum j =
     (j ≤ scenes) × (sum ≤ 4294967295 * j)
-    × (sum + Left (λ (k : ℕ). (scene_at bytes k).repeated) scenes j ≡ repeatedTotal bytes)
+    × (sum + Left (λ (k : ℕ). (scene_at bytes k).repeated) scenes j ≡ repeated_total bytes)
 
 abbrev decreases-loop : tie.decreases-loop
 decreases-loop bytes units scenes sum₀ j₀ sum j = scenes - j
 
 loop-holds : tie.Need-loop-init invariant-loop decreases-loop
-unfolding repeatedTotal
+unfolding repeated_total
 loop-holds c =
     let st = c.before in
     let r = st.args.bytes.now in
     (omega arith, omega arith, rw st.requires.0.1 (none_yet (λ (k : ℕ). (scene_at r k).repeated) _))
 
 scene-row-requires : tie.Need-scene-row-requires invariant-loop decreases-loop
-unfolding sceneOffset
+unfolding scene_offset
 scene-row-requires c κs = (c.before.before.before.requires.0.0, omega arith)
 
 cast-sum : tie.Need-overflow-cast-sum invariant-loop decreases-loop

@@ -1,12 +1,12 @@
 -- `scene_marks` meets its contract: each mark is asked, and the first that fails is answered. Assumes nothing.
 use borrow.Author.Rules.{rules}
-use Rattle.record_verify.specs.Marks.{sceneChecks}
+use Rattle.record_verify.specs.Marks.{scene_checks}
 use Rattle.record_verify.proofs.Answers.{of-append}
 use Rattle.record_verify.proofs.scene_marks.Statement.{statement}
 use Rattle.record_verify.proofs.scene_marks.Tie as tie
 
 returns : tie.Need-returns
-unfolding sceneChecks
+unfolding scene_checks
 returns c =
     let f₂ = c.before in
     let f₁ = f₂.before in

@@ -5,40 +5,40 @@ use native.Mathlib.Omega.{arith}
 use mathlib.Core.Path.{◌≡◌, ap, ◌∙◌}
 use borrow.Author.Rules.{rules}
 use Rattle.rules.specs.declared.SceneRow.{SceneRow}
-use Rattle.rules.specs.Record.{sceneOffset}
-use Rattle.rules.specs.Reading.{headerOf, scene_at}
-use Rattle.record_verify.specs.Marks.{sceneChecks, scenesChecks, firstFailing}
+use Rattle.rules.specs.Record.{scene_offset}
+use Rattle.rules.specs.Reading.{header_of, scene_at}
+use Rattle.record_verify.specs.Marks.{scene_checks, scenes_checks, first_failing}
 use Rattle.record_verify.proofs.Rows.{Left, none_yet, one_more, one-fails, all_done}
 use Rattle.record_verify.proofs.scenes_marks.Statement.{statement}
 use Rattle.record_verify.proofs.scenes_marks.Tie as tie
 
 abbrev invariant-loop : tie.invariant-loop
 invariant-loop bytes units scenes h j₀ j =
-    (j ≤ scenes) × (Left (λ (k : ℕ). sceneChecks h k (scene_at bytes k)) scenes j ≡ firstFailing (scenesChecks bytes))
+    (j ≤ scenes) × (Left (λ (k : ℕ). scene_checks h k (scene_at bytes k)) scenes j ≡ first_failing (scenes_checks bytes))
 
 abbrev decreases-loop : tie.decreases-loop
 decreases-loop bytes units scenes h j₀ j = scenes - j
 
 loop-holds : tie.Need-loop-init invariant-loop decreases-loop
-unfolding scenesChecks
+unfolding scenes_checks
 loop-holds c =
     let st = c.before in
     let r = st.args.bytes.now in
-    (omega arith, rw (st.requires.0.1, st.requires.0.2) (none_yet (λ (k : ℕ). sceneChecks (headerOf r) k (scene_at r k)) _))
+    (omega arith, rw (st.requires.0.1, st.requires.0.2) (none_yet (λ (k : ℕ). scene_checks (header_of r) k (scene_at r k)) _))
 
 scene-row-requires : tie.Need-scene-row-requires invariant-loop decreases-loop
-unfolding sceneOffset
+unfolding scene_offset
 scene-row-requires c κs = (c.before.before.before.requires.0.0, omega arith)
 
 -- what was asked of row j
 asked : (m : tie.After-scene-marks invariant-loop decreases-loop) →
     let l = m.before.before.before in
     let a = l.before.before.args in
-    m.scene-marks.result ≡ firstFailing (sceneChecks a.h l.loop.j (scene_at a.bytes.now l.loop.j))
+    m.scene-marks.result ≡ first_failing (scene_checks a.h l.loop.j (scene_at a.bytes.now l.loop.j))
 asked m =
     let l = m.before.before.before in
     m.scene-marks.ensures
-    ∙ ap (λ (s : SceneRow). firstFailing (sceneChecks l.before.before.args.h l.loop.j s))
+    ∙ ap (λ (s : SceneRow). first_failing (scene_checks l.before.before.args.h l.loop.j s))
     m.before.scene-row.ensures
 
 returns : tie.Need-returns invariant-loop decreases-loop
@@ -46,7 +46,7 @@ returns c =
     let m = c.before.before in
     let l = m.before.before.before in
     let a = l.before.before.args in
-    one-fails (λ (k : ℕ). sceneChecks a.h k (scene_at a.bytes.now k)) _ l.loop.j _ _ l.loop.invariant.1
+    one-fails (λ (k : ℕ). scene_checks a.h k (scene_at a.bytes.now k)) _ l.loop.j _ _ l.loop.invariant.1
     m.before.before.loop-test.true (asked m) c.enum-told2.given.1
 
 loop-again : tie.Need-loop-preserved invariant-loop decreases-loop
@@ -55,14 +55,14 @@ loop-again c =
     let l = m.before.before.before in
     let a = l.before.before.args in (
       omega arith,
-      one_more (λ (k : ℕ). sceneChecks a.h k (scene_at a.bytes.now k)) _ l.loop.j _ _ l.loop.invariant.1
+      one_more (λ (k : ℕ). scene_checks a.h k (scene_at a.bytes.now k)) _ l.loop.j _ _ l.loop.invariant.1
           m.before.before.loop-test.true (asked m) c.enum_told.given.1,
     )
 
 returns-2 : tie.Need-returns-2 invariant-loop decreases-loop
 returns-2 c =
     let a = c.before.before.before.args in
-    all_done (λ (k : ℕ). sceneChecks a.h k (scene_at a.bytes.now k)) _ _ _ c.before.loop.invariant.1
+    all_done (λ (k : ℕ). scene_checks a.h k (scene_at a.bytes.now k)) _ _ _ c.before.loop.invariant.1
     c.loop-test.false
 
 pub scenes-marks-spec : {M : Type 1} → statement M

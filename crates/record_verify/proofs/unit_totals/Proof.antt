@@ -5,8 +5,8 @@ use native.Mathlib.Omega.{arith}
 use mathlib.Core.Path.{◌≡◌, ap}
 use borrow.Author.Rules.{rules}
 use Rattle.rules.specs.declared.UnitRow.{UnitRow}
-use Rattle.rules.specs.Reading.{unitPlace, unit_at}
-use Rattle.record_verify.specs.Totals.{packetsTotal, lostTotal, damagedTotal}
+use Rattle.rules.specs.Reading.{unit_place, unit_at}
+use Rattle.record_verify.specs.Totals.{packets_total, lost_total, damaged_total}
 use Rattle.record_verify.proofs.Sums.{Left, none_yet, one_more, all_done}
 use Rattle.record_verify.proofs.unit_totals.Statement.{statement}
 use Rattle.record_verify.proofs.unit_totals.Tie as tie
@@ -14,15 +14,15 @@ use Rattle.record_verify.proofs.unit_totals.Tie as tie
 abbrev invariant-loop : tie.invariant-loop
 invariant-loop bytes units packets₀ lost₀ damaged₀ j₀ packets lost damaged j =
     (j ≤ units) × (packets ≤ 4294967295 * j) × (lost ≤ 4294967295 * j) × (damaged ≤ 4294967295 * j)
-    × (packets + Left (λ (k : ℕ). (unit_at bytes k).packets) units j ≡ packetsTotal bytes)
-    × (lost + Left (λ (k : ℕ). (unit_at bytes k).lost) units j ≡ lostTotal bytes)
-    × (damaged + Left (λ (k : ℕ). (unit_at bytes k).damaged) units j ≡ damagedTotal bytes)
+    × (packets + Left (λ (k : ℕ). (unit_at bytes k).packets) units j ≡ packets_total bytes)
+    × (lost + Left (λ (k : ℕ). (unit_at bytes k).lost) units j ≡ lost_total bytes)
+    × (damaged + Left (λ (k : ℕ). (unit_at bytes k).damaged) units j ≡ damaged_total bytes)
 
 abbrev decreases-loop : tie.decreases-loop
 decreases-loop bytes units packets₀ lost₀ damaged₀ j₀ packets lost damaged j = units - j
 
 loop-holds : tie.Need-loop-init invariant-loop decreases-loop
-unfolding packetsTotal lostTotal damagedTotal
+unfolding packets_total lost_total damaged_total
 loop-holds c =
     let st = c.before in
     let r = st.args.bytes.now in (
@@ -36,7 +36,7 @@ loop-holds c =
     )
 
 unit-row-requires : tie.Need-unit-row-requires invariant-loop decreases-loop
-unfolding unitPlace
+unfolding unit_place
 unit-row-requires c κs = omega arith
 
 loop-again : tie.Need-loop-preserved invariant-loop decreases-loop
@@ -66,9 +66,9 @@ returns c =
       packets = all_done (λ (k : ℕ). (unit_at r k).packets) _ _ _ _ l.loop.invariant.4 c.loop-test.false;
       lost = all_done (λ (k : ℕ). (unit_at r k).lost) _ _ _ _ l.loop.invariant.5 c.loop-test.false;
       damaged = all_done (λ (k : ℕ). (unit_at r k).damaged) _ _ _ _ l.loop.invariant.6 c.loop-test.false;
-      few-packets = omega arith;
-      few-lost = omega arith;
-      few-damaged = omega arith;
+      few_packets = omega arith;
+      few_lost = omega arith;
+      few_damaged = omega arith;
     }
 
 pub unit-totals-spec : {M : Type 1} → statement M

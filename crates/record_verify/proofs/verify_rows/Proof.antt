@@ -36,13 +36,13 @@ add-header-marks : tie.Need-overflow-add-header-marks
 add-header-marks c =
     let k = c.before in
     let t = k.before.before.before.before.before in
-    omega (arith, k.struct-known2, t.unit-totals.ensures.few-packets)
+    omega (arith, k.struct-known2, t.unit-totals.ensures.few_packets)
 
 add-header-marks-2 : tie.Need-overflow-add-header-marks-2
 add-header-marks-2 c =
     let k = c.before.before in
     let t = k.before.before.before.before.before in
-    omega (arith, k.struct-known2, t.unit-totals.ensures.few-packets, t.unit-totals.ensures.few-damaged)
+    omega (arith, k.struct-known2, t.unit-totals.ensures.few_packets, t.unit-totals.ensures.few_damaged)
 
 header-marks-requires : tie.Need-header-marks-requires
 header-marks-requires c κs =
@@ -51,7 +51,7 @@ header-marks-requires c κs =
     let st = t.before.before.before in
     header-asked st.args.bytes.now _ _ st.requires.0 st.requires.1 _ t.before.header-figures.ensures _
     t.unit-totals.ensures _
-    (omega (arith, k.struct-known2, t.unit-totals.ensures.few-packets, t.unit-totals.ensures.few-damaged))
+    (omega (arith, k.struct-known2, t.unit-totals.ensures.few_packets, t.unit-totals.ensures.few_damaged))
 
 units-marks-requires : tie.Need-units-marks-requires
 units-marks-requires c κs =

@@ -43,7 +43,7 @@ use denote.Triple.Table.{entered, cited}
 use denote.Triple.Walked.{says, Stays, stay_none_slice, walk_of, Goes-none_slice, Walks, ends_at, walked, walk_Meets}
 use denote.Exit.{yes}
 use denote.Triple.Clauses.{ensured, lasts}
-use Rattle.record_view.specs.Seen.{unitsOf, scenesOf}
+use Rattle.record_view.specs.Seen.{units_of, scenes_of}
 use Rattle.record_view.specs.declared.Counts.{Counts}
 use Rattle.record_view.specs.declared.View.{View}
 use Rattle.record_view.specs.contracts.Counts as N
@@ -89,7 +89,7 @@ module _ {M : Type 1} {𝓤 : Ura M} (𝓛 : Logic 𝓤) (mem : Memory → SProp
 
   -- what is known of the counts
   abbrev Known : Counts → Type 0
-  Known n = (n.units ≡ unitsOf s.now) × (n.scenes ≡ scenesOf s.now)
+  Known n = (n.units ≡ units_of s.now) × (n.scenes ≡ scenes_of s.now)
 
   abbrev Post : Val → SProp 𝓤
   Post = (walk_of 𝓛 opening.ended stayed (opening.clauses 𝓛 mem run)).post

@@ -3,7 +3,7 @@ use borrow.Author.Rules.{rules}
 use borrow.Author.Tests.{not-true, not-false}
 use mathlib.Core.Path.{sym, ◌∙◌}
 use native.Mathlib.Omega.{arith}
-use Rattle.rules.specs.Record.{sceneOffset}
+use Rattle.rules.specs.Record.{scene_offset}
 use Rattle.record_view.proofs.Counted.{fit-shows, scene-read, scene-missing, scene-there}
 use Rattle.record_view.proofs.scene_at.Statement.{statement}
 use Rattle.record_view.proofs.scene_at.Tie as tie
@@ -18,7 +18,7 @@ returns-2 c =
     scene-missing _ _ _ _ (sym c.before.before.fit.ensures ∙ not-false _ c.before.if1.false) c.if2.true
 
 scene-row-requires : tie.Need-scene-row-requires
-unfolding sceneOffset
+unfolding scene_offset
 scene-row-requires c κs =
     let f = fit-shows _ _ _ (sym c.before.before.fit.ensures ∙ not-false _ c.before.if1.false) in
     (f.said, omega (arith, f.long))

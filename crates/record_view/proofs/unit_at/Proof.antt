@@ -3,7 +3,7 @@ use borrow.Author.Rules.{rules}
 use borrow.Author.Tests.{not-true, not-false}
 use mathlib.Core.Path.{sym, ◌∙◌}
 use native.Mathlib.Omega.{arith}
-use Rattle.rules.specs.Reading.{unitPlace}
+use Rattle.rules.specs.Reading.{unit_place}
 use Rattle.record_view.proofs.Counted.{fit-shows, unit-read, unit-missing, unit-there}
 use Rattle.record_view.proofs.unit_at.Statement.{statement}
 use Rattle.record_view.proofs.unit_at.Tie as tie
@@ -17,7 +17,7 @@ returns-2 c =
     unit-missing _ _ _ _ (sym c.before.before.fit.ensures ∙ not-false _ c.before.if1.false) c.if2.true
 
 unit-row-requires : tie.Need-unit-row-requires
-unfolding unitPlace
+unfolding unit_place
 unit-row-requires c κs =
     omega (arith, (fit-shows _ _ _ (sym c.before.before.fit.ensures ∙ not-false _ c.before.if1.false)).long)
 

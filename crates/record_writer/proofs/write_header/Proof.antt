@@ -1,32 +1,32 @@
 use borrow.Author.Rules.{rules}
 use native.Mathlib.Omega.{arith}
 use Rattle.record_writer.proofs.Buffers.{header-written}
-use Rattle.rules.specs.Record.{recordLength, sceneOffset}
+use Rattle.rules.specs.Record.{record_length, scene_offset}
 use Rattle.record_writer.proofs.write_header.Statement.{statement}
 use Rattle.record_writer.proofs.write_header.Tie as tie
 
 mul-scenes : tie.Need-overflow-mul-scenes
-unfolding recordLength
+unfolding record_length
 mul-scenes c = omega arith
 
 add-scenes : tie.Need-overflow-add-scenes
-unfolding recordLength
+unfolding record_length
 add-scenes c = omega arith
 
 add-size : tie.Need-overflow-add-size
-unfolding recordLength
+unfolding record_length
 add-size c = omega arith
 
 mul-size : tie.Need-overflow-mul-size
-unfolding recordLength
+unfolding record_length
 mul-size c = omega arith
 
 add-size-2 : tie.Need-overflow-add-size-2
-unfolding recordLength
+unfolding record_length
 add-size-2 c = omega arith
 
 returns : tie.Need-returns
-unfolding recordLength sceneOffset
+unfolding record_length scene_offset
 returns c =
     let c₂ = c.before.before in let c₆ = c₂.before.before.before.before in
     let c₁₀ = c₆.before.before.before.before in let c₁₄ = c₁₀.before.before.before.before in

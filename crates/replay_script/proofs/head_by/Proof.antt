@@ -3,7 +3,7 @@ use Prim.Native.Nat.{◌-◌, ◌≤◌, ◌<◌}
 use native.Mathlib.Omega.{arith}
 use borrow.Author.Rules.{rules}
 use borrow.Author.Tests.{lt-ltb, le-ltb, eq-eqb, ne_eqb}
-use Rattle.replay_script.specs.Script.{headBy}
+use Rattle.replay_script.specs.Script.{head_by}
 use Rattle.replay_script.proofs.Laws.{short}
 use Rattle.replay_script.proofs.head_by.Statement.{statement}
 use Rattle.replay_script.proofs.head_by.Tie as tie
@@ -12,18 +12,18 @@ returns : tie.Need-returns
 returns c = short _ _ _ c.if1.true
 
 returns-2 : tie.Need-returns-2
-unfolding headBy
+unfolding head_by
 returns-2 c = rw (le-ltb _ _ c.before.if1.false, eq-eqb _ _ c.if2.true)
 
 returns-3 : tie.Need-returns-3
-unfolding headBy
+unfolding head_by
 returns-3 c =
     let t : c.before.before.before.before.args.left - 5 < c.before.before.before.before.args.n =
     omega arith in
     rw (le-ltb _ _ c.before.before.before.if1.false, ne_eqb _ _ c.before.before.if2.false, lt-ltb _ _ t)
 
 returns-4 : tie.Need-returns-4
-unfolding headBy
+unfolding head_by
 returns-4 c =
     let at-start : tie.Start = search in
     let t : at-start.args.n ≤ at-start.args.left - 5 = omega arith in
@@ -35,7 +35,7 @@ returns-4 c =
     )
 
 returns-5 : tie.Need-returns-5
-unfolding headBy
+unfolding head_by
 returns-5 c =
     let at-start : tie.Start = search in
     let at-if1 : tie.Else1 = search in
@@ -49,7 +49,7 @@ returns-5 c =
     )
 
 returns-6 : tie.Need-returns-6
-unfolding headBy
+unfolding head_by
 returns-6 c =
     let at-start : tie.Start = search in
     let at-if1 : tie.Else1 = search in

@@ -2,7 +2,7 @@ use native.Mathlib.Omega.{arith}
 use mathlib.Core.Path.{sym, ◌∙◌}
 use borrow.Author.Tests.{not-true, not-false}
 use borrow.Author.Rules.{rules}
-use Rattle.rules.specs.Rtp.{rtpLists}
+use Rattle.rules.specs.Rtp.{rtp_lists}
 use Rattle.rtp.proofs.Answers.{bad-lists}
 use Rattle.rtp.proofs.read.Statement.{statement}
 use Rattle.rtp.proofs.read.Tie as tie
@@ -15,5 +15,5 @@ read-good-requires c κs = (
 
 pub read_spec : {M : Type 1} → statement M
 read_spec =
-    tie.close (tie.spec (λ c κs. search rules) (λ c. search (rules, bad-lists, rtpLists, not-true)) (λ c. search rules)
+    tie.close (tie.spec (λ c κs. search rules) (λ c. search (rules, bad-lists, rtp_lists, not-true)) (λ c. search rules)
     (λ c. search rules) read-good-requires (λ c. search rules) (λ c. search rules))

@@ -5,16 +5,16 @@ use mathlib.Core.Path.{◌≡◌, sym, ◌∙◌}
 use lib.Seq.{take-append-le, length-take-le}
 use lib.ListN.{length, take, drop, length-take, length-append}
 use borrow.Author.Rules.{rules}
-use Rattle.rules.specs.Rtp.{rtpLists, ordered}
+use Rattle.rules.specs.Rtp.{rtp_lists, ordered}
 use Rattle.rtp.proofs.Answers.{Good, good-lists, as-told}
 use Rattle.rtp_order.proofs.Stayed.{stayed}
 use Rattle.rtp.proofs.read_good.Statement.{statement}
 use Rattle.rtp.proofs.read_good.Tie as tie
 
 good : (c : tie.Start) →
-    Good c.args.sequence.now (rtpLists c.args.marker.now c.args.time.now c.args.size.now)
+    Good c.args.sequence.now (rtp_lists c.args.marker.now c.args.time.now c.args.size.now)
 good c =
-    good-lists c.args.sequence.now (rtpLists c.args.marker.now c.args.time.now c.args.size.now)
+    good-lists c.args.sequence.now (rtp_lists c.args.marker.now c.args.time.now c.args.size.now)
     c.requires.0
 
 slice-relend-prefix-put-in-order : tie.Need-slice-relend-prefix-put-in-order
@@ -106,4 +106,4 @@ read-good-spec =
     tie.close (tie.spec slice-relend-prefix-put-in-order slice-aggregate-put-in-order
     slice-relend-prefix-put-in-order-2 slice-aggregate-put-in-order-2 put-in-order-requires
     (λ c. simp length-append (omega arith)) slice-aggregate-put-units put-units-requires (λ c. search rules)
-    (λ c. search rules) (λ c. search rules) (λ c. search (rules, as-told, rtpLists, in_order)))
+    (λ c. search rules) (λ c. search rules) (λ c. search (rules, as-told, rtp_lists, in_order)))

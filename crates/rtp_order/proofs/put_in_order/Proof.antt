@@ -1,5 +1,5 @@
 use Rattle.std.proofs.Common.{ap, ◌∙◌, rules}
-use Rattle.rtp_order.specs.Order.{newPlaces}
+use Rattle.rtp_order.specs.Order.{new_places}
 use Rattle.rules.specs.Cuts.{sorted}
 use Rattle.rtp_order.proofs.Firsts.{new-ordered}
 use Rattle.rtp_order.proofs.put_in_order.Statement.{statement}
@@ -18,7 +18,7 @@ returns c =
     let st = c₂₈.before in
     record {
       few = k.few;
-      front = k.front ∙ (ap (newPlaces 0) (s ∙ ap sorted r) ∙ new-ordered st.args.sequence.now st.requires.0.1);
+      front = k.front ∙ (ap (new_places 0) (s ∙ ap sorted r) ∙ new-ordered st.args.sequence.now st.requires.0.1);
     }
 
 pub put-in-order-spec : {M : Type 1} → statement M

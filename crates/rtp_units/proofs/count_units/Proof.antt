@@ -2,9 +2,9 @@ use Prim.Native.Nat.{◌+◌, ◌-◌, ◌≤◌}
 use native.Mathlib.Omega.{arith}
 use mathlib.Core.Path.{◌≡◌, sym, ap, ◌∙◌}
 use lib.ListN.{length}
-use Rattle.rtp_units.specs.Units.{noUnit}
-use Rattle.rules.specs.Rtp.{RtpLists, rtpUnitsIn}
-use Rattle.rtp_units.proofs.Units.{unitsOnto, from, onto-units, counted, not-counted, all-counted}
+use Rattle.rtp_units.specs.Units.{no_unit}
+use Rattle.rules.specs.Rtp.{RtpLists, rtp_units_in}
+use Rattle.rtp_units.proofs.Units.{units_onto, from, onto-units, counted, not-counted, all-counted}
 use Rattle.rtp_units.proofs.count_units.Statement.{statement}
 use Rattle.rtp_units.proofs.count_units.Tie as tie
 
@@ -12,7 +12,7 @@ abbrev invariant-loop : tie.invariant-loop
 invariant-loop marker rows units₀ i₀ units i =
     (i ≤ length rows) × (units ≤ i)
     × ((l : RtpLists) → l.marker ≡ marker →
-    units + length (unitsOnto noUnit (from l rows i)) ≡ length (rtpUnitsIn l rows))
+    units + length (units_onto no_unit (from l rows i)) ≡ length (rtp_units_in l rows))
 
 abbrev decreases-loop : tie.decreases-loop
 decreases-loop marker rows units₀ i₀ units i = length rows - i

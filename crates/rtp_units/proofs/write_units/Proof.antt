@@ -5,16 +5,16 @@ use mathlib.Core.Path.{◌≡◌, refl, sym, ap, ◌∙◌}
 use lib.ListN.{get_or}
 use lib.ListN.{length}
 use borrow.Author.Rules.{rules}
-use Rattle.rules.specs.Record.{unitBytes}
-use Rattle.rules.specs.Rtp.{arrivalOf}
-use Rattle.rtp_units.specs.Units.{rowsBytes}
-use Rattle.rules.specs.Rtp.{rtpLists, missingAt, rtpRowAt, rtpUnitsIn}
+use Rattle.rules.specs.Record.{unit_bytes}
+use Rattle.rules.specs.Rtp.{arrival_of}
+use Rattle.rtp_units.specs.Units.{rows_bytes}
+use Rattle.rules.specs.Rtp.{rtp_lists, missing_at, rtp_row_at, rtp_units_in}
 use Rattle.words.proofs.Behind.{over-written}
 use Rattle.words.specs.Written.{written}
 use Rattle.rules.specs.Seal.{over}
 use Rattle.rules.specs.Bytes.{total, table}
 use Rattle.rules.specs.declared.UnitRow.{UnitRow}
-use Rattle.rtp_units.proofs.Units.{unitsOnto, from, with, onto-units, all-at, missing-step, missing-most}
+use Rattle.rtp_units.proofs.Units.{units_onto, from, with, onto-units, all-at, missing-step, missing-most}
 use Rattle.rtp_units.proofs.Units.{room-put, rows-put, room-more, rows_more, rows_written}
 use Rattle.rtp_units.proofs.write_units.Statement.{statement}
 use Rattle.rtp_units.proofs.write_units.Tie as tie
@@ -22,11 +22,11 @@ use Rattle.rtp_units.proofs.write_units.Tie as tie
 abbrev invariant-loop : tie.invariant-loop
 invariant-loop marker time size rows buffer₀ unit₀ j₀ i₀ buffer unit j i =
     (i ≤ length rows) × (unit.packets ≤ i) × (unit.size ≤ 65535 * i)
-    × (unit.lost + total (table (length rows - i) i (missingAt rows)) < 536870912)
+    × (unit.lost + total (table (length rows - i) i (missing_at rows)) < 536870912)
     × (length buffer ≡ length buffer₀)
-    × (32 * j + 32 * length (unitsOnto unit (from (rtpLists marker time size) rows i)) ≤ length buffer₀)
-    × (written (32 * j) (rowsBytes (unitsOnto unit (from (rtpLists marker time size) rows i))) buffer
-    ≡ over (rowsBytes (rtpUnitsIn (rtpLists marker time size) rows)) buffer₀)
+    × (32 * j + 32 * length (units_onto unit (from (rtp_lists marker time size) rows i)) ≤ length buffer₀)
+    × (written (32 * j) (rows_bytes (units_onto unit (from (rtp_lists marker time size) rows i))) buffer
+    ≡ over (rows_bytes (rtp_units_in (rtp_lists marker time size) rows)) buffer₀)
 
 abbrev decreases-loop : tie.decreases-loop
 decreases-loop marker time size rows buffer₀ unit₀ j₀ i₀ buffer unit j i = length rows - i
@@ -36,7 +36,7 @@ loop-holds c =
     let c₄ = c.before.before.before.before in
     let st = c₄.before.before in
     let rows = st.args.rows.now in
-    let k = rtpLists st.args.marker.now st.args.time.now st.args.size.now in
+    let k = rtp_lists st.args.marker.now st.args.time.now st.args.size.now in
     rw c.no-unit.ensures (
       omega arith,
       omega arith,
@@ -44,15 +44,15 @@ loop-holds c =
       omega (arith, missing-most (length st.args.marker.now) rows st.requires.1.0.1),
       refl,
       omega (arith, ap (λ (us : List UnitRow). length us) (onto-units k rows)),
-      ap (λ (us : List UnitRow). written 0 (rowsBytes us) st.args.buffer.now) (onto-units k rows) ∙ over-written
-          (rowsBytes (rtpUnitsIn k rows)) st.args.buffer.now,
+      ap (λ (us : List UnitRow). written 0 (rows_bytes us) st.args.buffer.now) (onto-units k rows) ∙ over-written
+          (rows_bytes (rtp_units_in k rows)) st.args.buffer.now,
     )
 
 -- the row's number is one of the lists'
 there : (c : tie.After-number invariant-loop decreases-loop) →
     let l = c.before.before.before in let l₄ = l.before.before.before.before in
     let st = l₄.before.before.before in
-    arrivalOf (get_or st.args.rows.now l.loop.i 0) < length st.args.marker.now
+    arrival_of (get_or st.args.rows.now l.loop.i 0) < length st.args.marker.now
 there c =
     let l = c.before.before.before in let l₄ = l.before.before.before.before in
     let st = l₄.before.before.before in
@@ -86,7 +86,7 @@ made : (c : tie.After-joined invariant-loop decreases-loop) →
     let c₄ = c.before.before.before.before in let l = c₄.before.before.before in
     let l₄ = l.before.before.before.before in let a = l₄.before.before.before.args in
     c.joined.result ≡ with l.loop.unit
-    (rtpRowAt (rtpLists a.marker.now a.time.now a.size.now) a.rows.now l.loop.i)
+    (rtp_row_at (rtp_lists a.marker.now a.time.now a.size.now) a.rows.now l.loop.i)
 made c = c.joined.ensures ∙ rw (c.before.before.before.before.number.ensures.0, c.before.missing.ensures)
 
 -- its figures fit
@@ -94,7 +94,7 @@ sized : (c : tie.After-joined invariant-loop decreases-loop) →
     let c₄ = c.before.before.before.before in let l = c₄.before.before.before in
     let l₄ = l.before.before.before.before in let rows = l₄.before.before.before.args.rows.now in
     (c.joined.result.packets ≤ l.loop.i + 1) × (c.joined.result.size ≤ 65535 * (l.loop.i + 1)) ×
-    (c.joined.result.lost + total (table (length rows - (l.loop.i + 1)) (l.loop.i + 1) (missingAt rows)) <
+    (c.joined.result.lost + total (table (length rows - (l.loop.i + 1)) (l.loop.i + 1) (missing_at rows)) <
     536870912)
 sized c =
     let c₄ = c.before.before.before.before in
@@ -133,7 +133,7 @@ space c =
     let l₄ = l.before.before.before.before in
     let st = l₄.before.before.before in
     let rows = st.args.rows.now in
-    let k = rtpLists st.args.marker.now st.args.time.now st.args.size.now in
+    let k = rtp_lists st.args.marker.now st.args.time.now st.args.size.now in
     let v = l.loop.invariant in
     let inside = c₈.before.loop-test.true in
     let e = sym c.before.before.ends.ensures ∙ c.before.if1.true in
@@ -167,7 +167,7 @@ loop-again c =
     let l₄ = l.before.before.before.before in
     let st = l₄.before.before.before in
     let rows = st.args.rows.now in
-    let k = rtpLists st.args.marker.now st.args.time.now st.args.size.now in
+    let k = rtp_lists st.args.marker.now st.args.time.now st.args.size.now in
     let m = c₄.before.before in
     let e = sym m.ends.ensures ∙ c₄.before.if1.true in
     let v = l.loop.invariant in
@@ -185,7 +185,7 @@ loop-again c =
       ),
       rows-put k rows l.loop.i l.loop.unit l.loop.j l.loop.buffer _ (omega arith) v.6 inside e _
           (c.before.before.before.write-unit.ensures ∙ ap
-          (λ (u : UnitRow). written (32 * l.loop.j) (unitBytes u) l.loop.buffer) (made m.before)),
+          (λ (u : UnitRow). written (32 * l.loop.j) (unit_bytes u) l.loop.buffer) (made m.before)),
     )
 
 loop-again-2 : tie.Need-loop-preserved-2 invariant-loop decreases-loop
@@ -196,7 +196,7 @@ loop-again-2 c =
     let l₄ = l.before.before.before.before in
     let st = l₄.before.before.before in
     let rows = st.args.rows.now in
-    let k = rtpLists st.args.marker.now st.args.time.now st.args.size.now in
+    let k = rtp_lists st.args.marker.now st.args.time.now st.args.size.now in
     let e = sym c.before.ends.ensures ∙ c.if1.false in
     let v = l.loop.invariant in
     let inside = c₈.loop-test.true in
@@ -221,7 +221,7 @@ returns : tie.Need-returns invariant-loop decreases-loop
 returns c =
     let l = c.before in let l₄ = l.before.before.before.before in let st = l₄.before.before.before in
     let rows = st.args.rows.now in
-    let k = rtpLists st.args.marker.now st.args.time.now st.args.size.now in
+    let k = rtp_lists st.args.marker.now st.args.time.now st.args.size.now in
     rows_written k rows l.loop.i l.loop.unit l.loop.j l.loop.buffer _ (omega arith) l.loop.invariant.6
     (omega arith)
 

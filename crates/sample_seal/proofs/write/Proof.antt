@@ -3,8 +3,8 @@
 use native.Mathlib.Omega.{arith}
 use mathlib.Core.Path.{refl, ap}
 use Rattle.rules.specs.declared.Header.{Header}
-use Rattle.rules.specs.Record.{recordLength}
-use Rattle.sample_seal.proofs.Writing.{few-units, few-pictures, too_short, written-post}
+use Rattle.rules.specs.Record.{record_length}
+use Rattle.sample_seal.proofs.Writing.{few-units, few_pictures, too_short, written-post}
 use Rattle.sample_seal.proofs.Sealing.{refused-leaves, done-leaves}
 use borrow.Author.Rules.{rules}
 use Rattle.sample_seal.proofs.write.Statement.{statement}
@@ -20,7 +20,7 @@ returns c =
 returns-2 : tie.Need-returns-2
 returns-2 c =
     record {
-      rule = λ fc fl r. absurd (omega (arith, few-pictures _ _ _ _ _ _ _ r));
+      rule = λ fc fl r. absurd (omega (arith, few_pictures _ _ _ _ _ _ _ r));
       refusals = refused-leaves _ _ 14 _ c.refused2.ensures;
     }
 
@@ -36,7 +36,7 @@ header-of-requires : tie.Need-header-of-requires
 header-of-requires c κs = c.index_in.ensures.numbers.value
 
 write-record-requires : tie.Need-write-record-requires
-unfolding recordLength
+unfolding record_length
 write-record-requires c κs =
     let h = c.before.header_of.ensures in
     let u = ap (λ (x : Header). x.units) h in

@@ -1,17 +1,17 @@
 -- `write_record` meets its contract: header, unit rows and scene rows stand one behind the other. Assumes nothing.
 use native.Mathlib.Omega.{arith}
-use Rattle.rules.specs.Record.{recordLength, sceneOffset}
+use Rattle.rules.specs.Record.{record_length, scene_offset}
 use Rattle.sealing.proofs.Rows.{record-written}
 use borrow.Author.Rules.{rules}
 use Rattle.sealing.proofs.write_record.Statement.{statement}
 use Rattle.sealing.proofs.write_record.Tie as tie
 
 write-header-requires : tie.Need-write-header-requires
-unfolding recordLength
+unfolding record_length
 write-header-requires c κs = omega arith
 
 write-units-requires : tie.Need-write-units-requires
-unfolding recordLength sceneOffset
+unfolding record_length scene_offset
 write-units-requires c κs = omega arith
 
 returns : tie.Need-returns

@@ -6,14 +6,14 @@ use native.Mathlib.Omega.{arith}
 use mathlib.Core.Path.{◌≡◌, refl, ap, ◌∙◌}
 use lib.ListN.{length}
 use borrow.Author.Rules.{rules}
-use Rattle.rules.specs.Record.{recordLength, sceneOffset, sceneBytes}
+use Rattle.rules.specs.Record.{record_length, scene_offset, scene_bytes}
 use Rattle.words.specs.Written.{written}
 use Rattle.sealing.proofs.Rows.{ScenesSoFar, scenes-none, scenes-more, scenes-all}
 use Rattle.sealing.proofs.write_scenes.Statement.{statement}
 use Rattle.sealing.proofs.write_scenes.Tie as tie
 
-place : (units j : ℕ) → 64 + 32 * (units + j) ≡ sceneOffset units + 32 * j
-unfolding sceneOffset
+place : (units j : ℕ) → 64 + 32 * (units + j) ≡ scene_offset units + 32 * j
+unfolding scene_offset
 place units j = omega arith
 
 abbrev invariant-loop : tie.invariant-loop
@@ -27,23 +27,23 @@ loop-holds : tie.Need-loop-init invariant-loop decreases-loop
 loop-holds c = (omega arith, refl, scenes-none _ _ _ _ _)
 
 add_at : tie.Need-overflow-add-at invariant-loop decreases-loop
-unfolding recordLength
+unfolding record_length
 add_at c = omega arith
 
 mul_at : tie.Need-overflow-mul-at invariant-loop decreases-loop
-unfolding recordLength
+unfolding record_length
 mul_at c = omega arith
 
 add-at-2 : tie.Need-overflow-add-at-2 invariant-loop decreases-loop
-unfolding recordLength
+unfolding record_length
 add-at-2 c = omega arith
 
 write-scene-requires : tie.Need-write-scene-requires invariant-loop decreases-loop
-unfolding recordLength sceneOffset
+unfolding record_length scene_offset
 write-scene-requires c κs = omega arith
 
 loop-again : tie.Need-loop-preserved invariant-loop decreases-loop
-unfolding recordLength sceneOffset
+unfolding record_length scene_offset
 loop-again c =
     let c₄ = c.before.before.before.before in
     let c₈ = c₄.before.before.before.before in
@@ -57,7 +57,7 @@ loop-again c =
       w.auto.0 ∙ l.invariant.1,
       scenes-more a.luma.now a.pictures a.time a.units a.buffer.now l.buffer l.start l.j
           l.invariant.2 x.result r.result x.ensures r.ensures (omega arith)
-          (w.ensures ∙ ap (λ (k : ℕ). written k (sceneBytes r.result) l.buffer) (place a.units l.j)),
+          (w.ensures ∙ ap (λ (k : ℕ). written k (scene_bytes r.result) l.buffer) (place a.units l.j)),
     )
 
 same_length : tie.Need-same-length invariant-loop decreases-loop

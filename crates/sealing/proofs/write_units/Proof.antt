@@ -5,8 +5,8 @@ use native.Mathlib.Omega.{arith}
 use mathlib.Core.Path.{◌≡◌, refl, subst, ◌∙◌}
 use lib.ListN.{length}
 use borrow.Author.Rules.{rules}
-use Rattle.rules.specs.Record.{sceneOffset}
-use Rattle.rules.specs.Reading.{unitPlace}
+use Rattle.rules.specs.Record.{scene_offset}
+use Rattle.rules.specs.Reading.{unit_place}
 use Rattle.sealing.specs.Contract.{UnitsWritten}
 use Rattle.sealing.proofs.Rows.{units-none, units-more}
 use Rattle.sealing.proofs.write_units.Statement.{statement}
@@ -22,19 +22,19 @@ loop-holds : tie.Need-loop-init invariant-loop decreases-loop
 loop-holds c = (omega arith, refl, units-none _ _)
 
 mul_at : tie.Need-overflow-mul-at invariant-loop decreases-loop
-unfolding sceneOffset
+unfolding scene_offset
 mul_at c = omega arith
 
 add_at : tie.Need-overflow-add-at invariant-loop decreases-loop
-unfolding sceneOffset
+unfolding scene_offset
 add_at c = omega arith
 
 write-unit-requires : tie.Need-write-unit-requires invariant-loop decreases-loop
-unfolding sceneOffset unitPlace
+unfolding scene_offset unit_place
 write-unit-requires c κs = omega arith
 
 loop-again : tie.Need-loop-preserved invariant-loop decreases-loop
-unfolding sceneOffset unitPlace
+unfolding scene_offset unit_place
 loop-again c =
     let c₄ = c.before.before.before.before in
     let l = c₄.before.before.loop in
@@ -51,7 +51,7 @@ same_length : tie.Need-same-length invariant-loop decreases-loop
 same_length c = c.before.loop.invariant.1
 
 returns : tie.Need-returns invariant-loop decreases-loop
-unfolding sceneOffset unitPlace
+unfolding scene_offset unit_place
 returns c =
     let l = c.before.loop in
     let e : l.j ≡ c.before.before.before.args.n = omega arith in

@@ -1,4 +1,4 @@
--- `laid_out` meets its contract: one step of Steps for each test. Assumes nothing.
+-- `laid_out_lem` meets its contract: one step of Steps for each test. Assumes nothing.
 use borrow.Author.Rules.{rules}
 use Rattle.shelf.proofs.Steps.{no_words, too_many, no-head, other-size, other-first, as-rising}
 use Rattle.shelf.proofs.laid_out.Statement.{statement}

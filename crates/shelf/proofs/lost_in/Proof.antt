@@ -5,8 +5,8 @@ use native.Mathlib.Omega.{arith}
 use mathlib.Core.Path.{◌≡◌, ap, ◌∙◌}
 use borrow.Author.Rules.{rules}
 use Rattle.rules.specs.Bytes.{total, table}
-use Rattle.rules.specs.Reading.{unitAnswer}
-use Rattle.rules.specs.Shelf.{lostGiven, recordLost}
+use Rattle.rules.specs.Reading.{unit_answer}
+use Rattle.rules.specs.Shelf.{lost_given, record_lost}
 use Rattle.record_reader.proofs.Promise.{row_inside, lost-row}
 use Rattle.shelf.proofs.Laws.{record-fits}
 use Rattle.shelf.proofs.Steps.{lost-more, lost-end, lost-units}
@@ -15,7 +15,7 @@ use Rattle.shelf.proofs.lost_in.Tie as tie
 
 abbrev invariant-loop : tie.invariant-loop
 invariant-loop bytes units lost₀ i₀ lost i =
-    (i ≤ units) × (lost + total (table (units - i) i (λ (k : ℕ). lostGiven (unitAnswer bytes k))) ≡ recordLost bytes)
+    (i ≤ units) × (lost + total (table (units - i) i (λ (k : ℕ). lost_given (unit_answer bytes k))) ≡ record_lost bytes)
 
 abbrev decreases-loop : tie.decreases-loop
 decreases-loop bytes units lost₀ i₀ lost i = units - i
@@ -34,13 +34,13 @@ added : (c : tie.After-struct-known invariant-loop decreases-loop) →
     let r = l.before.before.args.bytes.now in
     l.loop.lost + c.before.unit_row.result.lost
     + total (table (l.before.before.args.units - (l.loop.i + 1)) (l.loop.i + 1)
-    (λ (k : ℕ). lostGiven (unitAnswer r k)))
-    ≡ recordLost r
+    (λ (k : ℕ). lost_given (unit_answer r k)))
+    ≡ record_lost r
 added c =
     let l = c.before.before.before in
     let st = l.before.before in
     let r = st.args.bytes.now in
-    lost-more (λ (k : ℕ). lostGiven (unitAnswer r k)) st.args.units l.loop.i l.loop.lost _
+    lost-more (λ (k : ℕ). lost_given (unit_answer r k)) st.args.units l.loop.i l.loop.lost _
     l.loop.invariant.1 _
     c.before.before.loop-test.true
     (ap (λ u. u.lost) c.before.unit_row.ensures ∙ lost-row r st.requires.0 _ (omega (arith, st.requires.1)))
@@ -59,7 +59,7 @@ add-lost c =
 returns : tie.Need-returns invariant-loop decreases-loop
 returns c =
     let r = c.before.before.before.args.bytes.now in
-    lost-end (λ (k : ℕ). lostGiven (unitAnswer r k)) _ _ _ _ c.before.loop.invariant.1 c.loop-test.false
+    lost-end (λ (k : ℕ). lost_given (unit_answer r k)) _ _ _ _ c.before.loop.invariant.1 c.loop-test.false
 
 pub lost-in-spec : {M : Type 1} → statement M
 lost-in-spec =

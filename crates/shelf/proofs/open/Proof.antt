@@ -4,7 +4,7 @@ use mathlib.Core.Path.{sym, ◌∙◌}
 use borrow.Author.Tests.{not-true, not-false}
 use borrow.Author.Rules.{rules}
 use Rattle.shelf.proofs.Steps.{not-laid-out, records-answer}
-use Rattle.shelf.proofs.Laws.{laid_out}
+use Rattle.shelf.proofs.Laws.{laid_out_lem}
 use Rattle.shelf.proofs.open.Statement.{statement}
 use Rattle.shelf.proofs.open.Tie as tie
 
@@ -16,7 +16,7 @@ returns c =
 word32-requires : tie.Need-word32-requires
 word32-requires c κs =
     let right = sym c.before.laid_out.ensures ∙ not-false _ c.if1.false in
-    omega (arith, (laid_out c.before.before.before.args.bytes.now right).head)
+    omega (arith, (laid_out_lem c.before.before.before.args.bytes.now right).head)
 
 read-records-requires : tie.Need-read-records-requires
 read-records-requires c κs =

@@ -2,7 +2,7 @@
 use native.Mathlib.Omega.{arith}
 use borrow.Author.Rules.{rules}
 use Rattle.shelf.proofs.Steps.{shelf-given, shelf-laid-out, part-missing, part-given, part-refused}
-use Rattle.shelf.proofs.Laws.{laid_out}
+use Rattle.shelf.proofs.Laws.{laid_out_lem}
 use Rattle.shelf.proofs.part.Statement.{statement}
 use Rattle.shelf.proofs.part.Tie as tie
 
@@ -10,13 +10,13 @@ edge-requires : tie.Need-edge-requires
 edge-requires c κs =
     let g = c.before.before in let o = g.before.before in let s = o.before.before.args.bytes.now in
     let n = (shelf-given s _ o.«open».ensures _ _ g.records.given.1).1 in
-    (n, omega (arith, (laid_out s (shelf-laid-out s _ o.«open».ensures _ _ g.records.given.1)).head))
+    (n, omega (arith, (laid_out_lem s (shelf-laid-out s _ o.«open».ensures _ _ g.records.given.1)).head))
 
 edge-requires-2 : tie.Need-edge-requires-2
 edge-requires-2 c κs =
     let g = c.before.before.before in let o = g.before.before in let s = o.before.before.args.bytes.now in
     let n = (shelf-given s _ o.«open».ensures _ _ g.records.given.1).1 in
-    (n, omega (arith, (laid_out s (shelf-laid-out s _ o.«open».ensures _ _ g.records.given.1)).head))
+    (n, omega (arith, (laid_out_lem s (shelf-laid-out s _ o.«open».ensures _ _ g.records.given.1)).head))
 
 pub part-spec : {M : Type 1} → statement M
 part-spec =

@@ -7,20 +7,20 @@ use mathlib.Core.Bool.{true}
 use mathlib.Core.List.{List}
 use lib.ListN.{length}
 use borrow.Author.Rules.{rules}
-use Rattle.rules.specs.Shelf.{recordCount, headLength, laidOut, part, records as allRecords}
-use Rattle.rules.specs.Shelf.{recordLost, shelfLost, firstRefused}
+use Rattle.rules.specs.Shelf.{record_count, head_length, laid_out, part, records as all_records}
+use Rattle.rules.specs.Shelf.{record_lost, shelf_lost, first_refused}
 use Rattle.rules.specs.Bytes.{total, table}
 use Rattle.shelf.proofs.Steps.{lost-records, records-start, record-read, records-more, records-stop}
 use Rattle.shelf.proofs.Steps.{records-end, lost-more, lost-end}
-use Rattle.shelf.proofs.Laws.{laid_out, part-inside, shelf-fits}
+use Rattle.shelf.proofs.Laws.{laid_out_lem, part-inside, shelf-fits}
 use Rattle.shelf.proofs.read_records.Statement.{statement}
 use Rattle.shelf.proofs.read_records.Tie as tie
 
 abbrev invariant-loop : tie.invariant-loop
 invariant-loop bytes records lost₀ j₀ lost j =
     (j ≤ records)
-    × (lost + total (table (records - j) j (λ (k : ℕ). recordLost (part bytes k))) ≡ shelfLost bytes)
-    × (firstRefused 0 (allRecords bytes) ≡ firstRefused j (table (records - j) j (part bytes)))
+    × (lost + total (table (records - j) j (λ (k : ℕ). record_lost (part bytes k))) ≡ shelf_lost bytes)
+    × (first_refused 0 (all_records bytes) ≡ first_refused j (table (records - j) j (part bytes)))
 
 abbrev decreases-loop : tie.decreases-loop
 decreases-loop bytes records lost₀ j₀ lost j = records - j
@@ -31,9 +31,9 @@ loop-holds c =
     (omega arith, lost-records s _ n, records-start s _ n)
 
 -- the head is whole
-headed : (s : List ℕ) (n : ℕ) → (n ≡ recordCount s) × (laidOut s ≡ true) →
-    (n ≡ recordCount s) × (headLength n ≤ length s)
-headed s n pre = (pre.0, omega (arith, pre.0, (laid_out s pre.1).head))
+headed : (s : List ℕ) (n : ℕ) → (n ≡ record_count s) × (laid_out s ≡ true) →
+    (n ≡ record_count s) × (head_length n ≤ length s)
+headed s n pre = (pre.0, omega (arith, pre.0, (laid_out_lem s pre.1).head))
 
 edge-requires : tie.Need-edge-requires invariant-loop decreases-loop
 edge-requires c κs = let st = c.before.before.before in headed st.args.bytes.now _ st.requires
@@ -49,8 +49,8 @@ inside c =
     let l = c.before.before.before in
     let st = l.before.before in
     let s = st.args.bytes.now in
-    let few : l.loop.j < recordCount s = omega (arith, st.requires.0, c.before.before.loop-test.true) in
-    let p = part-inside s (laid_out s st.requires.1) l.loop.j few in
+    let few : l.loop.j < record_count s = omega (arith, st.requires.0, c.before.before.loop-test.true) in
+    let p = part-inside s (laid_out_lem s st.requires.1) l.loop.j few in
     (omega (arith, p.0, c.before.edge.ensures, c.edge2.ensures), omega (arith, p.1, c.edge2.ensures))
 
 -- one record more
@@ -58,15 +58,15 @@ added : (c : tie.After-known-told invariant-loop decreases-loop) →
     let c₄ = c.before.before.before.before in let l = c₄.before.before.before.before in
     let s = l.before.before.args.bytes.now in
     l.loop.lost + c.before.read.given.0.0 + total
-    (table (l.before.before.args.records - (l.loop.j + 1)) (l.loop.j + 1) (λ (k : ℕ). recordLost (part s k))) ≡
-    shelfLost s
+    (table (l.before.before.args.records - (l.loop.j + 1)) (l.loop.j + 1) (λ (k : ℕ). record_lost (part s k))) ≡
+    shelf_lost s
 added c =
     let r = c.before.before.before in
     let e = r.before.before in
     let l = e.before.before.before in
     let st = l.before.before in
     let t = e.before.before.loop-test.true in
-    lost-more (λ (k : ℕ). recordLost (part st.args.bytes.now k)) st.args.records l.loop.j
+    lost-more (λ (k : ℕ). record_lost (part st.args.bytes.now k)) st.args.records l.loop.j
     l.loop.lost _ l.loop.invariant.1 _ t
     (record-read st.args.bytes.now st.args.records l.loop.j t _ _ e.before.edge.ensures
     e.edge2.ensures _ r.read-record.ensures _ c.before.read.given.1).1
@@ -114,7 +114,7 @@ returns-2 c =
     let st = l.before.before in
     rw (
       records-end st.args.bytes.now _ _ _ c.loop-test.false l.loop.invariant.2,
-      ← lost-end (λ (k : ℕ). recordLost (part st.args.bytes.now k)) st.args.records l.loop.j
+      ← lost-end (λ (k : ℕ). record_lost (part st.args.bytes.now k)) st.args.records l.loop.j
           l.loop.lost _ l.loop.invariant.1 c.loop-test.false,
     )
 

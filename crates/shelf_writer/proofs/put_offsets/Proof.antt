@@ -6,9 +6,9 @@ use mathlib.Core.Path.{◌≡◌, refl}
 use borrow.Author.Rules.{rules}
 use lib.ListN.{length, take}
 use Rattle.rules.specs.Bytes.{total}
-use Rattle.rules.specs.Shelf.{headLength}
+use Rattle.rules.specs.Shelf.{head_length}
 use Rattle.words.specs.Written.{written}
-use Rattle.shelf_writer.specs.Writing.{shelfLength}
+use Rattle.shelf_writer.specs.Writing.{shelf_length}
 use Rattle.shelf_writer.proofs.Laws.{total-more, total-part}
 use Rattle.shelf_writer.proofs.Steps.{no-sum, words_to, offsets, no_words, word_more, all_words}
 use Rattle.shelf_writer.proofs.put_offsets.Statement.{statement}
@@ -17,7 +17,7 @@ use Rattle.shelf_writer.proofs.put_offsets.Tie as tie
 abbrev invariant-loop : tie.invariant-loop
 invariant-loop lengths buffer₀ start₀ j₀ buffer start j =
     (j ≤ length lengths) × (length buffer ≡ length buffer₀)
-    × (start ≡ headLength (length lengths) + total (take j lengths))
+    × (start ≡ head_length (length lengths) + total (take j lengths))
     × (buffer ≡ written 8 (words_to j (offsets lengths)) buffer₀)
 
 abbrev decreases-loop : tie.decreases-loop
@@ -29,13 +29,13 @@ loop-holds c =
     (omega arith, refl, omega (arith, no-sum a.lengths.now), no_words a.lengths.now a.buffer.now)
 
 cast-put32 : tie.Need-overflow-cast-put32 invariant-loop decreases-loop
-unfolding shelfLength
+unfolding shelf_length
 cast-put32 c =
     let l = c.before.before in let st = l.before.before.before in
     omega (arith, total-part st.args.lengths.now l.loop.j)
 
 add-start-2 : tie.Need-overflow-add-start-2 invariant-loop decreases-loop
-unfolding shelfLength
+unfolding shelf_length
 add-start-2 c =
     let c₄ = c.before.before.before.before in
     let t = c₄.before.before in

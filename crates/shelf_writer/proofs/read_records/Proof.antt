@@ -6,8 +6,8 @@ use mathlib.Core.Path.{◌≡◌}
 use borrow.Author.Rules.{rules}
 use lib.ListN.{length, take, drop}
 use Rattle.rules.specs.Bytes.{total}
-use Rattle.rules.specs.Shelf.{firstRefused}
-use Rattle.shelf_writer.specs.Writing.{cutUp}
+use Rattle.rules.specs.Shelf.{first_refused}
+use Rattle.shelf_writer.specs.Writing.{cut_up}
 use Rattle.shelf_writer.proofs.Laws.{total-more}
 use Rattle.shelf_writer.proofs.Steps.{no-sum, cut-start, cut_inside, cut-more, cut-stop, cut-end}
 use Rattle.shelf_writer.proofs.read_records.Statement.{statement}
@@ -16,7 +16,7 @@ use Rattle.shelf_writer.proofs.read_records.Tie as tie
 abbrev invariant-loop : tie.invariant-loop
 invariant-loop records lengths start₀ j₀ start j =
     (j ≤ length lengths) × (start ≡ total (take j lengths))
-    × (firstRefused 0 (cutUp records lengths) ≡ firstRefused j (cutUp (drop start records) (drop j lengths)))
+    × (first_refused 0 (cut_up records lengths) ≡ first_refused j (cut_up (drop start records) (drop j lengths)))
 
 abbrev decreases-loop : tie.decreases-loop
 decreases-loop records lengths start₀ j₀ start j = length lengths - j

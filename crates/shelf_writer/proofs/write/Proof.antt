@@ -6,9 +6,9 @@ use mathlib.Core.Bool.{true}
 use borrow.Author.Rules.{rules}
 use borrow.Author.Tests.{not-true, not-false}
 use lib.ListN.{length}
-use Rattle.shelf_writer.specs.Writing.{goodLengths, shelfLength}
+use Rattle.shelf_writer.specs.Writing.{good_lengths, shelf_length}
 use Rattle.shelf_writer.proofs.Laws.{good, shelf-small}
-use Rattle.shelf_writer.proofs.Steps.{size_is, not_good, all_read, record-refused, no_room, wrote}
+use Rattle.shelf_writer.proofs.Steps.{size_is, not_good, all_read, record-refused, no_room_lem, wrote}
 use Rattle.shelf_writer.proofs.Steps.{stands, stored}
 use Rattle.shelf_writer.proofs.write.Statement.{statement}
 use Rattle.shelf_writer.proofs.write.Tie as tie
@@ -23,7 +23,7 @@ returns c =
 -- the lengths are as they should be
 passed : (c : tie.Else1) →
     let c₄ = c.before.before.before.before in let a = c₄.before.args in
-    goodLengths a.lengths.now (length a.records.now) ≡ true
+    good_lengths a.lengths.now (length a.records.now) ≡ true
 passed c = sym c.before.good-lengths.ensures ∙ not-false _ c.if1.false
 
 read-records-requires : tie.Need-read-records-requires
@@ -34,7 +34,7 @@ read-records-requires c κs =
 -- 32 bits hold the shelf's length
 small : (c : tie.After-enum-told) →
     let c₄ = c.before.before.before.before in
-    shelfLength c₄.before.before.before.before.args.lengths.now < 2 ^ 32
+    shelf_length c₄.before.before.before.before.args.lengths.now < 2 ^ 32
 small c =
     let r = c.before.before in let r₄ = r.before.before.before.before in let a = r₄.before.before.args in
     let s = a.records.now in let ls = a.lengths.now in
@@ -42,11 +42,11 @@ small c =
     shelf-small s ls g.0 g.1 (all_read s ls _ r.read-records.ensures _ c.enum_told.given.1)
 
 add-size : tie.Need-overflow-add-size
-unfolding shelfLength
+unfolding shelf_length
 add-size c = omega (arith, small c)
 
 add-size-2 : tie.Need-overflow-add-size-2
-unfolding shelfLength
+unfolding shelf_length
 add-size-2 c =
     let i = c.before.before.before in let i₄ = i.before.before.before.before in let a = i₄.before.args in
     omega (arith, small c, (good a.records.now a.lengths.now (passed i)).1)
@@ -57,7 +57,7 @@ returns-2 c =
     let i₄ = i.before.before.before.before in let a = i₄.before.args in let s = a.records.now in
     let ls = a.lengths.now in let b = a.buffer.now in
     let is = size_is s ls (good s ls (passed i)).1 in
-    let e = no_room s ls _ r.read-records.ensures (passed i) (length b) _ t.enum_told.given.1 _ is
+    let e = no_room_lem s ls _ r.read-records.ensures (passed i) (length b) _ t.enum_told.given.1 _ is
     c.if2.true in
     (e, stands s ls b _ _ e)
 

@@ -4,7 +4,7 @@ use mathlib.Core.Path.{◌≡◌, refl}
 use Prim.Native.Nat.{◌-◌, ◌≤◌}
 use lib.ListN.{length}
 use Rattle.record_text.proofs.Made.{within-buffer, whole-line}
-use Rattle.rules.specs.Record.{sceneOffset}
+use Rattle.rules.specs.Record.{scene_offset}
 use Rattle.show.proofs.show_scenes.Statement.{statement}
 use Rattle.show.proofs.show_scenes.Tie as tie
 
@@ -18,7 +18,7 @@ loop-holds : tie.Need-loop-init invariant-loop decreases-loop
 loop-holds c = (omega arith, refl)
 
 scene-row-requires : tie.Need-scene-row-requires invariant-loop decreases-loop
-unfolding sceneOffset
+unfolding scene_offset
 scene-row-requires c κs =
     let c₃ = c.before.before.before in
     (c₃.requires.0, omega arith)

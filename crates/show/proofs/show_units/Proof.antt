@@ -4,7 +4,7 @@ use mathlib.Core.Path.{◌≡◌, refl}
 use Prim.Native.Nat.{◌-◌, ◌≤◌}
 use lib.ListN.{length}
 use Rattle.record_text.proofs.Made.{within-buffer, whole-line}
-use Rattle.rules.specs.Reading.{unitPlace}
+use Rattle.rules.specs.Reading.{unit_place}
 use Rattle.show.proofs.show_units.Statement.{statement}
 use Rattle.show.proofs.show_units.Tie as tie
 
@@ -18,7 +18,7 @@ loop-holds : tie.Need-loop-init invariant-loop decreases-loop
 loop-holds c = (omega arith, refl)
 
 unit-row-requires : tie.Need-unit-row-requires invariant-loop decreases-loop
-unfolding unitPlace
+unfolding unit_place
 unit-row-requires c κs = omega arith
 
 array-share-prefix-text : tie.Need-array-share-prefix-text invariant-loop decreases-loop

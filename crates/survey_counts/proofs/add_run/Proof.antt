@@ -1,6 +1,6 @@
 -- `add_run` meets its contract: cell by cell.
 use Rattle.std.proofs.Common.{◌≡◌, ◌+◌, ◌-◌, ◌*◌, ◌≤◌, drop, arith}
-use Rattle.capture_steps.specs.Format.{cellsFrom}
+use Rattle.capture_steps.specs.Format.{cells_from}
 use Rattle.survey_counts.specs.Table.{Tallied}
 use Rattle.survey_counts.proofs.Counts.{run_none, run_more, run-all}
 use Rattle.survey_counts.proofs.add_run.Statement.{statement}
@@ -9,7 +9,7 @@ use Rattle.survey_counts.proofs.add_run.Tie as tie
 abbrev invariant-loop : tie.invariant-loop
 invariant-loop counts₀ piece time many at₀ place₀ k₀ counts at place k =
     (k ≤ many) × (at ≡ at₀ + 188 * k) × (place ≡ place₀ + 188 * k)
-    × Tallied counts₀ (cellsFrom k time place₀ (drop at₀ piece)) counts
+    × Tallied counts₀ (cells_from k time place₀ (drop at₀ piece)) counts
 
 abbrev decreases-loop : tie.decreases-loop
 decreases-loop counts₀ piece time many at₀ place₀ k₀ counts at place k = many - k

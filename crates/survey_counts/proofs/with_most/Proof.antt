@@ -1,13 +1,13 @@
 -- `with_most` meets its contract: before identifier i, the best has most of those below i.
 use Rattle.std.proofs.Common.{◌≡◌, ◌-◌, ◌≤◌, ⊎_elim, arith, rules}
 use Rattle.rules.specs.Survey.{HasMost}
-use Rattle.survey_counts.specs.Table.{countIn}
+use Rattle.survey_counts.specs.Table.{count_in}
 use Rattle.capture_laws.proofs.Survey.{most-none, most-new, most-old}
 use Rattle.survey_counts.proofs.with_most.Statement.{statement}
 use Rattle.survey_counts.proofs.with_most.Tie as tie
 
 abbrev invariant-loop : tie.invariant-loop
-invariant-loop counts best₀ i₀ best i = (i ≤ 8192) × HasMost (countIn counts) i best
+invariant-loop counts best₀ i₀ best i = (i ≤ 8192) × HasMost (count_in counts) i best
 
 abbrev decreases-loop : tie.decreases-loop
 decreases-loop counts best₀ i₀ best i = 8192 - i

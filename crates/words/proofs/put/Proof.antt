@@ -6,7 +6,7 @@ use mathlib.Core.Path.{◌≡◌, refl, ◌∙◌}
 use lib.ListN.{length, length-set}
 use lib.Seq.{sets}
 use Rattle.rules.specs.Bytes.{bytes_of}
-use Rattle.words.proofs.Laws.{length-bytesOf, byte-stored, written-sets}
+use Rattle.words.proofs.Laws.{length-bytes_of, byte-stored, written-sets}
 use Rattle.words.proofs.put.Statement.{statement}
 use Rattle.words.proofs.put.Tie as tie
 
@@ -37,7 +37,7 @@ returns c =
     let done : from.n - at.i ≡ 0 = omega arith in
     let all : at.s ≡ sets from.s.now from.at (bytes_of from.n from.x) = (rw done at at.invariant.2) in
     all
-    ∙ written-sets from.at (bytes_of from.n from.x) from.s.now (rw length-bytesOf c.before.before.requires)
+    ∙ written-sets from.at (bytes_of from.n from.x) from.s.now (rw length-bytes_of c.before.before.requires)
 
 pub put_spec : {M : Type 1} → statement M
 put_spec =

@@ -1,11 +1,11 @@
 -- `is_edition` meets its contract.
 use mathlib.Core.Path.{refl}
-use Rattle.rules.specs.Editions.{isEdition}
+use Rattle.rules.specs.Editions.{is_edition}
 use Rattle.figures.proofs.editions.is_edition.Statement.{statement}
 use Rattle.figures.proofs.editions.is_edition.Tie as tie
 
 returns : tie.Need-returns
-unfolding isEdition
+unfolding is_edition
 returns c = refl
 
 pub is-edition-spec : {M : Type 1} → statement M

@@ -1,11 +1,11 @@
 -- `good_pid` meets its contract.
 use mathlib.Core.Path.{refl}
-use Rattle.rules.specs.Opening.{goodPid}
+use Rattle.rules.specs.Opening.{good_pid}
 use Rattle.figures.proofs.opening.good_pid.Statement.{statement}
 use Rattle.figures.proofs.opening.good_pid.Tie as tie
 
 returns : tie.Need-returns
-unfolding goodPid
+unfolding good_pid
 returns c = refl
 
 pub good-pid-spec : {M : Type 1} → statement M

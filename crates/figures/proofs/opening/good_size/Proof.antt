@@ -1,12 +1,12 @@
 -- `good_size` meets its contract.
 use mathlib.Core.Path.{refl}
 use borrow.Author.Rules.{rules}
-use Rattle.rules.specs.Opening.{goodSize}
+use Rattle.rules.specs.Opening.{good_size}
 use Rattle.figures.proofs.opening.good_size.Statement.{statement}
 use Rattle.figures.proofs.opening.good_size.Tie as tie
 
 returns : tie.Need-returns
-unfolding goodSize
+unfolding good_size
 returns c = refl
 
 pub good-size-spec : {M : Type 1} → statement M

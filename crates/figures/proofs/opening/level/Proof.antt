@@ -1,24 +1,24 @@
 -- `level` meets its contract: the rule tries 5, 4, 3, 2, 1 in this order.
 use borrow.Author.Tests.{le-leb, lt-leb}
-use Rattle.rules.specs.Opening.{levelUpTo}
+use Rattle.rules.specs.Opening.{level_up_to}
 use Rattle.figures.proofs.opening.level.Statement.{statement}
 use Rattle.figures.proofs.opening.level.Tie as tie
 
 returns : tie.Need-returns
-unfolding levelUpTo
+unfolding level_up_to
 returns c = simp (le-leb _ _ c.if1.true)
 
 returns-2 : tie.Need-returns-2
-unfolding levelUpTo
+unfolding level_up_to
 returns-2 c = simp (lt-leb _ _ c.before.if1.false, le-leb _ _ c.if2.true)
 
 returns-3 : tie.Need-returns-3
-unfolding levelUpTo
+unfolding level_up_to
 returns-3 c =
     simp (lt-leb _ _ c.before.before.if1.false, lt-leb _ _ c.before.if2.false, le-leb _ _ c.if3.true)
 
 returns-4 : tie.Need-returns-4
-unfolding levelUpTo
+unfolding level_up_to
 returns-4 c =
     simp (
       lt-leb _ _ c.before.before.before.if1.false,
@@ -28,7 +28,7 @@ returns-4 c =
     )
 
 returns-5 : tie.Need-returns-5
-unfolding levelUpTo
+unfolding level_up_to
 returns-5 c =
     simp (
       lt-leb _ _ c.before.before.before.before.if1.false,
@@ -39,7 +39,7 @@ returns-5 c =
     )
 
 returns-6 : tie.Need-returns-6
-unfolding levelUpTo
+unfolding level_up_to
 returns-6 c =
     simp (
       lt-leb _ _ c.before.before.before.before.if1.false,

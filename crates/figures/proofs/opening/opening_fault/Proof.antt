@@ -3,17 +3,17 @@ use native.Mathlib.Omega.{arith}
 use mathlib.Core.Path.{sym, ◌∙◌}
 use borrow.Author.Rules.{rules}
 use borrow.Author.Tests.{not-true, not-false}
-use Rattle.rules.specs.Opening.{openingFault}
+use Rattle.rules.specs.Opening.{opening_fault}
 use Rattle.figures.proofs.opening.opening_fault.Statement.{statement}
 use Rattle.figures.proofs.opening.opening_fault.Tie as tie
 
 returns : tie.Need-returns
-unfolding openingFault
+unfolding opening_fault
 returns c =
     record { shown = simp (sym c.before.good-size.ensures ∙ not-true _ c.if1.true); few = omega arith }
 
 returns-2 : tie.Need-returns-2
-unfolding openingFault
+unfolding opening_fault
 returns-2 c =
     record {
       shown = simp (
@@ -24,7 +24,7 @@ returns-2 c =
     }
 
 returns-3 : tie.Need-returns-3
-unfolding openingFault
+unfolding opening_fault
 returns-3 c =
     let at-good-size : tie.After-good-size = search in
     record {
@@ -37,7 +37,7 @@ returns-3 c =
     }
 
 returns-4 : tie.Need-returns-4
-unfolding openingFault
+unfolding opening_fault
 returns-4 c =
     let at-good-size : tie.After-good-size = search in
     let at-if1 : tie.Else1 = search in
@@ -53,7 +53,7 @@ returns-4 c =
     }
 
 returns-5 : tie.Need-returns-5
-unfolding openingFault
+unfolding opening_fault
 returns-5 c =
     let at-good-size : tie.After-good-size = search in
     let at-if1 : tie.Else1 = search in

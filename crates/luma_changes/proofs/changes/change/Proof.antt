@@ -1,6 +1,6 @@
 -- `change` meets its contract: the tests leave only numbers that a picture can give, for which 64 bits are enough.
 use Rattle.std.proofs.Common.{◌≤◌, arith, rules}
-use Rattle.rules.specs.Changes.{changeFrom, nearest}
+use Rattle.rules.specs.Changes.{change_from, nearest}
 use Rattle.luma_changes.proofs.Roots.{asked, asked-four, spread-few, root-few}
 use Rattle.luma_changes.proofs.changes.change.Statement.{statement}
 use Rattle.luma_changes.proofs.changes.change.Tie as tie
@@ -18,7 +18,7 @@ root-requires c κs =
     (asked-four a.n a.up a.down a.squares some (omega arith) (omega arith))
 
 returns-4 : tie.Need-returns-4
-unfolding changeFrom nearest
+unfolding change_from nearest
 returns-4 c =
     let wide = c.before.wide.ensures.0 in let spread = c.before.before.before.spread.ensures in
     record
@@ -32,7 +32,7 @@ root-requires-2 c κs =
     (asked a.n a.up a.down a.squares some (omega arith) (omega arith))
 
 returns-5 : tie.Need-returns-5
-unfolding changeFrom
+unfolding change_from
 returns-5 c =
     let at-start : tie.Start = search in
     let a = at-start.args in

@@ -1,5 +1,5 @@
 use Rattle.std.proofs.Common.{◌≡◌, ◌+◌, ◌-◌, ◌*◌, ◌≤◌, ◌++◌, length, get_or, take, drop, arith, length-set, rules}
-use Rattle.rules.specs.Rtp.{wrapped, rows_from, placesAfter, places}
+use Rattle.rules.specs.Rtp.{wrapped, rows_from, places_after, places}
 use Rattle.rtp_order.proofs.Rows.{moved-high, rows_start, rows_more, rows_end}
 use Rattle.rtp_order.proofs.Firsts.{moved-low}
 use Rattle.rtp_order.proofs.arrival.put_rows.Statement.{statement}
@@ -9,7 +9,7 @@ abbrev invariant-loop : tie.invariant-loop
 invariant-loop sequence rows₀ last₀ place₀ i₀ rows last place i =
     (1 ≤ i) × (i ≤ length sequence) × (length rows ≡ length sequence)
     × (134250496 ≤ place + 32768 * i) × (place ≤ 134283263 + 32768 * i)
-    × (take i rows ++ rows_from i (placesAfter place last (drop i sequence)) ≡ rows_from 0 (places sequence))
+    × (take i rows ++ rows_from i (places_after place last (drop i sequence)) ≡ rows_from 0 (places sequence))
 
 abbrev decreases-loop : tie.decreases-loop
 decreases-loop sequence rows₀ last₀ place₀ i₀ rows last place i = length sequence - i
