@@ -19,7 +19,7 @@ NAME = r"[^\s(){}.;,@\"«»\[\]\\:]+"
 DEF = re.compile(r"^(\s*)((?:(?:pub|abbrev|unfoldable|infixr|infixl)\s+)*)(" + NAME + r")\s*:\s")
 TYPE = re.compile(r"^(\s*)(?:pub )?(record|data)\s")
 # Lemmas that would fall together with a definition, and words whose camel case was the older library's.
-APART = {"index_number": "c_sample", "laid_out": "shelf", "too_long": "capture_laws rules", "no_room": "shelf_writer"}
+APART = {"index_number": "c_sample", "laid_out": "shelf", "too_long": "capture_laws rules", "no_room": "shelf_writer", "set_apart": "rules"}
 LIBRARY = {"getD": "get_or"}
 
 

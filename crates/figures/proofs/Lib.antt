@@ -1,3 +1,3 @@
 -- The laws that the functions' proofs stand on, one file a chapter.
 pub mod Products
-pub mod Sizes
+pub mod SizeLaws

@@ -1,4 +1,6 @@
 // The figures of the rules, each from plain numbers: what the engines, the seal and the reader are made of.
+#![tactic(auto)]
+
 mod editions;
 mod gaps;
 mod numbers;

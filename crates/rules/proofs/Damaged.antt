@@ -109,7 +109,7 @@ broken =
     ∷ []
 
 -- the theorem: every entry's rule gives what document 02 says
-pub set_apart : map (λ (c : Case). c.rule) broken ≡ map (λ (c : Case). c.paper) broken
+pub set_apart_lem : map (λ (c : Case). c.rule) broken ≡ map (λ (c : Case). c.paper) broken
 unfolding broken rooftop rows_by lost_by only_broken read_by words show_record word32 word64 network16
     bytes_of total greatest_of least_of count only table end_to_end is_edition heeds_splices knows_damage good_size good_time
     good_pid opening_fault seconds microseconds stored_length frame_time body frame_size frames_up_to rest_up_to frames rest
@@ -118,4 +118,4 @@ unfolding broken rooftop rows_by lost_by only_broken read_by words show_record w
     arrivals_after arrivals before_units groups cells_of least_time unit_of units_of beginnings whole_frames unfinished
     all_frames whole_wanted shown_wanted units bad_count too_many_units record_length scene_offset unit_bytes allowed_header
     allowed_unit allowed_units allowed_scene allowed_scenes allowed_rows allowed reading_fault no_packet
-set_apart = refl
+set_apart_lem = refl

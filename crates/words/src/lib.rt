@@ -1,4 +1,6 @@
 // Numbers in byte strings: little-endian words, read and written at a place.
+#![tactic(auto)]
+
 ghost use Rattle.std.specs.Prelude.{◌≡◌, ◌+◌, ◌*◌, ◌≤◌, length};
 ghost use Rattle.rules.specs.Bytes.{word32 as rule32, word64 as rule64, bytes_of};
 ghost use Rattle.words.specs.Written.{written};
