@@ -10,7 +10,7 @@ use lib.ListN.{length, get_or, take, drop, length-map}
 use lib.Seq.{length-take-le, split_at}
 use borrow.Author.Tests.{le-leb, lt-leb}
 use Rattle.rules.specs.declared.Opening.{Opening}
-use Rattle.rules.specs.Bytes.{total, tally, parts, smaller, Bytes}
+use Rattle.rules.specs.Bytes.{tally, parts, smaller, Bytes}
 use Rattle.rules.specs.Refusals.{Fault, none, fault}
 use Rattle.rules.specs.Opening.{opening_fault, columns, lines, pixel_count}
 use Rattle.rules.specs.Pictures.{picture_size, if_opened, picture_count, pictures, pixels}

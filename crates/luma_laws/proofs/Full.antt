@@ -1,5 +1,5 @@
 -- Once 750 pictures are there, whatever is fed behind them changes neither their number nor their pixels.
-use Prim.Native.Nat.{ℕ, zero, suc, ◌+◌, ◌*◌, ◌/◌, ◌≤◌, ◌<◌}
+use Prim.Native.Nat.{ℕ, zero, suc, ◌*◌, ◌/◌, ◌≤◌, ◌<◌}
 use native.Mathlib.Omega.{arith}
 use native.Mathlib.Nat.{suc-mul, mul-pos, le-div_iff_mul-le}
 use mathlib.Core.Path.{◌≡◌, refl, ap}
@@ -11,7 +11,7 @@ use Rattle.rules.specs.declared.Opening.{Opening}
 use Rattle.rules.specs.Bytes.{parts}
 use Rattle.rules.specs.Refusals.{none}
 use Rattle.rules.specs.Opening.{opening_fault}
-use Rattle.rules.specs.Pictures.{picture_size, picture_count, pictures, pixels}
+use Rattle.rules.specs.Pictures.{picture_size, picture_count, pictures}
 use Rattle.rules.specs.Seal.{reduced}
 use Rattle.luma_laws.proofs.Sizes.{good}
 
