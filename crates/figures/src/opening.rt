@@ -30,6 +30,7 @@ pub fn good_pid(pid: u32) -> bool
 }
 
 // The number of the opening's refusal, 0 for none.
+#[tactic(auto, unfolding(rules::specs::Opening::opening_fault))]
 pub fn opening_fault(o: Opening) -> u64
     ensures { OpeningFault o result }
 {

@@ -1,4 +1,6 @@
 // The index, each operation one of binary64 and rounded once.
+#![tactic(auto)]
+
 ghost use Rattle.std.specs.Prelude.{◌<◌, ◌^◌, ◌≡◌, not, T};
 ghost use mathlib.Core.Sigma.{_×_};
 ghost use Rattle.std.specs.Float.Ieee.{is_nan};

@@ -1,4 +1,6 @@
 // Reading ahead, for speed only: no figure goes by what these functions answer.
+#![tactic(auto)]
+
 ghost use Rattle.std.specs.Prelude.{◌≤◌};
 
 fn lesser(a: usize, b: usize) -> usize

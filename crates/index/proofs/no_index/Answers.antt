@@ -2,15 +2,11 @@
 use mathlib.Core.Path.{◌≡◌, refl}
 use lib.Ieee.{binary64, of_bits, of_int}
 use Rattle.rules.specs.Index.{float}
-use Rattle.index.proofs.no_index.Statement.{statement}
-use Rattle.index.proofs.no_index.Tie as tie
+use Rattle.index.proofs.no_index.Goals as goal
 
 zero : of_bits binary64 0 ≡ float 0
 unfolding of_bits of_int
 zero = refl
 
-returns : tie.Need-returns
+pub returns : goal.returns
 returns c = simp zero
-
-pub no-index-spec : {M : Type 1} → statement M
-no-index-spec = tie.close (tie.spec returns)
