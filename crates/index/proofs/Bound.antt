@@ -18,7 +18,7 @@ use lib.Ieee.Positive.{through, first_pos}
 use lib.Ieee.Bits.{cond_no}
 use Rattle.rules.proofs.Laws.Lists.{by-test}
 use Rattle.rules.specs.Index.{float, ic_of, ip_of, value_of, index_of}
-use Rattle.index.specs.Counts.{ExactCounts, NoNan}
+use Rattle.index.specs.Counts.{Counts, ExactCounts, NoNan}
 
 pub exact : {n : ℕ} → n ≤ 2 ^ 53 → T (in_float binary64 (pos n))
 unfolding in_float
@@ -154,6 +154,19 @@ lower (at_most {m = k} {e = d} q) = round_mono binary64 1 1 (1 * 1 * down d + k 
 real : {x : Float} {n : ℕ} → AtMost x n → T (not (is_nan x))
 unfolding is_nan
 real (at_most p) = tt
+
+-- counts that fit 32 bits are exact
+pub exact-counts : {unrepeated pictures packets lost : ℕ} → Counts unrepeated pictures packets lost →
+    ExactCounts unrepeated pictures packets lost
+exact-counts h =
+    record {
+      some_pictures = h.some_pictures;
+      of_them = h.of_them;
+      some_packets = h.some_packets;
+      few_pictures = omega (arith, h.few_pictures);
+      few_packets = omega (arith, h.few_packets);
+      few_lost = omega (arith, h.few_lost);
+    }
 
 module _ {unrepeated pictures packets lost : ℕ} (h : ExactCounts unrepeated pictures packets lost) where
   pub ic-at-most : AtMost (ic_of unrepeated pictures) 4

@@ -8,7 +8,7 @@ use borrow.Author.Tests.{le-leb, lt-leb}
 use Rattle.rules.specs.declared.Index.{Index}
 use Rattle.rules.specs.Index.{float, index_of}
 use Rattle.index.specs.Counts.{Counts, no_index, NoNan, IndexFrom}
-use Rattle.index.proofs.Bound.{no_nan}
+use Rattle.index.proofs.Bound.{exact-counts, no_nan}
 
 zero_number : T (not (is_nan (float 0)))
 unfolding of_int is_nan
@@ -33,7 +33,7 @@ module _ (u n p l : ℕ) (i : Index) where
       taken k e =
           record {
             is = rw (le-leb 1 n h₁, le-leb u n h₂, le-leb 1 p k.some_packets) e;
-            numbers = subst⁻¹ NoNan e (no_nan k);
+            numbers = subst⁻¹ NoNan e (no_nan (exact-counts k));
           }
 
 -- of counts that a sample can have it is the rule's

@@ -2,7 +2,6 @@
 #![tactic(auto)]
 
 ghost use Rattle.std.specs.Prelude.{◌<◌, ◌^◌, ◌≡◌, not, T};
-ghost use mathlib.Core.Sigma.{_×_};
 ghost use Rattle.std.specs.Float.Ieee.{is_nan};
 ghost use Rattle.rules.specs.Index.{index_of, index_bits};
 ghost use Rattle.index.specs.Counts.{no_index, IndexFrom};
@@ -23,7 +22,10 @@ fn no_index() -> Index
 // Ic = 4 × (unrepeated / N), Ip = cells / (cells + lost), index = 1 + (Ic × Ip). Below 2 ^ 52 each count, and the sum of
 // two, is exact as an f64.
 pub fn index_of_totals(unrepeated: u64, pictures: u64, packets: u64, lost: u64) -> Index
-    requires { (unrepeated < 2 ^ 52) × (pictures < 2 ^ 52) × (packets < 2 ^ 52) × (lost < 2 ^ 52) }
+    requires few_unrepeated { unrepeated < 2 ^ 52 }
+    requires few_pictures { pictures < 2 ^ 52 }
+    requires few_packets { packets < 2 ^ 52 }
+    requires few_lost { lost < 2 ^ 52 }
     ensures { result ≡ index_of unrepeated pictures packets lost }
 {
     let ic = 4.0 * (unrepeated as f64 / pictures as f64);

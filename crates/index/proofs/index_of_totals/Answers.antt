@@ -1,6 +1,5 @@
 -- `index_of_totals` meets its contract. Each count is below 2 ^ 52, so each cast loses nothing; what is returned is the
 -- rule, operation by operation.
--- the code's 4.0 and 1.0
 use native.Mathlib.Omega.{arith}
 use mathlib.Core.Path.{◌≡◌, refl}
 use lib.Ieee.{binary64, of_bits, of_int}
@@ -8,6 +7,7 @@ use Rattle.rules.specs.Index.{float, index_of, ic_of, ip_of, value_of}
 use Rattle.index.proofs.Bound.{exact}
 use Rattle.index.proofs.index_of_totals.Goals as goal
 
+-- the code's 4.0 and 1.0
 four : of_bits binary64 0x4010000000000000 ≡ float 4
 unfolding of_bits of_int
 four = refl
