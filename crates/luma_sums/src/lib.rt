@@ -1,4 +1,6 @@
 // Sums of blocks: what a run of a row adds to them, and what two rows add at once.
+#![tactic(auto)]
+
 ghost use Rattle.std.specs.Prelude.{◌≡◌, ◌+◌, ◌*◌, ◌/◌, ◌<◌, ◌≤◌, length};
 ghost use Rattle.rules.specs.Bytes.{total};
 ghost use Rattle.luma_sums.specs.Sums.{run, Added, Laid, Edged, Least, Part, Lined, Blocks, Both, Stacked};
