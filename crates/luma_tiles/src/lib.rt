@@ -1,5 +1,7 @@
 // The histograms of a reduced picture: 16 bins for each of nine tiles. Five pictures' counts, 144 each,
 // lie in one array, as a ring.
+#![tactic(auto)]
+
 ghost use Rattle.std.specs.Prelude.{◌≡◌, ◌+◌, ◌<◌, ◌≤◌, [], ◌∷◌, length};
 ghost use Rattle.rules.specs.Histograms.{bin};
 ghost use Rattle.luma_sums.specs.Sums.{run};
