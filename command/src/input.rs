@@ -97,19 +97,6 @@ impl Input {
         read.map(|_| ()).map_err(|error| Stop::file(&self.name, &error))
     }
 
-    /// Whether more than so many bytes still come; they are read to see it, and gone.
-    pub fn is_longer(&mut self, most: usize) -> Result<bool, Stop> {
-        let mut buffer = vec![0; 1 << 16];
-        let mut left = most;
-        loop {
-            match self.read(&mut buffer)?.len() {
-                0 => return Ok(false),
-                n if n > left => return Ok(true),
-                n => left -= n,
-            }
-        }
-    }
-
     /// All bytes, but no more than `most`.
     pub fn up_to(&mut self, most: usize) -> Result<Vec<u8>, Stop> {
         let mut bytes = Vec::new();

@@ -24,6 +24,13 @@ pub fn shown_bytes(bytes: &[u8]) -> String {
     out
 }
 
+/// A text of outside as a page names it: controls, and bytes that are no UTF-8, are replaced (U+FFFD) there, where no
+/// terminal reads them; what else would be hidden is given byte by byte.
+pub fn in_page(text: impl AsRef<OsStr>) -> String {
+    let replaced = |letter: char| if letter.is_control() { char::REPLACEMENT_CHARACTER } else { letter };
+    shown(text.as_ref().to_string_lossy().chars().map(replaced).collect::<String>())
+}
+
 /// A text of ours, in which texts of outside may be: the same of each line.
 pub fn lines(text: &str) -> String {
     text.split('\n').map(shown).collect::<Vec<_>>().join("\n")
@@ -61,6 +68,13 @@ mod tests {
             assert_eq!(shown(text), text);
             assert_eq!(shown(shown(text)), text);
         }
+    }
+
+    #[test]
+    fn names_in_pages() {
+        assert_eq!(in_page("two\nlines\x1b[31m"), "two\u{fffd}lines\u{fffd}[31m");
+        assert_eq!(in_page(OsStr::from_bytes(b"\xff\xfe.record")), "\u{fffd}\u{fffd}.record");
+        assert_eq!(in_page("\u{202e}gpj.exe"), r"\xe2\x80\xaegpj.exe");
     }
 
     #[test]

@@ -9,7 +9,7 @@ mod shelf;
 mod units;
 
 use crate::input::Input;
-use crate::outside::shown;
+use crate::outside::{in_page, shown};
 use crate::stop::Stop;
 use crate::words::Words;
 use crate::write::Target;
@@ -52,7 +52,8 @@ fn run(words: Vec<OsString>) -> Result<(), Stop> {
     let read = vec![(input.identity(), input.name().to_string())];
     let file = out.map(|out| Target::new(out, read)).transpose()?;
     let bytes = crate::shelf::read(&mut input)?;
-    let page = page(&bytes, input.name()).map_err(|stop| stop.of(input.name()))?;
+    let title = if name == "-" { input.name().to_string() } else { in_page(&name) };
+    let page = page(&bytes, &title).map_err(|stop| stop.of(input.name()))?;
     match file {
         Some(file) => file.write(page.as_bytes()),
         None => output::print(&page),
@@ -75,9 +76,9 @@ pub fn kind(bytes: &[u8]) -> Result<Kind<'_>, Stop> {
     match Shelf::read(bytes) {
         Ok(shelf) => Ok(Kind::Shelf(shelf)),
         Err(other) if other.number == 28 => Err(other.into()),
-        Err(_) if bytes.is_empty() => Err(Stop::refused(refusal, vec![explain::EMPTY.into()])),
         Err(other) => {
-            let mut found = vec![explain::mends(refusal.number).into(), format!("nor is it a shelf: {other}")];
+            let mends = if bytes.is_empty() { explain::EMPTY } else { explain::mends(refusal.number) };
+            let mut found = vec![mends.into(), format!("nor is it a shelf: {other}")];
             found.extend(crate::shelf::stopped(bytes));
             Err(Stop::refused(refusal, found))
         }

@@ -114,9 +114,8 @@ fn given(bytes: &[u8]) -> Result<Packets, String> {
     };
     let count = u32::from_le_bytes(*count);
     if rest.len() as u64 != PACKET as u64 * u64::from(count) {
-        let (come, packets) = (output::count(rest.len() as u64, "byte"), output::count(count.into(), "packet"));
-        let more = if bytes.len() == LONGEST { ", and more: the rest was not read" } else { "" };
-        return Err(format!("after a count of {packets} of {PACKET} bytes each come {come}{more}"));
+        let behind = rest.len();
+        return Err(format!("{behind} bytes or more stand behind a count of {count} packets of {PACKET} bytes"));
     }
     let mut packets = Packets::default();
     for packet in rest.chunks_exact(PACKET) {

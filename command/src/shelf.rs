@@ -7,7 +7,7 @@ use crate::show::{self, date::date};
 use crate::stop::Stop;
 use crate::words::{number_or_most, Words};
 use crate::write::{Lock, Over, Target};
-use crate::{explain, verify, Subcommand};
+use crate::{explain, Subcommand};
 use carolsedge::{
     shelf_part, shelf_write, Header, Record, Refusal, Shelf, RECORD_MOST, SHELF_MOST, SHELF_RECORDS_MOST,
 };
@@ -19,7 +19,7 @@ pub const SUBCOMMAND: Subcommand =
 
 const HELP: &str = "\
 usage: carolsedge shelf check FILE
-       carolsedge shelf make [--force] OUT RECORD..
+       carolsedge shelf make OUT RECORD..
        carolsedge shelf add FILE RECORD..
        carolsedge shelf take FILE J
        carolsedge shelf list FILE
@@ -28,11 +28,10 @@ A shelf is one file of at most 4,096 records, of any editions of the rules. Each
 of these tests the whole shelf and every record of it. FILE, or a RECORD, may be
 - for standard input.
 
-  check    prints how many records it holds and how many packets they lost,
-           records N lost TOTAL, and says which ones no seal leaves (status 1)
-  make     makes the shelf OUT of the records, in this order; prints the same.
-           OUT is new, or with --force a shelf, which is then replaced; how many
-           records it held is said. Any other file is left alone
+  check    prints how many records it holds and how many packets they lost:
+           records N lost TOTAL
+  make     makes the shelf OUT of the records, in this order; prints the same,
+           and says so where OUT held records, which are then gone
   add      puts the records after those that the shelf FILE holds; prints the
            same. The new shelf takes FILE's place once it is whole and checked.
            Runs that add to one shelf wait for each other
@@ -45,16 +44,13 @@ Exit status: 0 done, 1 refused, 2 wrong words or a file's error.
 ";
 
 fn run(words: Vec<OsString>) -> Result<(), Stop> {
-    let words = Words::part(words, &[], &["--force"])?;
+    let words = Words::part(words, &[], &[])?;
     let Some(what) = words.all().first() else {
         return Err(Stop::Usage("check, make, add, take or list is missing".into()));
     };
-    if words.has("--force") && what != "make" {
-        return Err(Stop::Usage("--force: make alone takes it".into()));
-    }
     match what.to_str() {
         Some("check") => check(&words.plain(&["", "FILE"], 0)?),
-        Some("make") => make(words.all(), words.has("--force")),
+        Some("make") => make(words.all()),
         Some("add") => add(words.all()),
         Some("take") => take(&words.plain(&["", "FILE", "J"], 0)?),
         Some("list") => list(&words.plain(&["", "FILE"], 0)?),
@@ -69,15 +65,7 @@ fn word(words: &[Option<OsString>], number: usize) -> &OsStr {
 
 fn check(words: &[Option<OsString>]) -> Result<(), Stop> {
     let file = Read::named(word(words, 1))?;
-    let shelf = file.shelf()?;
-    output::print(&totals(&shelf))?;
-    let lines = verify::not_sealed(&shelf, &file.name)?;
-    if lines.is_empty() {
-        return Ok(());
-    }
-    let lines: String = lines.iter().map(|line| format!("{WHO}: {line}\n")).collect();
-    output::say(&format!("{lines}{}\n", verify::FORGED));
-    Err(Stop::Said(1))
+    output::print(&totals(&file.shelf()?))
 }
 
 fn take(words: &[Option<OsString>]) -> Result<(), Stop> {
@@ -131,44 +119,27 @@ pub fn lines(bytes: &[u8], shelf: &Shelf) -> Result<Vec<Line>, Stop> {
     Ok(lines)
 }
 
-fn make(words: &[OsString], force: bool) -> Result<(), Stop> {
+fn make(words: &[OsString]) -> Result<(), Stop> {
     let (out, words) = named(words, "OUT")?;
     let name = shown(out);
     let target = Target::new(out, Vec::new())?;
-    if target.replaces() {
-        may_be_made_over(&Read::named(out)?, force)?;
-    }
     too_many(0, words.len()).map_err(|stop| stop.of(&name))?;
     let given = Given::read(words)?;
-    let old = target.replaces().then(|| Locked::shelf(out)).transpose()?.map(|old| (old.lock, old.records));
-    let over = old.as_ref().map_or(Over::Nothing, |(lock, _)| Over::Only(lock.identity()));
+    // A shelf that is replaced is locked, so that those who add to it wait; another file is replaced as it is.
+    let old = if target.replaces() { Locked::shelf(out).ok() } else { None };
+    let over = match (&old, target.replaces()) {
+        (Some(old), _) => Over::Only(old.lock.identity()),
+        (None, true) => Over::File,
+        (None, false) => Over::Nothing,
+    };
+    let held = old.as_ref().map_or(0, |old| old.records);
     let target = target.over(over, given.inputs.clone())?;
     let totals = put(target, Records::default(), given).map_err(|stop| stop.of(&name))?;
-    if let Some((_, records)) = old {
-        let held = count(records as u64, "record");
-        output::say(&format!("{WHO}: {name} held {held}, and is replaced\n"));
+    if held > 0 {
+        let records = count(held as u64, "record");
+        output::say(&format!("{WHO}: {name} held {records}, and is replaced\n"));
     }
     output::print(&totals)
-}
-
-/// Whether a new shelf may take the place of this file. Of one that is no shelf it is said what was probably meant.
-fn may_be_made_over(old: &Read, force: bool) -> Result<(), Stop> {
-    let name = &old.name;
-    let other = "Give OUT a name that is free, or remove that file first.".to_string();
-    let (what, meant) = match Shelf::read(&old.bytes) {
-        Ok(_) if force => return Ok(()),
-        Ok(shelf) => {
-            let add = format!("carolsedge shelf add {name} RECORD.. adds to it, and shelf make --force replaces it");
-            (format!("a shelf of {}", count(shelf.len() as u64, "record")), add)
-        }
-        Err(_) if Record::read(&old.bytes).is_ok() => {
-            let first = format!("OUT, the name of the new shelf, comes first: carolsedge shelf make OUT {name} ..");
-            ("a record, not a shelf".into(), first)
-        }
-        Err(_) if old.bytes.is_empty() => ("an empty file, not a shelf".into(), other),
-        Err(refusal) => (format!("not a shelf ({refusal})"), other),
-    };
-    Err(Stop::Failed(format!("{name}: it is {what}, and is left alone\n{meant}")))
 }
 
 fn add(words: &[OsString]) -> Result<(), Stop> {
@@ -180,12 +151,14 @@ fn add(words: &[OsString]) -> Result<(), Stop> {
         return Err(Stop::Failed(format!("{name}: No such file or directory\n{make}")));
     }
     too_many(0, words.len()).map_err(|stop| stop.of(&name))?;
+    // It is locked before the records come, so that no other file than this one is added to.
+    let lock = Lock::wait(Path::new(out), WHO)?;
     let given = Given::read(words)?;
-    let old = Locked::shelf(out)?;
+    let old = Locked::read(lock)?;
     too_many(old.records, given.inputs.len()).map_err(|stop| stop.of(&name))?;
     let target = target.over(Over::Only(old.lock.identity()), given.inputs.clone())?;
-    let records = Records::of(old.read)?;
-    output::print(&put(target, records, given).map_err(|stop| stop.of(&name))?)
+    let Locked { lock: _lock, read, .. } = old;
+    output::print(&put(target, Records::of(read)?, given).map_err(|stop| stop.of(&name))?)
 }
 
 /// Refusal 27 for more records than a shelf may hold, in words that say so: nothing is wrong with any of them.
@@ -225,7 +198,10 @@ struct Locked {
 
 impl Locked {
     fn shelf(word: &OsStr) -> Result<Locked, Stop> {
-        let lock = Lock::wait(Path::new(word), WHO)?;
+        Locked::read(Lock::wait(Path::new(word), WHO)?)
+    }
+
+    fn read(lock: Lock) -> Result<Locked, Stop> {
         let read = Read::all(&mut lock.input()?)?;
         let records = read.shelf()?.len();
         Ok(Locked { lock, read, records })
@@ -302,7 +278,6 @@ fn not_made(refusal: Refusal, first: usize, inputs: &[(Identity, String)], recor
     let j = refusal.place as usize;
     let input = j.checked_sub(first).and_then(|given| inputs.get(given));
     let found = match (input, records.record(j)) {
-        (Some((_, name)), Some([])) => Some(format!("record {j} is {name}, and that file is empty")),
         (Some((_, name)), Some(record)) => {
             Record::read(record).err().map(|why| format!("record {j} is {name}: {why}"))
         }
@@ -327,14 +302,7 @@ impl Read {
     }
 
     fn all(input: &mut Input) -> Result<Read, Stop> {
-        let (bytes, name) = (read(input)?, input.name().to_string());
-        match too_long(&bytes) {
-            // One that ends before the longest shelf would is not as long as it says: 27.
-            Some(why) if input.is_longer(SHELF_MOST - bytes.len().min(SHELF_MOST))? => {
-                Err(Stop::Failed(format!("{name}: {why}")))
-            }
-            _ => Ok(Read { bytes, name }),
-        }
+        Ok(Read { bytes: read(input)?, name: input.name().to_string() })
     }
 
     fn shelf(&self) -> Result<Shelf<'_>, Stop> {
@@ -355,19 +323,27 @@ impl Read {
     }
 }
 
-/// All bytes, but no more than it takes to see that they are too many.
+/// All bytes, but no more than it takes to see that they are too many. A shelf has as many as its word at 4 says, and
+/// no record has more than `RECORD_MOST`. With one more than both, each reader gives the refusal that all of them get.
+/// A head that says more records than a shelf may have is refused whatever comes after it.
 pub fn read(input: &mut Input) -> Result<Vec<u8>, Stop> {
+    let mut bytes = input.up_to(8)?;
+    let rest = (longest(&bytes) + 1).saturating_sub(bytes.len() as u64);
+    input.append(&mut bytes, rest)?;
+    Ok(bytes)
+}
+
+/// All bytes of a record or of a shelf, where it does not matter by which number others are refused: a head that says
+/// more bytes than a shelf has is enough.
+pub fn read_allowed(input: &mut Input) -> Result<Vec<u8>, Stop> {
     let mut bytes = input.up_to(8)?;
     read_on(input, &mut bytes)?;
     Ok(bytes)
 }
 
-/// The same behind the first bytes, 8 at least, or all that there are. A shelf has as many as its word at 4 says, and
-/// no record has more than `RECORD_MOST`. With one more than both, each reader gives the refusal that all of them get.
-/// A head that says more records than a shelf may have is refused whatever comes after it, and so is one that says
-/// more bytes, though by which number only all of them would show.
+/// The same behind the first bytes, 8 at least, or all that there are.
 pub fn read_on(input: &mut Input, bytes: &mut Vec<u8>) -> Result<(), Stop> {
-    let most = longest(bytes) + 1;
+    let most = if is_too_long(bytes) { RECORD_MOST as u64 } else { longest(bytes) } + 1;
     input.append(bytes, most.saturating_sub(bytes.len() as u64))
 }
 
@@ -380,30 +356,29 @@ fn said(bytes: &[u8]) -> (u64, u64) {
 /// How long a record or a shelf that begins so can be.
 fn longest(bytes: &[u8]) -> u64 {
     match said(bytes) {
-        (records, length) if records <= SHELF_RECORDS_MOST as u64 && length <= SHELF_MOST as u64 => {
-            length.max(RECORD_MOST as u64)
-        }
+        (records, length) if records <= SHELF_RECORDS_MOST as u64 => length.max(RECORD_MOST as u64),
         _ => RECORD_MOST as u64,
     }
 }
 
-/// What is said of bytes whose head says more of them than any shelf has.
-fn too_long(bytes: &[u8]) -> Option<String> {
-    let (records, length) = said(bytes);
-    let (all, most) = (grouped(length), grouped(SHELF_MOST as u64));
-    let why =
-        || format!("it says that it has {all} bytes, and no shelf has more than {most}: it was not read to its end");
-    (records <= SHELF_RECORDS_MOST as u64 && length > SHELF_MOST as u64).then(why)
+/// Whether a head says more bytes than any shelf has.
+fn is_too_long(bytes: &[u8]) -> bool {
+    said(bytes).1 > SHELF_MOST as u64
 }
 
 /// What is said of bytes that are no shelf, where there are more of them than were read.
 pub fn stopped(bytes: &[u8]) -> Option<String> {
     let (records, length) = said(bytes);
-    let (records, all, most) = (grouped(records), grouped(length), grouped(SHELF_RECORDS_MOST as u64));
-    let why = too_long(bytes).unwrap_or_else(|| match said(bytes).0 > SHELF_RECORDS_MOST as u64 {
-        true => format!("as a shelf it would have {records} records, and none has more than {most}"),
-        false => format!("as a shelf it would have {all} bytes, and there are more"),
-    });
+    let (records_most, most) = (grouped(SHELF_RECORDS_MOST as u64), grouped(SHELF_MOST as u64));
+    let (all, length) = (grouped(records), grouped(length));
+    let why = match records > SHELF_RECORDS_MOST as u64 {
+        true => format!("as a shelf it would have {all} records, and none has more than {records_most}"),
+        false if is_too_long(bytes) => {
+            format!("as a shelf it would have {length} bytes, and none has more than {most}")
+        }
+        false => format!("as a shelf it would have {length} bytes, and there are more"),
+    };
     let first = grouped(bytes.len() as u64);
-    (bytes.len() as u64 > longest(bytes)).then(|| format!("No more than its first {first} bytes were read: {why}."))
+    let over = bytes.len() as u64 > longest(bytes) || is_too_long(bytes) && bytes.len() == RECORD_MOST + 1;
+    over.then(|| format!("No more than its first {first} bytes were read: {why}."))
 }

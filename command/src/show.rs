@@ -8,8 +8,8 @@ use crate::input::Input;
 use crate::output::{self, count, grouped};
 use crate::stop::Stop;
 use crate::words::Words;
-use crate::{explain, shelf, verify, Subcommand};
-use carolsedge::{Header, Record, Refusal, Shelf, Verdict, RECORD_MOST};
+use crate::{explain, shelf, Subcommand};
+use carolsedge::{Header, Record, Refusal, Shelf, RECORD_MOST};
 use std::ffi::OsString;
 
 pub const SUBCOMMAND: Subcommand =
@@ -52,17 +52,12 @@ fn run(words: Vec<OsString>) -> Result<(), Stop> {
             _ => stop,
         }
     })?;
-    let verdict = record.verify()?;
     output::print(&match form {
         Some("--lines") => tables::lines(&record),
-        Some("--json") => tables::json(&record, &verdict),
+        Some("--json") => tables::json(&record),
         Some(_) => tables::csv(&record),
-        None => page::page(&record, &verdict, input.name()),
-    })?;
-    if let (Some("--lines" | "--csv"), Verdict::CouldNotBeSealed(_)) = (form, verdict) {
-        output::say(&format!("carolsedge show: {}: {}\n{}\n", input.name(), verify::said(&verdict), verify::FORGED));
-    }
-    Ok(())
+        None => page::page(&record, &record.verify()?, input.name()),
+    })
 }
 
 /// All bytes, but no more than it takes to see that they are too many for a record.

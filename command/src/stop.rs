@@ -120,7 +120,7 @@ fn say_refused(name: &str, refused: &Refused) -> u8 {
     let found = match (refused.found.is_empty(), refused.refusal) {
         (false, _) => refused.found.join("\n"),
         // A capture of no bytes.
-        (true, Refusal { number: 11, place: 0 }) => explain::EMPTY.to_string(),
+        (true, Refusal { number: 11, place: 0 }) => format!("{}\n{}", explain::EMPTY, explain::mends(11)),
         (true, refusal) => explain::mends(refusal.number).to_string(),
     };
     let what = match &refused.words {

@@ -68,7 +68,7 @@ struct Verified {
 
 fn verified(word: &OsStr) -> Result<Verified, Stop> {
     let mut input = Input::open(word)?;
-    let bytes = shelf::read(&mut input)?;
+    let bytes = shelf::read_allowed(&mut input)?;
     let name = input.name();
     let kind = page::kind(&bytes).map_err(|stop| stop.listed(name))?;
     let lines = match kind {

@@ -9,7 +9,7 @@ use crate::input::Identity;
 use crate::outside::shown;
 use crate::stop::{reason, Stop};
 use crate::system;
-use new_file::{nameless, NewFile, PRIVATE};
+use new_file::{nameless, some_room, NewFile, PRIVATE};
 use std::ffi::OsStr;
 use std::fs::{self, File, FileType, Metadata};
 use std::io::{self, ErrorKind, Write};
@@ -60,14 +60,15 @@ impl Target {
         target.with_room(0)
     }
 
-    /// Sees that there is room for so many bytes. Nothing is left of the attempt.
+    /// Sees that there is room for so many bytes, or for some of them where all may not be needed. Nothing is left of
+    /// the attempt.
     pub fn with_room(self, most: usize) -> Result<Target, Stop> {
         let room = vec![0; most];
         let done = match &self.nameless {
-            Some(file) => (&*file).write_all(&room),
+            Some(file) => some_room((&*file).write_all(&room), file),
             None => system::held(|| {
                 let mut file = NewFile::named(self.folder())?;
-                let filled = file.fill(&room);
+                let filled = file.room(&room);
                 filled.and(file.removed())
             }),
         };

@@ -79,17 +79,17 @@ def delayed(records):
 
 
 def replaced(records):
-    """make --force waits for adders as they do: its records are there, with those that were added afterwards."""
+    """make waits for adders as they do: its records are there, with those that were added afterwards."""
     for number in range(50):
         write("shelf", laid_out(records[:1]))
-        words = [PROGRAMS["carolsedge"], "shelf", "make", "--force", "shelf", "3.record"]
+        words = [PROGRAMS["carolsedge"], "shelf", "make", "shelf", "3.record"]
         runs = [adder("1.record"), subprocess.Popen(words, stdout=subprocess.PIPE, stderr=subprocess.PIPE)]
         runs.append(adder("2.record"))
         for run in runs:
-            ended(run, "make --force in round %d" % number)
+            ended(run, "make in round %d" % number)
         found = parts(read("shelf"))
         right = found[0] == records[3] and set(found[1:]) <= set(records[1:3])
-        check(right, "make --force in round %d: %d records" % (number, len(found)))
+        check(right, "make in round %d: %d records" % (number, len(found)))
 
 
 def locked(records):

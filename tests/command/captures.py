@@ -101,7 +101,7 @@ def broken():
     """What is no capture, or one cut short."""
     words = ["measure", "capture.pcap", "black.y", "-o", "record", *RAW]
     for name, data, line, said in (
-        ("nothing at all", b"", b"refused 11 0\n", "It is empty: "),
+        ("nothing at all", b"", b"refused 11 0\n", "cut short"),
         ("big-endian", b"\xa1\xb2\xc3\xd4" + WHOLE[4:], b"refused 5 3\n", "editcap -F pcap"),
         ("nanoseconds", b"\x4d\x3c\xb2\xa1" + WHOLE[4:], b"refused 5 3\n", "editcap -F pcap"),
         ("another link", WHOLE[:20] + b"\x71" + WHOLE[21:], b"refused 6 23\n", "not -i any"),

@@ -21,14 +21,14 @@ def ffmpeg_is(script, folder="stand-in"):
 
 
 def fails():
-    """Before the first picture: exit status 2 and what it said, never a refusal; but the capture's own come first."""
+    """It is ended before the first picture, or could not be run: exit status 2 and what it said; but the capture's own
+    refusals come first. What it says of a stream without pictures stands with refusal 14."""
     for name, script, said in (
         ("killed at once", "kill -KILL $$", "signal: 9 (SIGKILL)"),
         ("killed after its input", "cat >/dev/null; kill -SEGV $$", "signal: 11 (SIGSEGV)"),
         ("killed, and said why", "echo no memory >&2; kill -ABRT $$", "no memory (signal: 6 (SIGABRT))"),
         ("no library", "echo 'ffmpeg: error while loading shared libraries' >&2; exit 127", "shared libraries"),
         ("another exit status", "cat >/dev/null; exit 69", "exit status: 69"),
-        ("an old one", "echo \"[fatal] Unrecognized option 'autoscale'.\" >&2; exit 1", "Unrecognized option"),
         ("a heading and no picture", "cat >/dev/null; head -n 1 $HERE/whole; kill -KILL $$", "signal: 9 (SIGKILL)"),
     ):
         said = ["capture.pcap: ffmpeg failed before its first picture: ", said]
@@ -46,6 +46,9 @@ def fails():
     other = ["capture.pcap: the stream of PID 256: ffmpeg gave something else than a y4m stream"]
     for script in ("echo hello", "yes", "exec cat /dev/zero"):
         expect("no y4m stream", 2, b"", other, "measure", "capture.pcap", *OUT, **ffmpeg_is(script))
+    said = ["ffmpeg decoded no picture: ", "Unrecognized option"]
+    old = "echo \"[fatal] Unrecognized option 'autoscale'.\" >&2; exit 1"
+    expect("an old one", 1, b"refused 14 0\n", said, "measure", "capture.pcap", *OUT, **ffmpeg_is(old))
     for script in ("cat >/dev/null", "cat >/dev/null; head -n 1 $HERE/whole"):
         said = ["ffmpeg decoded no picture: exit status: 0"]
         expect("nothing, and well", 1, b"refused 14 0\n", said, "measure", "capture.pcap", *OUT, **ffmpeg_is(script))

@@ -141,7 +141,7 @@ SUBCOMMANDS = ["show", "verify", "sheet", "page", "shelf", "survey", "rtp", "los
                "help"]
 WORDS = [*SUBCOMMANDS, "check", "make", "add", "take", "list", "--help", "-h", "--version", "-V", "--", "-", "", "-o",
          "out", "--lines", "--json", "--csv", "--pid", "--size", "--time", "--rate", "--edition", "--passage",
-         "--decoder-timeout", "--port", "--ssrc", "--record", "--keys", "--force", "0", "1", "15", "16", "28", "29",
+         "--decoder-timeout", "--port", "--ssrc", "--record", "--keys", "0", "1", "15", "16", "28", "29",
          "256", "0x100", "30x30", "25/1", "0-2", "4294967295", "4294967296", "99999999999999999999", "-1", "1e3",
          *MAKERS]
 
@@ -267,8 +267,6 @@ def wrong(form, words, ended, out, err):
             return "nothing was said"
         if status == 2:
             return "it printed something" if out else None
-        if [word for word in words if word != b"--"][:2] == [b"shelf", b"check"] and ": not sealed: " in said:
-            return None if LINES["totals"].fullmatch(out.decode()) else "the totals of a shelf"
         return None if REFUSED.fullmatch(out.decode()) else "a refusal"
     except (ValueError, ArithmeticError, KeyError) as error:
         return "what it printed: %r" % error

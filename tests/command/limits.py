@@ -38,7 +38,7 @@ def endless():
                (["shelf", "check", "-"], 27, "its first 32,065 bytes were read"),
                (["shelf", "list", "-"], 27, "its first 32,065 bytes were read"),
                (["shelf", "take", "-", "0"], 27, "its first 32,065 bytes were read"),
-               (["rtp"], 25, "the rest was not read"), (["loss"], 22, "more than 9,004 bytes"),
+               (["rtp"], 25, "bytes or more stand behind"), (["loss"], 22, "more than 9,004 bytes"),
                (["loss", "--record", "-", "--keys", "/dev/null"], 17, "more than 32,064 bytes"),
                (["survey", "-"], 5, "refused 5"), (["rtp", "-", "--port", "1"], 5, "refused 5"),
                (["measure", "-", "a.record", "-o", "out", *RAW], 5, "refused 5")]
@@ -58,21 +58,22 @@ def endless():
 
 
 def sparse():
-    """Eight bytes that promise four gigabytes, and a hole after them: in a file and in a pipe."""
+    """Eight bytes that promise four gigabytes, and a hole after them. Where the number of the refusal asks for all of
+    them there is not enough memory, which is said."""
     most = 2**32 - 1
     for records, length, size in ((1, most, most), (4096, most, most), (0, most, most), (2, LONGEST + 1, LONGEST + 1),
                                   (1, most, 2**33), (most, most, most)):
         write("hole", struct.pack("<3I", records, length, 8 + 4 * records & 0xFFFFFFFF))
         os.truncate("hole", size)
         number = 17 if records == 0 or records > 4 else 18
-        for words in (["show", "hole"], ["show", "hole", "--csv"], ["sheet", "hole"], ["page", "hole"],
+        for words in (["show", "hole"], ["show", "hole", "--csv"], ["sheet", "hole"],
                       ["loss", "--record", "hole", "--keys", "/dev/null"]):
             quick("a hole", 1, b"refused %d 0\n" % number, ["bytes"], *words, **little(64 * MIB))
         quick("a hole", 1, b"hole: refused %d 0\n" % number, ["bytes"], "verify", "hole", **little(64 * MIB))
-        for words in (["check", "hole"], ["list", "hole"], ["take", "hole", "0"]):
-            status = 1 if records > 4096 else 2
-            quick("a hole", status, None, ["{:,} ".format(records if status == 1 else length)], "shelf", *words,
-                  **little(64 * MIB))
+        status, said = (1, "{:,} ".format(records)) if records > 4096 else (2, "there is not enough memory")
+        for words in (["page", "hole"], ["shelf", "check", "hole"], ["shelf", "list", "hole"],
+                      ["shelf", "take", "hole", "0"]):
+            quick("a hole", status, None, [said], *words, **little(64 * MIB))
     write("hole", struct.pack("<3I", 1, LONGEST, 12))
     os.truncate("hole", 2**32)
     for words, line in ((["show", "hole"], b"refused 18 0\n"), (["shelf", "check", "hole"], b"refused 27 0\n")):

@@ -13,10 +13,10 @@ from common import (NEWEST, ROOT, capture, carrying, check, counted, expect, pac
 from shelf import laid_out
 from show import DAMAGED, SAMPLE, figures, made
 
-VOID = {"meta", "br"}
+VOID = {"meta"}
 MARKS = {"html", "head", "meta", "title", "style", "body", "main", "footer", "nav", "section", "h1", "h2", "p", "a",
-         "b", "br", "code", "dl", "div", "dt", "dd", "q", "cite", "figure", "figcaption", "svg", "g", "rect", "line",
-         "text", "table", "caption", "thead", "tbody", "tr", "th", "td"}
+         "b", "code", "dl", "div", "dt", "dd", "q", "cite", "figure", "figcaption", "svg", "g", "rect", "line", "text",
+         "table", "caption", "thead", "tbody", "tr", "th", "td"}
 SPACE = 'xmlns="http://www.w3.org/2000/svg"'
 UNIT = ["least time, µs", "greatest time, µs", "bytes", "packets", "lost"]
 SCENE = ["first", "pictures", "repeated", "longest run", "cut scores, sum", "greatest", "changes, sum"]
@@ -236,9 +236,9 @@ def names():
         ("</title></style><img src=x onerror=y>", None),
         ("a&lt;b & \"c\" 'd'.record", None),
         ("Bühne — 7.record", None),
-        ("two\nlines\x1b[31m", r"two\x0alines\x1b[31m"),
-        ("\u202egpj.exe \u0085\u009b31m", r"\xe2\x80\xaegpj.exe \xc2\x85\xc2\x9b31m"),
-        (b"\xff\xfe.record", r"\xff\xfe.record"),
+        ("two\nlines\x1b[31m", "two\ufffdlines\ufffd[31m"),
+        (b"\xff\xfe.record", "\ufffd\ufffd.record"),
+        ("\u202egpj.exe \u0085\u009b31m", r"\xe2\x80\xaegpj.exe " + "\ufffd\ufffd31m"),
     ):
         os.makedirs(os.path.dirname(name) or ".", exist_ok=True)
         write(name, record)
@@ -250,7 +250,7 @@ def refused(records):
     bad = laid_out(records[:2] + [b"\x09" + records[2][1:]] + records[3:])
     whole, shelf = records[0], laid_out(records)
     for name, data, line, said in (
-        ("nothing", b"", b"refused 16 0\n", "It is empty: "),
+        ("nothing", b"", b"refused 16 0\n", "nor is it a shelf: refused 27"),
         ("63 bytes", whole[:63], b"refused 16 0\n", "cut short"),
         ("another edition", b"\x09" + whole[1:], b"refused 17 0\n", "nor is it a shelf: refused 27"),
         ("one byte short", whole[:-1], b"refused 18 0\n", "altered or cut"),

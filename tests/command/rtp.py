@@ -33,10 +33,10 @@ def listed():
         ("half a count", b"\1\0", "inside the count"),
         ("no packets", packets(), "1 to 4,096 packets"),
         ("4,097 packets", packets(*full, row), "1 to 4,096 packets"),
-        ("a byte short", packets(row)[:-1], "after a count of 1 packet of 14 bytes each come 13 bytes\n"),
-        ("a byte long", packets(row) + b"\0", "come 15 bytes\n"),
-        ("a count of one more", packets(row, count=2), "after a count of 2 packets"),
-        ("much too long", bytes(200000), "no packets of 14 bytes each come 57,359 bytes, and more: the rest was not"),
+        ("a byte short", packets(row)[:-1], "13 bytes or more stand behind a count of 1 packets"),
+        ("a byte long", packets(row) + b"\0", "15 bytes or more stand behind"),
+        ("a count of one more", packets(row, count=2), "behind a count of 2 packets"),
+        ("much too long", bytes(200000), "behind a count of 0 packets"),
     ):
         expect(name, 1, b"refused 25 0\n", ["carolsedge rtp: refused 25: ", said], "rtp", stdin=data)
 

@@ -34,10 +34,8 @@ def whole(records):
         os.remove("shelf")
     expect("make", 0, totals, [], "shelf", "make", "shelf", *names)
     check(read("shelf") == shelf, "the shelf is laid out otherwise")
-    # The figures are made up, so that no seal leaves these records; verify.py has sealed ones.
-    status, said = (1, ["[0]: not sealed: "]) if records else (0, [])
-    expect("check", status, totals, said, "shelf", "check", "shelf")
-    expect("check", status, totals, said, "shelf", "check", "-", stdin=shelf)
+    expect("check", 0, totals, [], "shelf", "check", "shelf")
+    expect("check", 0, totals, [], "shelf", "check", "-", stdin=shelf)
     for i, record in enumerate(records):
         expect("take", 0, record, [], "shelf", "take", "shelf", str(i))
     for j in (len(records), 4294967295, 4294967296, 2**64, 10**30):
@@ -82,97 +80,84 @@ def refused(records):
     write("good", records[0])
     write("bad", bad[2])
     write("empty", b"")
-    os.remove("shelf")
+    write("shelf", b"old")
     for name, line, said, words in (
         ("a bad record", b"refused 28 1\n", "record 1 is bad: refused 17: ", ["good", "bad", "bad"]),
-        ("an empty record", b"refused 28 0\n", "record 0 is empty, and that file is empty", ["empty", "good"]),
+        ("an empty record", b"refused 28 0\n", "record 0 is empty: refused 16: ", ["empty", "good"]),
+        ("4,097 records", b"refused 27 0\n", "at most 4,096", ["good"] * 4097),
         ("4,097 records", b"refused 27 0\n", "4,097 records are too many; a shelf holds at most", ["good"] * 4097),
         ("5,000 records", b"refused 27 0\n", "5,000 records are too many; a shelf holds at most", ["no"] * 5000),
     ):
         got = expect(name, 1, line, [said], "shelf", "make", "shelf", *words)
-        misled = "altered" in got[2] or "not laid out" in got[2]
-        check(not misled and not os.path.lexists("shelf"), "%s: said %s" % (name, got[2]))
+        check(read("shelf") == b"old", name + ": what stood there has changed")
+        check("4,096" not in said or not re.search("altered|not laid out", got[2]), "%s: said %s" % (name, got[2]))
     lost = b"records 4096 lost %d\n" % (4096 * lost_of(records[0]))
     expect("4,096 records", 0, lost, [], "shelf", "make", "shelf", *["good"] * 4096)
-    said = ["shelf[9]: not sealed: ", "shelf: 4,086 more; carolsedge verify names all\n"]
-    expect("4,096 records", 1, lost, said, "shelf", "check", "shelf")
-
-
-def left_alone(records):
-    """make goes over nothing, and over a shelf with --force; any other file stays, and what was meant is said."""
-    write("0.record", records[0])
-    first = "OUT, the name of the new shelf, comes first: carolsedge shelf make OUT old .."
-    other = "Give OUT a name that is free, or remove that file first."
-    for name, old, said in (
-        ("a record", records[1], ["old: it is a record, not a shelf, and is left alone\n", first]),
-        ("a byte more", laid_out(records) + b"\0", ["old: it is not a shelf (refused 27: ", other]),
-        ("a bad record in it", laid_out([b"\x09" + records[0][1:]]), ["old: it is not a shelf (refused 28: ", other]),
-        ("another file", b"old", ["old: it is not a shelf (refused 27: ", other]),
-        ("an empty file", b"", ["old: it is an empty file, not a shelf, and is left alone\n", other]),
-        ("a shelf", laid_out(records), ["old: it is a shelf of 7 records, and is left alone\n", "make --force "]),
-        ("a shelf of none", laid_out([]), ["old: it is a shelf of no records, and is left alone\n"]),
-    ):
-        for force in ([], ["--force"]):
-            for words in (["old", "0.record"], ["old"], ["old", "0.record", "nowhere"]):
-                write("old", old)
-                if not (force and name.startswith("a shelf")):
-                    expect(name, 2, b"", said, "shelf", "make", *force, *words)
-                    check(read("old") == old, name + ": it has changed")
-    for name in ("0.record", "old"):
-        os.remove(name)
+    expect("4,096 records", 0, lost, [], "shelf", "check", "shelf")
 
 
 def replaced(records):
-    """A shelf is replaced with --force alone, and it is said how many records are gone, once they are."""
+    """make goes over what stands there; that a shelf with records is gone is said, once it is."""
     write("0.record", records[0])
     one = b"records 1 lost %d\n" % lost_of(records[0])
-    for old, said in (([], "no records"), (records[:1], "1 record"), (records, "7 records")):
-        old, said = laid_out(old), ["carolsedge shelf: old held %s, and is replaced\n" % said]
+    for name, old, said in (
+        ("no records", laid_out([]), []),
+        ("a record", laid_out(records[:1]), ["carolsedge shelf: old held 1 record, and is replaced\n"]),
+        ("seven", laid_out(records), ["carolsedge shelf: old held 7 records, and is replaced\n"]),
+        ("a shelf that is none", laid_out(records) + b"\0", []),
+        ("another file", b"old", []),
+        ("an empty file", b"", []),
+    ):
         write("old", old)
-        expect("over " + said[0], 0, one, said, "shelf", "make", "--force", "old", "0.record")
-        check(read("old") == laid_out(records[:1]), "over %s: another shelf" % said[0])
+        expect(name, 0, one, said, "shelf", "make", "old", "0.record")
         write("old", old)
         os.chmod("old", 0o444)
-        expect("none over " + said[0], 0, b"records 0 lost 0\n", said, "shelf", "make", "old", "--force")
+        expect(name + ", for none", 0, b"records 0 lost 0\n", said, "shelf", "make", "old")
         os.chmod("old", 0o644)
         write("old", old)
-        words = ["shelf", "make", "--force", "old", "0.record", "/dev/null"]
-        got = expect("refused over " + said[0], 1, b"refused 28 1\n", None, *words)
-        check("is replaced" not in got[2] and read("old") == old, "a refused shelf: " + got[2])
+        got = expect(name + ", refused", 1, b"refused 28 1\n", None, "shelf", "make", "old", "0.record", "/dev/null")
+        check("is replaced" not in got[2] and read("old") == old, name + ": a refused shelf: " + got[2])
     os.remove("0.record")
     os.remove("old")
 
 
 def long():
-    """Files of zeros after the head of a shelf of one record. One that is as long as its head says is laid out as a
-    shelf: its record is refused. A byte more or less is no shelf; past the longest that there is nothing is read."""
+    """Files of zeros behind the head of a shelf of one record. One that is as long as its head says is laid out as a
+    shelf, however long it is: its record is refused. A byte more or less is no shelf; past 32 bits nothing is."""
     most = 8 + 4096 * (4 + 32064)  # the longest shelf that is accepted
     for said, length, line in (
         (most, most, b"refused 28 0\n"),
         (most, most - 1, b"refused 27 0\n"),
         (most, most + 1, b"refused 27 0\n"),
-        (most + 1, most + 1, b""),
         (most + 1, most, b"refused 27 0\n"),
+        (most + 1, most + 1, b"refused 28 0\n"),
+        (most + 1, most + 2, b"refused 27 0\n"),
+        (200000000, 199999999, b"refused 27 0\n"),
+        (200000000, 200000000, b"refused 28 0\n"),
+        (200000000, 200000001, b"refused 27 0\n"),
         (2**32 - 1, 40000, b"refused 27 0\n"),
-        (2**32 - 1, 2**32 - 1, b""),
         (12, 2**32 + 12, b"refused 27 0\n"),
         (0, 2**32, b"refused 27 0\n"),
     ):
         write("long", struct.pack("<3I", 1, said, 12))
         os.truncate("long", length)
         name = "%d bytes, %d by the head" % (length, said)
-        told = ["long: it says that it has {:,} bytes, and no shelf has more than 131,350,536".format(said)]
-        for words in (["check", "long"], ["take", "long", "1"], ["list", "long"], ["add", "long"]):
-            expect("%s, %s" % (name, words[0]), 1 if line else 2, line, None if line else told, "shelf", *words)
+        expect(name, 1, line, None, "shelf", "check", "long")
         expect(name + ", page", 1, line if b"28" in line else b"refused 18 0\n", None, "page", "long")
+        if length == said:
+            expect(name + ", take", 1, line, None, "shelf", "take", "long", "1")
+        if length <= most + 1:
+            for words in (["take", "long", "1"], ["list", "long"], ["add", "long"]):
+                expect("%s, %s" % (name, words[0]), 1, line, None, "shelf", *words)
     write("long", struct.pack("<3I", 4097, 2**32 - 1, 12))
     os.truncate("long", 2**32 - 1)
     little = {"preexec_fn": lambda: resource.setrlimit(resource.RLIMIT_AS, (2**29, 2**29))}
     expect("4,097 records by the head", 1, b"refused 27 0\n", None, "shelf", "check", "long", **little)
     expect("4,097 records by the head, page", 1, b"refused 17 0\n", None, "page", "long", **little)
     os.remove("long")
-    piped = struct.pack("<3I", 1, most, 12) + bytes(most - 12)
-    expect("a pipe", 1, b"refused 28 0\n", None, "shelf", "check", "-", stdin=piped)
+    for length in (most, most + 1):
+        piped = struct.pack("<3I", 1, length, 12) + bytes(length - 12)
+        expect("a pipe", 1, b"refused 28 0\n", None, "shelf", "check", "-", stdin=piped)
     expect("an endless file", 1, b"refused 27 0\n", None, "shelf", "check", "/dev/zero")
 
 
@@ -214,6 +199,7 @@ def added(records):
         ("a bad record", two, 1, b"refused 28 3\n", "record 3 is bad: refused 17: ", ["0.record", "bad"]),
         ("no shelf", two + b"\0", 1, b"refused 27 0\n", "refused 27: ", ["0.record"]),
         ("a bad one in it", laid_out([records[0], read("bad")]), 1, b"refused 28 1\n", "refused 28: ", ["0.record"]),
+        ("4,097 records", two, 1, b"refused 27 0\n", "at most 4,096", ["0.record"] * 4095),
         ("4,097 records", two, 1, b"refused 27 0\n",
          "with 4,095 records more it would hold 4,097; a shelf holds at most 4,096: shelf\n", ["0.record"] * 4095),
         ("5,000 records", two, 1, b"refused 27 0\n", "5,000 records are too many; a shelf holds", ["no"] * 5000),
@@ -242,23 +228,23 @@ def added(records):
 
 
 def meanwhile(records):
-    """What somebody else puts under the shelf's name while a record comes is added to, or left as it is."""
-    three = laid_out(records[:3])
-    for name, other, status, said, after in (
-        ("another shelf", three, 0, b"", laid_out(records[:3] + [records[1]])),
-        ("a file", b"other", 1, b"refused 27: the shelf is not laid out as one: shelf", b"other"),
-        ("nothing", None, 2, b"shelf: No such file or directory", None),
+    """A shelf that somebody else replaced while it was added to is left as it then is."""
+    for name, other, said in (
+        ("another shelf", laid_out(records[:3]), b"another file than the one that was read"),
+        ("a file", b"other", b"another file than the one that was read"),
+        ("nothing", None, b"shelf: No such file or directory"),
     ):
         write("shelf", laid_out(records[:1]))
         words = [PROGRAMS["carolsedge"], "shelf", "add", "shelf", "-"]
         run = subprocess.Popen(words, stdin=subprocess.PIPE, stdout=subprocess.PIPE, stderr=subprocess.PIPE)
         run.stdin.write(records[1][:1])
-        taken(run)
+        taken(run)  # which comes behind locking the shelf
         os.remove("shelf") if other is None else os.replace(write("other", other), "shelf")
-        _, err = run.communicate(records[1][1:], timeout=20)
-        check(run.returncode == status and said in err, "%s: %d %r" % (name, run.returncode, err))
-        check((read("shelf") if os.path.lexists("shelf") else None) == after, name + ": another shelf")
+        out, err = run.communicate(records[1][1:], timeout=20)
+        check((run.returncode, out) == (2, b"") and said in err, "%s: %d %r %r" % (name, run.returncode, out, err))
+        check((read("shelf") if other else os.path.lexists("shelf")) == (other or False), name + ": it was replaced")
         expect.count += 1
+    three = laid_out(records[:3])
     write("shelf", laid_out([]))
     os.remove("shelf")
     words = [PROGRAMS["carolsedge"], "shelf", "make", "shelf", "-"]
@@ -273,7 +259,7 @@ def meanwhile(records):
 
 
 def empty_files():
-    """An empty file is said to be empty, not cut short or altered, whatever it should have been."""
+    """An empty file is said to be empty, whatever it should have been; a record or a shelf not cut short or altered."""
     write("empty", b"")
     raw = ["--size", "64x48", "--time", "40000", "--pid", "256", "-o", "new"]
     for line, *words in (
@@ -285,7 +271,8 @@ def empty_files():
         (b"refused 11 0\n", "measure", "empty", "good", *raw),
     ):
         got = expect("an empty file", 1, line, ["\nIt is empty: "], *words)
-        check(not re.search("cut|altered|no record", got[2]), "an empty file: %s: %s" % (words, got[2]))
+        misled = re.search("cut|altered|no record", got[2])
+        check(not misled or line == b"refused 11 0\n", "an empty file: %s: %s" % (words, got[2]))
 
 
 def wrong_words():
@@ -303,8 +290,7 @@ def wrong_words():
         ("standard input twice", "-: standard input is one RECORD", "make", "new", "-", "-"),
         ("no file", "nowhere: No such file or directory", "check", "nowhere"),
         ("no record", "nowhere: No such file or directory", "make", "new", "good", "nowhere"),
-        ("a record's own name", "good: it is a record, not a shelf, and is left alone", "make", "good", "good"),
-        ("force for another", "--force: make alone takes it", "add", "--force", "shelf", "good"),
+        ("a record's own name", "good: it is the same file as good", "make", "good", "good"),
         ("a folder", "it is a folder, and is left alone", "make", ".", "good"),
     ):
         expect(name, 2, b"", [said], "shelf", *words)
@@ -318,7 +304,6 @@ def test():
     whole([])
     added(records)
     refused(records)
-    left_alone(records)
     replaced(records)
     long()
     largest()

@@ -48,8 +48,6 @@ def same_json(name, text, sample, unit, scene):
     value = struct.unpack("<d", struct.pack("<Q", bits))[0]
     check(index == (value if math.isfinite(value) else None), "%s: index %s" % (name, index))
     check((got.pop("units"), got.pop("scenes")) == (unit, scene), name + ": other rows in JSON")
-    verdict = [got.pop(key, None) for key in ("reached", "not_sealed")]  # verify.py has their cases
-    check(verdict.count(None) == 1, "%s: verdicts in JSON: %s" % (name, verdict))
     check(got == sample, name + ": another sample in JSON")
 
 
@@ -102,17 +100,16 @@ def on_page(name, text, sample, unit, scene):
         check(words[0] == str(j) and words[3:] == [str(row[key]) for key in SCENE], "%s: page: %s" % (name, words))
 
 
-def every_form(name, record, said=[]):
-    """Each form; `said` is what standard error has of a record that no seal leaves."""
+def every_form(name, record):
     write("record", record)
     lines = run(program="show", stdin=record)[1]
-    expect(name, 0, lines, said, "show", "--lines", "record")
-    expect(name, 0, lines, said, "show", "-", "--lines", stdin=record)
+    expect(name, 0, lines, [], "show", "--lines", "record")
+    expect(name, 0, lines, [], "show", "-", "--lines", stdin=record)
     sample, unit, scene = figures(lines)
     unit = [dict(row, damaged=struct.unpack_from("<I", record, 64 + 32 * j + 28)[0]) for j, row in enumerate(unit)]
     told = dict(sample, edition=record[0]), unit, scene
     same_json(name, expect(name, 0, None, [], "show", "record", "--json")[1], *told)
-    same_csv(name, expect(name, 0, None, said, "show", "record", "--csv")[1], *told)
+    same_csv(name, expect(name, 0, None, [], "show", "record", "--csv")[1], *told)
     on_page(name, expect(name, 0, None, [], "show", "record")[1], *told)
 
 
@@ -165,8 +162,8 @@ def test():
         for edition in range(1, NEWEST + 1):
             every_form(name, proved(*opening, stream(name, ".pcap"), stream(name, ".y"), edition)[0])
     for seed in range(20):
-        every_form("seed %d" % seed, made(random.Random(seed), edition=1 + seed % NEWEST), ["not sealed: "])
+        every_form("seed %d" % seed, made(random.Random(seed), edition=1 + seed % NEWEST))
     for bits in (0, 1, 0x7FF << 52, 0xFFF << 52, 0x7FF8000000000001, 1 << 63, 0x4013D70A3D70A3D7, (0x7FF << 52) - 1):
-        every_form("bits %X" % bits, made(random.Random(9), bits), ["not sealed: "])
+        every_form("bits %X" % bits, made(random.Random(9), bits))
     broken()
     return "show: %d runs: the proved program's lines, and every figure on the page, in JSON and in CSV" % counted()

@@ -29,7 +29,7 @@ def full(cap, luma):
     """A disk without room: the record that stood there stays, and nothing else is left."""
     words = ["measure", cap, luma, "-o", "disk/record", *RAW]
     os.mkdir("disk")
-    mount = ["mount", "-t", "tmpfs", "-o", "size=64k", "tmpfs", "disk"]
+    mount = ["mount", "-t", "tmpfs", "-o", "size=16k", "tmpfs", "disk"]
     if subprocess.run(mount, capture_output=True).returncode != 0:
         return "no small disk could be mounted"
     try:

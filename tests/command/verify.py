@@ -1,6 +1,5 @@
 # verify: the sum of every sealed record, the same wherever it is printed; each mark that a forged one lacks, in the
 # same words from Python; shelves, exit statuses, and the documents' examples.
-import json
 import os
 import re
 import shutil
@@ -61,9 +60,6 @@ def sealed(name, record):
     page = expect(name, 0, None, [], "show", "record")[1].decode()
     check(page.startswith("Record record\n\nSample\n"), name + ": show begins with " + page[:300])
     check("  reached   %s\n" % said in page, name + ": show has another sum")
-    told = json.loads(expect(name, 0, None, [], "show", "record", "--json")[1])
-    parts = {"unrepeated": f, "pictures": n, "packets": p, "lost": l, "ic": ic, "ip": ip, "index": index}
-    check(told["reached"] == parts and "not_sealed" not in told, "%s: JSON: %s" % (name, told["reached"]))
     page = expect(name, 0, None, [], "page", "record")[1].decode()
     check('<b id="sum">%s</b>' % said in page and 'id="forged"' not in page, name + ": page")
     check(page.index('id="sum"') < page.index('id="sample"'), name + ": the page does not begin with the sum")
@@ -109,19 +105,14 @@ def lacking(mark, record):
         carolsedge.verify(record)
         check(False, name + ": Python says that it could have been sealed")
     except carolsedge.NotSealed as no:
-        python, figures = str(no).replace("nan", "NaN"), {"mark": no.mark, "row": no.row}
-        bits = ["%016X" % figure if mark == 16 else figure for figure in (no.found, no.limit)]
+        python, found = str(no).replace("nan", "NaN"), no.mark
     write("forged", record)
     expect(name, 1, b"forged: %s\n" % python.encode(), [], "verify", "forged")
-    check(figures["mark"] == mark, "%s: Python says %s" % (name, python))
-    words = python.replace("not sealed: ", "")
+    check(found == mark, "%s: Python says %s" % (name, python))
     top = "Record forged\n\nThis record is %s.\n%s\n\nSample\n" % (python, FORGED)
     check(expect(name, 0, None, [], "show", "forged")[1].decode().startswith(top), name + ": show does not begin so")
-    told = json.loads(expect(name, 0, None, [], "show", "forged", "--json")[1])
-    wanted = dict(figures, found=bits[0], limit=bits[1], words=words)
-    check(told.get("not_sealed") == wanted and "reached" not in told, "%s: JSON: %s" % (name, told.get("not_sealed")))
-    for form in ("--lines", "--csv"):
-        expect(name, 0, None, ["carolsedge show: forged: %s\n%s\n" % (python, FORGED)], "show", "forged", form)
+    for form in ("--lines", "--json", "--csv"):
+        expect(name, 0, None, [], "show", "forged", form)
     page = expect(name, 0, None, [], "page", "forged")[1].decode()
     escaped = python.replace("'", "&#39;")
     top = '<h1>Record forged</h1>\n<p class="forged" id="forged">This record is %s. %s</p>\n' % (escaped, FORGED)
@@ -141,8 +132,7 @@ def shelves(hand, other):
     expect("a shelf, piped", 1, lines.replace(b"shelf[", b"standard input["), [], "verify", "-", stdin=read("shelf"))
     expect("a record and a shelf", 1, b"good: " + one + lines + b"good: " + one, [], "verify", "good", "shelf", "good")
     totals = b"records 3 lost %d\n" % (2 * sum_of(hand)[3] + sum_of(other)[3])
-    told = ["carolsedge shelf: shelf[1]: %s" % said.decode(), FORGED]
-    expect("shelf check", 1, totals, told, "shelf", "check", "shelf")
+    expect("shelf check", 0, totals, [], "shelf", "check", "shelf")
     page = expect("a shelf's page", 0, None, [], "page", "shelf")[1].decode()
     check("<h1>Shelf shelf</h1>\n<p class=\"forged\" id=\"forged\">shelf[1]: not sealed: " in page, "a shelf's page")
     write("shelf", laid_out([hand, other]))
@@ -152,9 +142,10 @@ def shelves(hand, other):
     write("shelf", laid_out([]))
     expect("an empty shelf", 0, b"shelf: a shelf without records\n", [], "verify", "shelf")
     write("shelf", laid_out([false] * 12))
-    more = "carolsedge shelf: shelf: 2 more; carolsedge verify names all\n"
-    got = expect("twelve false records", 1, None, [more, FORGED], "shelf", "check", "shelf")
-    check(got[2].count("not sealed: ") == 10, "twelve false records: " + got[2])
+    page = expect("twelve false records", 0, None, [], "page", "shelf")[1].decode()
+    named = "shelf: 2 more; carolsedge verify names all" in page and FORGED in page
+    check(named, "twelve false records: " + page[:3000])
+    check(page.count("not sealed: ") == 10, "twelve false records: " + page[:3000])
     check(run("verify", "shelf")[1].count(b"not sealed: ") == 12, "verify does not name all")
 
 

@@ -84,7 +84,7 @@ def writers(folder="."):
     yield ["measure", "capture.pcap", "luma.y", "-o", place, *RAW], place, old
     yield ["page", "0.record", "-o", place], place, old
     yield ["shelf", "add", place, "1.record"], place, shelf
-    yield ["shelf", "make", "--force", place, "1.record"], place, shelf
+    yield ["shelf", "make", place, "1.record"], place, shelf
 
 
 def hidden(folder="."):

@@ -8,8 +8,8 @@
 //!                                                `AGAIN VERB` beside OURS
 //!
 //! AGAIN is the independent program, which also makes the inputs. VERB and OURS may have arguments, parted by spaces
-//! (`rtp-into 96`, for one); when OURS prints a refusal and nothing else, or the totals of a shelf, it may end with
-//! status 1. Two threads run at once. The last lines say how much was compared and how often each refusal was given; the exit status is 1
+//! (`rtp-into 96`, for one); when OURS prints a refusal and nothing else, it may end with status 1. Two threads
+//! run at once. The last lines say how much was compared and how often each refusal was given; the exit status is 1
 //! if any output differs.
 #![forbid(unsafe_code)]
 
@@ -102,8 +102,7 @@ fn output(program: &str, arguments: &[&str], input: &[u8]) -> io::Result<Vec<u8>
         scope.spawn(move || pipe.write_all(input));
         child.wait_with_output()
     })?;
-    let printed = |start: &[u8]| result.stdout.starts_with(start);
-    let refused = result.status.code() == Some(1) && (printed(b"refused ") || printed(b"records "));
+    let refused = result.status.code() == Some(1) && result.stdout.starts_with(b"refused ");
     if !result.status.success() && !refused {
         return Err(io::Error::other(format!("{program} ended with {}", result.status)));
     }

@@ -28,6 +28,9 @@ const STEP: Duration = Duration::from_millis(1);
 const STACK: usize = 1 << 18;
 const ROOM: usize = 1 << 23;
 
+/// Exit statuses that say nothing of the stream: ffmpeg gave up, and a shell's of what cannot be run.
+const BROKEN: [i32; 3] = [69, 126, 127];
+
 /// Width and height.
 type Size = (u32, u32);
 
@@ -56,6 +59,8 @@ struct Said {
 /// How ffmpeg ended.
 pub struct Ended {
     pub well: bool,
+    /// Whether it says nothing of the stream: a signal ended it, it could not be run, or it gave up.
+    pub broken: bool,
     /// What it said, or its exit status.
     pub why: String,
     /// Two sizes of pictures, where there were two.
@@ -105,7 +110,8 @@ impl Decoder {
         }
         let said = std::mem::take(&mut *self.said.lock().unwrap_or_else(PoisonError::into_inner));
         let sizes = said.size.zip(said.another);
-        Ok(told.map(|()| Ended { well: status.success(), why: why(status, said), sizes }))
+        let broken = status.signal().is_some() || status.code().is_some_and(|code| BROKEN.contains(&code));
+        Ok(told.map(|()| Ended { well: status.success(), broken, why: why(status, said), sizes }))
     }
 }
 

@@ -264,14 +264,15 @@ impl Stream<'_> {
     /// pictures is kept; a failure after the first picture means that some may be missing.
     fn measured(mut self, walk: Walk, ended: Option<Ended>) -> Result<Measured, Stop> {
         let (mut doubts, mut failed) = (Vec::new(), None);
-        let Ended { well, why, sizes } = ended.unwrap_or(Ended { well: true, why: String::new(), sizes: None });
+        let ours = Ended { well: true, broken: false, why: String::new(), sizes: None };
+        let Ended { well, broken, why, sizes } = ended.unwrap_or(ours);
         match sizes {
             Some(((w, h), (width, height))) => {
                 let mends = "measure each part by itself (editcap -F pcap -A START -B END IN OUT)";
                 let sizes = format!("its pictures change from {w}x{h} to {width}x{height}");
                 return Err(self.failed(&format!("{sizes}, and one size is measured: {mends}")));
             }
-            _ if self.luma == 0 && well => doubts.push(format!("ffmpeg decoded no picture: {why}")),
+            _ if self.luma == 0 && !broken => doubts.push(format!("ffmpeg decoded no picture: {why}")),
             _ if self.luma == 0 => {
                 failed = Some(format!("{}: ffmpeg failed before its first picture: {why}", self.name))
             }

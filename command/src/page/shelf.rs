@@ -27,8 +27,9 @@ fn forged(shelf: &Shelf, name: &str) -> Result<String, Refusal> {
     if lines.is_empty() {
         return Ok(String::new());
     }
-    let lines: String = lines.iter().map(|line| format!("{}.<br>\n", escaped(line))).collect();
-    Ok(format!("<p class=\"forged\" id=\"forged\">{lines}{}</p>\n", verify::FORGED))
+    let lines: Vec<_> = lines.iter().map(|line| format!("{}.", escaped(line))).collect();
+    let lines = lines.join("</p>\n<p class=\"forged\">");
+    Ok(format!("<p class=\"forged\" id=\"forged\">{lines}</p>\n<p class=\"forged\">{}</p>\n", verify::FORGED))
 }
 
 fn totals(shelf: &Shelf) -> String {

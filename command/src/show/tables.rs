@@ -1,5 +1,5 @@
 //! Every figure of a record: as the program `show` prints them, as JSON, and as CSV.
-use carolsedge::{Header, Mark, Missing, Reached, Record, Scene, Unit, Verdict};
+use carolsedge::{Header, Record, Scene, Unit};
 
 const SAMPLE: [&str; 9] = ["width", "height", "time", "pid", "pictures", "frames", "skipped", "bad", "index_bits"];
 const UNIT: [&str; 6] = ["least", "greatest", "size", "packets", "lost", "damaged"];
@@ -76,30 +76,7 @@ fn objects<T: ToString>(names: &[&str], rows: impl Iterator<Item = Vec<T>>) -> S
     all.collect::<Vec<_>>().join(",\n")
 }
 
-/// The sum's parts, or the mark that is missing; of the index that is not reached the bits, as `index_bits` has them.
-fn verdict(verdict: &Verdict) -> String {
-    match verdict {
-        Verdict::CouldBeSealed(Reached { unrepeated, pictures, packets, lost, index }) => format!(
-            "\"reached\": {{\"unrepeated\": {unrepeated}, \"pictures\": {pictures}, \"packets\": {packets}, \
-             \"lost\": {lost}, \"ic\": {:?}, \"ip\": {:?}, \"index\": {:?}}}",
-            index.ic, index.ip, index.value
-        ),
-        Verdict::CouldNotBeSealed(missing) => {
-            let Missing { mark, row, found, limit } = missing;
-            let [found, limit] = [found, limit].map(|figure| match mark {
-                Mark::Index => format!("\"{figure:016X}\""),
-                _ => figure.to_string(),
-            });
-            let (number, words) = (mark.number(), missing.to_string());
-            format!(
-                "\"not_sealed\": {{\"mark\": {number}, \"row\": {row}, \"found\": {found}, \"limit\": {limit}, \
-                 \"words\": \"{words}\"}}"
-            )
-        }
-    }
-}
-
-pub fn json(record: &Record, said: &Verdict) -> String {
+pub fn json(record: &Record) -> String {
     let h = record.header();
     let index = match h.index.is_finite() {
         true => format!("{:?}", h.index),
@@ -109,10 +86,9 @@ pub fn json(record: &Record, said: &Verdict) -> String {
     let units = objects(&UNIT, record.units().map(|row| unit(row).to_vec()));
     let scenes = objects(&SCENE, record.scenes().map(|row| scene(row).to_vec()));
     format!(
-        "{{\n  \"edition\": {}, {sample},\n  \"index\": {index}, \"index_bits\": \"{}\",\n  {},\n  \
+        "{{\n  \"edition\": {}, {sample},\n  \"index\": {index}, \"index_bits\": \"{}\",\n  \
          \"units\": [\n{units}\n  ],\n  \"scenes\": [\n{scenes}\n  ]\n}}\n",
         h.edition,
-        bits(&h),
-        verdict(said)
+        bits(&h)
     )
 }

@@ -23,6 +23,14 @@ pub fn nameless(folder: &Path) -> io::Result<Option<File>> {
     }
 }
 
+/// A disk that is full once some bytes were written had room for some; one that takes none has none.
+pub fn some_room(done: io::Result<()>, file: &File) -> io::Result<()> {
+    match done {
+        Err(error) if error.kind() == ErrorKind::StorageFull && file.metadata()?.len() > 0 => Ok(()),
+        done => done,
+    }
+}
+
 pub struct NewFile {
     file: File,
     folder: PathBuf,
@@ -48,6 +56,12 @@ impl NewFile {
             let kept = |error| io::Error::other(format!("{} cannot be removed again: {error}", shown(&name)));
             fs::remove_file(&name).map_err(kept)
         })
+    }
+
+    /// Sees that there is room for the bytes, or for some of them.
+    pub fn room(&mut self, bytes: &[u8]) -> io::Result<()> {
+        let done = self.file.write_all(bytes);
+        some_room(done, &self.file)
     }
 
     /// Writes all bytes.
