@@ -9,7 +9,8 @@ use mathlib.Core.Path.{◌≡◌, refl, sym, ap, ◌∙◌, subst}
 use mathlib.Core.Bool.{Bool, true, false, not, cond, ◌&&◌, ◌||◌, true≢false}
 use lib.IntN.{ℤ, pos}
 use lib.Dec.{T, ltb, eqb, ltb→lt, eqb→eq, le→leb, lit≤}
-use lib.Ieee.{Float, nan, inf, fin, binary64, up, down, odd, units, round, of_int, in_float, is_nan, add, mul, div, le}
+use lib.Ieee.{Float, nan, inf, fin, binary64, up, down, odd, units, round, of_int, in_float, is_nan, add, mul, div}
+use lib.Ieee.{le}
 use lib.Ieee.Fits.{round_is, down_pos, up_pos, and_l}
 use lib.Ieee.Exact.{HasValue, odd_sign}
 use lib.Ieee.Order.{round_mono, le_of_values, drop, kept}

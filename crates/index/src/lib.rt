@@ -19,8 +19,8 @@ fn no_index() -> Index
     }
 }
 
-// Ic = 4 × (unrepeated / N), Ip = cells / (cells + lost), index = 1 + (Ic × Ip). Below 2 ^ 52 each count, and the sum of
-// two, is exact as an f64.
+// Ic = 4 × (unrepeated / N), Ip = cells / (cells + lost), index = 1 + (Ic × Ip). Below 2 ^ 52 each count, and the sum
+// of two, is exact as an f64.
 pub fn index_of_totals(unrepeated: u64, pictures: u64, packets: u64, lost: u64) -> Index
     requires few_unrepeated { unrepeated < 2 ^ 52 }
     requires few_pictures { pictures < 2 ^ 52 }

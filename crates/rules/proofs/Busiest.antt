@@ -51,7 +51,7 @@ busiest =
 
 -- the theorem: every entry's rule gives what document 02 says
 pub worked : map (λ (c : Case). c.rule) busiest ≡ map (λ (c : Case). c.paper) busiest
-unfolding busiest table end_to_end good_size good_time no_picture over reaching_from least_between most_scenes most_fault
-    most_answer tone shade busiest_luma busiest_fault busiest_part busiest_answer busiest_piece all_digits
+unfolding busiest table end_to_end good_size good_time no_picture over reaching_from least_between most_scenes
+    most_fault most_answer tone shade busiest_luma busiest_fault busiest_part busiest_answer busiest_piece all_digits
     with_digits argument_of
 worked = refl

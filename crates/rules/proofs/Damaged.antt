@@ -61,7 +61,8 @@ rows_by e = end_to_end (map unit_bytes (units (by e) rooftop)) ++ bad_count (by 
 -- what is lost and what is damaged, of counters 3, 9 and 11, the second in a damaged packet with an indicator
 lost_by : ℕ → List ℕ
 lost_by e = end_to_end (map (λ u. u.lost ∷ u.damaged ∷ [])
-    (units (by e) (good_header ++ frame_with 0 0 3 (packet_of 256 0x40 3 ++ broken_splice 256 9 ++ packet_of 256 0 11))))
+    (units (by e) (good_header
+    ++ frame_with 0 0 3 (packet_of 256 0x40 3 ++ broken_splice 256 9 ++ packet_of 256 0 11))))
 
 -- a capture with damaged packets of PID alone: its units and bad cells
 only_broken : ℕ → List ℕ
@@ -110,12 +111,13 @@ broken =
 
 -- the theorem: every entry's rule gives what document 02 says
 pub set_apart_lem : map (λ (c : Case). c.rule) broken ≡ map (λ (c : Case). c.paper) broken
-unfolding broken rooftop rows_by lost_by only_broken read_by words show_record word32 word64 network16
-    bytes_of total greatest_of least_of count only table end_to_end is_edition heeds_splices knows_damage good_size good_time
-    good_pid opening_fault seconds microseconds stored_length frame_time body frame_size frames_up_to rest_up_to frames rest
-    behind_header ip_length udp_length carries packets_from packets_in packets_of packets shown whole starts_cell damage_mark
-    condition identifier is_wanted start_mark counter splice_mark wanted_of bad_of gap_loss set_apart loss_between
-    arrivals_after arrivals before_units groups cells_of least_time unit_of units_of beginnings whole_frames unfinished
-    all_frames whole_wanted shown_wanted units bad_count too_many_units record_length scene_offset unit_bytes allowed_header
-    allowed_unit allowed_units allowed_scene allowed_scenes allowed_rows allowed reading_fault no_packet
+unfolding broken rooftop rows_by lost_by only_broken read_by words show_record word32 word64 network16 bytes_of total
+    greatest_of least_of count only table end_to_end is_edition heeds_splices knows_damage good_size good_time
+    good_pid opening_fault seconds microseconds stored_length frame_time body frame_size frames_up_to rest_up_to
+    frames rest behind_header ip_length udp_length carries packets_from packets_in packets_of packets shown whole
+    starts_cell damage_mark condition identifier is_wanted start_mark counter splice_mark wanted_of bad_of gap_loss
+    set_apart loss_between arrivals_after arrivals before_units groups cells_of least_time unit_of units_of beginnings
+    whole_frames unfinished all_frames whole_wanted shown_wanted units bad_count too_many_units record_length
+    scene_offset unit_bytes allowed_header allowed_unit allowed_units allowed_scene allowed_scenes allowed_rows
+    allowed reading_fault no_packet
 set_apart_lem = refl

@@ -39,6 +39,6 @@ counted =
 
 -- the theorem: every entry's rule gives what document 02 says
 pub runs-counted : map (λ (c : Case). c.rule) counted ≡ map (λ (c : Case). c.paper) counted
-unfolding counted gap_lost lost_in gaps runs runs_losing gap_table gap_fault gap_answer table_after gap_loss no_room over total
-    count table end_to_end
+unfolding counted gap_lost lost_in gaps runs runs_losing gap_table gap_fault gap_answer table_after gap_loss no_room
+    over total count table end_to_end
 runs-counted = refl

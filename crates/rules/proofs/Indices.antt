@@ -76,14 +76,15 @@ indices =
 
 -- the theorem: every entry's rule gives what document 02 says
 pub answered : map (λ (c : Case). c.rule) indices ≡ map (λ (c : Case). c.paper) indices
-unfolding cut run one_frame picture indices open_answer word32 network16 bytes_of total greatest_of least_of count only
-    table parts end_to_end is_edition heeds_splices knows_damage good_size good_time good_pid opening_fault level_up_to level side
-    area columns lines seconds microseconds stored_length frame_time body frame_size frames_up_to rest_up_to frames rest
-    behind_header ip_length udp_length carries packets_from packets_in packets_of packets shown whole starts_cell damage_mark
-    condition identifier is_wanted start_mark counter splice_mark wanted_of gap_loss set_apart loss_between arrivals_after
-    arrivals groups cells_of least_time unit_of units_of beginnings whole_frames unfinished all_frames whole_wanted
-    shown_wanted units showing too_long wrong_magic wrong_link wrong_frame_header wrong_frame too_many_units format_fault
-    capture_fault picture_size picture_count pictures luma_fault rows band block_sum pixel_in pixel_line pixels same
-    repeats_after repeats ic_of ip_of value_of index_of reduced unrepeated index_from index no_packet no_picture capture_answer
-    luma_answer index_fault index_answer expected add mul div of_int to_bits
+unfolding cut run one_frame picture indices open_answer word32 network16 bytes_of total greatest_of least_of count
+    only table parts end_to_end is_edition heeds_splices knows_damage good_size good_time good_pid opening_fault
+    level_up_to level side area columns lines seconds microseconds stored_length frame_time body frame_size
+    frames_up_to rest_up_to frames rest behind_header ip_length udp_length carries packets_from packets_in packets_of
+    packets shown whole starts_cell damage_mark condition identifier is_wanted start_mark counter splice_mark
+    wanted_of gap_loss set_apart loss_between arrivals_after arrivals groups cells_of least_time unit_of units_of
+    beginnings whole_frames unfinished all_frames whole_wanted shown_wanted units showing too_long wrong_magic
+    wrong_link wrong_frame_header wrong_frame too_many_units format_fault capture_fault picture_size picture_count
+    pictures luma_fault rows band block_sum pixel_in pixel_line pixels same repeats_after repeats ic_of ip_of value_of
+    index_of reduced unrepeated index_from index no_packet no_picture capture_answer luma_answer index_fault
+    index_answer expected add mul div of_int to_bits
 answered = refl

@@ -110,7 +110,7 @@ losses =
 
 -- the theorem: every entry's rule gives what document 02 says
 pub lost : map (λ (c : Case). c.rule) losses ≡ map (λ (c : Case). c.paper) losses
-unfolding floats bits_of spread_in called losses half hundredth key_frames shares added_at loss_of spread_loss unit_loss
-    unit_losses effective_loss is_probability are_probabilities good_lengths loss_fault loss_answer filled
+unfolding floats bits_of spread_in called losses half hundredth key_frames shares added_at loss_of spread_loss
+    unit_loss unit_losses effective_loss is_probability are_probabilities good_lengths loss_fault loss_answer filled
     round of_int of_bits to_bits add sum sub neg mul lt le
 lost = refl

@@ -60,8 +60,8 @@ passages =
 
 -- the theorem: every entry's rule gives what document 02 says
 pub counted : map (λ (c : Case). c.rule) passages ≡ map (λ (c : Case). c.paper) passages
-unfolding passages film run picture open_answer total count table parts end_to_end is_edition good_size good_time good_pid
-    opening_fault level_up_to level side area columns lines picture_size picture_count pictures luma_fault rows band block_sum
-    pixel_in pixel_line pixels same repeats_after repeats reduced luma_answer repeated_in passage_fault repeats_fault
-    repeats_answer expected
+unfolding passages film run picture open_answer total count table parts end_to_end is_edition good_size good_time
+    good_pid opening_fault level_up_to level side area columns lines picture_size picture_count pictures luma_fault
+    rows band block_sum pixel_in pixel_line pixels same repeats_after repeats reduced luma_answer repeated_in
+    passage_fault repeats_fault repeats_answer expected
 counted = refl

@@ -76,14 +76,15 @@ streams =
     -- the row and behind it the bytes as they were; after a refusal all bytes as they were
     ∷ record {
       rule = rtp_buffer (1 ∷ []) one (replicate 34 9);
-      paper = bytes_of 8 5 ++ bytes_of 8 5 ++ bytes_of 4 7 ++ bytes_of 4 1 ++ bytes_of 4 0 ++ bytes_of 4 0 ++ (9 ∷ 9 ∷ []);
+      paper = bytes_of 8 5 ++ bytes_of 8 5 ++ bytes_of 4 7 ++ bytes_of 4 1 ++ bytes_of 4 0 ++ bytes_of 4 0
+          ++ (9 ∷ 9 ∷ []);
     }
     ∷ record { rule = rtp_buffer (1 ∷ []) one (replicate 31 9); paper = replicate 31 9 }
     ∷ []
 
 -- the theorem: every entry's rule gives what document 02 says
 pub worked : map (λ (c : Case). c.rule) streams ≡ map (λ (c : Case). c.paper) streams
-unfolding streams shown stay figures one zeros places_after places rows_from firsts ordered missing_at rtp_rows rtp_groups
-    rtp_least rtp_unit rtp_units_in rtp_units good_lists no_room over rtp_fault rtp_answer rtp_buffer unit_bytes bytes_of total
-    greatest_of least_of only table end_to_end insert sorted
+unfolding streams shown stay figures one zeros places_after places rows_from firsts ordered missing_at rtp_rows
+    rtp_groups rtp_least rtp_unit rtp_units_in rtp_units good_lists no_room over rtp_fault rtp_answer rtp_buffer
+    unit_bytes bytes_of total greatest_of least_of only table end_to_end insert sorted
 worked = refl

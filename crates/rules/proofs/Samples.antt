@@ -228,7 +228,8 @@ samples =
     -- 11: an empty capture; a header that is cut off. 12: a header alone; a packet of another identifier
     ∷ record { rule = sealing small [] [] 0 ++ sealing small (0xD4 ∷ []) [] 0; paper = 11 ∷ 0 ∷ 11 ∷ 1 ∷ [] }
     ∷ record {
-      rule = sealing small good_header [] 0 ++ sealing small (good_header ++ frame_with 0 0 1 (packet_of 255 0x40 0)) [] 0;
+      rule = sealing small good_header [] 0
+          ++ sealing small (good_header ++ frame_with 0 0 1 (packet_of 255 0x40 0)) [] 0;
       paper = 12 ∷ 0 ∷ 12 ∷ 0 ∷ [];
     }
     -- 13: one byte. 14: empty luma. 15: 127 for 128
@@ -253,22 +254,23 @@ samples =
 -- the theorem: the rules give what the paper says
 pub sampled : map (λ (c : Case). c.rule) samples ≡ map (λ (c : Case). c.paper) samples
 unfolding words run marks one_frame picture show_record sealing feeding samples open_answer unit_place scene_place
-    allowed_header allowed_unit allowed_units allowed_scene allowed_scenes allowed_rows allowed reading_fault row_fault
-    is_edition unit_fault scene_fault word32 word64 network16 bytes_of total greatest_of least_of count only table parts
-    end_to_end good_size good_time good_pid opening_fault level_up_to level side area columns lines seconds microseconds
-    stored_length frame_time body frame_size frames_up_to rest_up_to frames rest behind_header ip_length udp_length carries
-    skipped packets_from packets_in packets_of packets shown whole starts_cell damage_mark condition identifier is_wanted
-    start_mark counter wanted_of bad_of gap_loss set_apart loss_between heeds_splices knows_damage splice_mark arrivals_after
-    arrivals before_units groups cells_of least_time unit_of units_of beginnings whole_frames unfinished all_frames
-    whole_wanted shown_wanted units frame_count skipped_count bad_count showing too_long wrong_magic wrong_link
-    wrong_frame_header wrong_frame too_many_units format_fault capture_fault capture_inside picture_size picture_count pictures
-    luma_fault rows band block_sum pixel_in pixel pixel_line pixels third tile_at bin in_tile_from in_tile in_bin histogram
-    histograms bins_apart per_million tile_difference tile_differences insert sorted fifth difference least_of_six cut_score
-    cut_scores starts_scene is_start starts_from starts longest_from scene_of scenes_at scenes_of same squares spread root_from
-    root nearest change_from rounds_to_nearest change repeats_after changes_after repeats changes ic_of ip_of value_of index_of
-    index_bits record_length scene_offset header_bytes unit_bytes scene_bytes record_bytes reduced scenes_in scenes unrepeated
-    index_from index header sealed sealed_length capture_unfinished no_packet luma_unfinished no_picture no_room seal_fault
-    capture_answer luma_answer seal_answer over sealed_buffer expected add mul div of_int to_bits
+    allowed_header allowed_unit allowed_units allowed_scene allowed_scenes allowed_rows allowed reading_fault
+    row_fault is_edition unit_fault scene_fault word32 word64 network16 bytes_of total greatest_of least_of count only
+    table parts end_to_end good_size good_time good_pid opening_fault level_up_to level side area columns lines
+    seconds microseconds stored_length frame_time body frame_size frames_up_to rest_up_to frames rest behind_header
+    ip_length udp_length carries skipped packets_from packets_in packets_of packets shown whole starts_cell
+    damage_mark condition identifier is_wanted start_mark counter wanted_of bad_of gap_loss set_apart loss_between
+    heeds_splices knows_damage splice_mark arrivals_after arrivals before_units groups cells_of least_time unit_of
+    units_of beginnings whole_frames unfinished all_frames whole_wanted shown_wanted units frame_count skipped_count
+    bad_count showing too_long wrong_magic wrong_link wrong_frame_header wrong_frame too_many_units format_fault
+    capture_fault capture_inside picture_size picture_count pictures luma_fault rows band block_sum pixel_in pixel
+    pixel_line pixels third tile_at bin in_tile_from in_tile in_bin histogram histograms bins_apart per_million
+    tile_difference tile_differences insert sorted fifth difference least_of_six cut_score cut_scores starts_scene
+    is_start starts_from starts longest_from scene_of scenes_at scenes_of same squares spread root_from root nearest
+    change_from rounds_to_nearest change repeats_after changes_after repeats changes ic_of ip_of value_of index_of
+    index_bits record_length scene_offset header_bytes unit_bytes scene_bytes record_bytes reduced scenes_in scenes
+    unrepeated index_from index header sealed sealed_length capture_unfinished no_packet luma_unfinished no_picture
+    no_room seal_fault capture_answer luma_answer seal_answer over sealed_buffer expected add mul div of_int to_bits
 sampled = refl
 
 -- 4 and 10, whose small inputs are too long to be written out: by their length. One byte past

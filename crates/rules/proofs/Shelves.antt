@@ -2,7 +2,7 @@
 use Prim.Native.Nat.{ℕ}
 use mathlib.Core.Path.{◌≡◌, refl}
 use mathlib.Core.List.{List, [], ◌∷◌, ◌++◌, map}
-use lib.ListN.{length, replicate, set}
+use lib.ListN.{replicate, set}
 use Rattle.rules.specs.declared.ShelfAnswer.{ShelfAnswer}
 use Rattle.rules.specs.declared.PartAnswer.{PartAnswer}
 use Rattle.rules.specs.declared.ShelfAnswer.TheVariants as of-shelf
@@ -100,9 +100,9 @@ shelves =
 
 -- the theorem: every entry's rule gives what document 02 says
 pub shelved : map (λ (c : Case). c.rule) shelves ≡ map (λ (c : Case). c.paper) shelves
-unfolding shelves opened taken words unit scene one pair two is_edition knows_damage word32 word64 bytes_of total table
-    end_to_end good_size good_time good_pid record_length scene_offset header_of unit_place unit_in unit_at reading_fault row_fault
-    unit_fault allowed_header allowed_unit allowed_units allowed_scene allowed_scenes allowed_rows allowed header_answer
-    unit_answer edge rising laid_out part records record_lost shelf_lost first_refused shelf_fault part_fault shelf_answer
-    part_answer offsets_from head_bytes shelf_of
+unfolding shelves opened taken words unit scene one pair two is_edition knows_damage word32 word64 bytes_of total
+    table end_to_end good_size good_time good_pid record_length scene_offset header_of unit_place unit_in unit_at
+    reading_fault row_fault unit_fault allowed_header allowed_unit allowed_units allowed_scene allowed_scenes
+    allowed_rows allowed header_answer unit_answer edge rising laid_out part records record_lost shelf_lost
+    first_refused shelf_fault part_fault shelf_answer part_answer offsets_from head_bytes shelf_of
 shelved = refl

@@ -1,6 +1,7 @@
 -- Words for what every chapter needs: a choice, numbers in bytes, sums and lists. A byte string is a list of numbers;
 -- a byte that is not there reads as 0.
-use Rattle.std.specs.Prelude.{ℕ, zero, suc, ◌+◌, ◌-◌, ◌*◌, ◌/◌, ◌%◌, ◌<◌, List, [], ◌∷◌, ◌++◌, Bool, true, false, ◌&&◌, get_or, take, drop, leb}
+use Rattle.std.specs.Prelude.{ℕ, zero, suc, ◌+◌, ◌-◌, ◌*◌, ◌/◌, ◌%◌, ◌<◌, List, [], ◌∷◌, ◌++◌, Bool, true, false}
+use Rattle.std.specs.Prelude.{◌&&◌, get_or, take, drop, leb}
 
 -- the first if the test passes, otherwise the second
 abbrev pub pick {ℓ} : {A : Type ℓ} → Bool → A → A → A

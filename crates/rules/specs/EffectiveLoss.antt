@@ -1,6 +1,7 @@
 -- How far a loss spreads (R-8): 001's effective loss for streams without B frames, in document 02's order.
 -- Each operation is one of binary64, rounded once.
-use Rattle.std.specs.Prelude.{ℕ, suc, ◌+◌, ◌*◌, ◌≤◌, ◌<◌, ◌^◌, ◌≡◌, List, [], ◌∷◌, ◌++◌, map, Bool, true, false, not, ◌&&◌, length, take, drop, replicate, T, ltb, eqb, Float}
+use Rattle.std.specs.Prelude.{ℕ, suc, ◌+◌, ◌*◌, ◌≤◌, ◌<◌, ◌^◌, ◌≡◌, List, [], ◌∷◌, ◌++◌, map, Bool, true, false, not}
+use Rattle.std.specs.Prelude.{◌&&◌, length, take, drop, replicate, T, ltb, eqb, Float}
 use Rattle.std.specs.Float.{binary64}
 use Rattle.std.specs.Float.Ieee.{round, add, sub, mul, lt, le, is_nan}
 use Rattle.rules.specs.Bytes.{pick, within, All}

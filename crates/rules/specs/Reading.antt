@@ -1,5 +1,6 @@
 -- Record: what the reader allows and gives, and refusals 16 to 19.
-use Rattle.std.specs.Prelude.{ℕ, zero, suc, ◌+◌, ◌*◌, List, Bool, true, false, ◌&&◌, ◌||◌, length, drop, leb, ltb, eqb}
+use Rattle.std.specs.Prelude.{ℕ, zero, suc, ◌+◌, ◌*◌, List, Bool, true, false, ◌&&◌, ◌||◌, length, drop, leb, ltb}
+use Rattle.std.specs.Prelude.{eqb}
 use Rattle.rules.specs.declared.Header.{Header}
 use Rattle.rules.specs.declared.UnitRow.{UnitRow}
 use Rattle.rules.specs.declared.SceneRow.{SceneRow}
@@ -102,7 +103,8 @@ allowed_scene from b = eqb (word32 b 0) from && leb 1 (word32 b 4) && eqb (word3
 -- n scene rows, the first at the string's front, which join without gap from picture `from` and end at picture N
 unfoldable pub allowed_scenes : ℕ → ℕ → ℕ → List ℕ → Bool
 allowed_scenes pictures zero from b = eqb from pictures
-allowed_scenes pictures (suc n) from b = allowed_scene from b && allowed_scenes pictures n (from + word32 b 4) (drop 32 b)
+allowed_scenes pictures (suc n) from b =
+    allowed_scene from b && allowed_scenes pictures n (from + word32 b 4) (drop 32 b)
 
 -- with the rows, of a record whose header is allowed
 unfoldable pub allowed_rows : List ℕ → Bool
@@ -117,7 +119,8 @@ allowed r = let rows = allowed_rows r in pick (allowed_header (length r) r) rows
 -- ---- refusals: 16 under 64 bytes, 17 an edition that there is not, 18 not allowed, 19 a row that is not there
 
 unfoldable pub reading_fault : List ℕ → Fault
-reading_fault r = unless (leb 64 (length r)) 16 or_else unless (is_edition (word32 r 0)) 17 or_else unless (allowed r) 18
+reading_fault r =
+    unless (leb 64 (length r)) 16 or_else unless (is_edition (word32 r 0)) 17 or_else unless (allowed r) 18
 
 unfoldable pub row_fault : ℕ → ℕ → Fault
 row_fault rows j = unless (ltb j rows) 19

@@ -4,7 +4,8 @@
 --   capture  4 Capture.too_long, 5 Capture.wrong_magic, 6 Capture.wrong_link, 7 and 8 Capture.wrong_frame_header,
 --            9 Capture.too_many_units (begins_at)
 --   luma     10 Pictures.luma_fault
---   seal     11 Seal.capture_unfinished, 12 Seal.no_packet, 13 Seal.luma_unfinished, 14 Seal.no_picture, 15 Seal.no_room
+--   seal     11 Seal.capture_unfinished, 12 Seal.no_packet, 13 Seal.luma_unfinished, 14 Seal.no_picture,
+--            15 Seal.no_room
 --   index    the opening's, 4 to 10, 12, 14: WhileFeeding.index_fault
 --   passage  the opening's, then 26: Passage.repeats_fault
 --   reading  16, 17, 18 Reading.reading_fault, 19 Reading.row_fault

@@ -1,7 +1,8 @@
 -- Small-screen streams (document 02, R-11): RTP packets as rows in arrival order, each with a sequence number, a
 -- marker,
 -- a time and a length. Their places, their order, and their units.
-use Rattle.std.specs.Prelude.{ℕ, ◌+◌, ◌-◌, ◌*◌, ◌/◌, ◌%◌, ◌≤◌, ◌≡◌, List, [], ◌∷◌, map, Bool, ◌&&◌, not, length, get_or, ltb, eqb, ℤ, pos, ◌+ℤ◌, ◌-ℤ◌}
+use Rattle.std.specs.Prelude.{ℕ, ◌+◌, ◌-◌, ◌*◌, ◌/◌, ◌%◌, ◌≤◌, ◌≡◌, List, [], ◌∷◌, map, Bool, ◌&&◌, not, length}
+use Rattle.std.specs.Prelude.{get_or, ltb, eqb, ℤ, pos, ◌+ℤ◌, ◌-ℤ◌}
 use Rattle.rules.specs.declared.UnitRow.{UnitRow}
 use Rattle.rules.specs.declared.Answer.{Answer}
 use Rattle.rules.specs.Bytes.{pick, within, total, greatest_of, least_of, count, only, table, end_to_end}
