@@ -1,27 +1,48 @@
 // Reading a record from standard input, for the programs that print one.
-ghost use Rattle.std.specs.Prelude.{◌≤◌, length};
-ghost use Rattle.libc.specs.Io.{Moved};
+#![tactic(auto)]
 
-// Reads standard input until it ends or the buffer is full, and answers how many bytes it read; or -1 if a read fails,
-// which is not the end of the input, and standard error then says why.
-// The longest record has 32,064 bytes: of longer input 65,536 are enough to refuse it.
-pub fn read(input: &mut [u8]) -> isize
-    requires { length input.old ≤ 65536 }
-    ensures { Moved (length input.old) result }
+ghost use Rattle.std.specs.Prelude.{◌<◌, ◌≤◌, length, take, IfOk};
+ghost use Rattle.std.specs.Io.KnownBytes.{Consumes, IsAtEnd};
+
+use std::io::{self, Read};
+
+// Reads until the input ends or the buffer is full, and answers how many bytes it read: those that the input had next,
+// and fewer than the buffer holds only where the input is at its end. A read that fails is no end of the input, and is
+// answered as an error.
+pub fn read_from<S: Read>(source: &mut S, input: &mut [u8]) -> io::Result<usize>
+    ensures in_bounds { IfOk result (λ n. n ≤ length input.new) }
+    ensures bytes { IfOk result (λ n. Consumes (S.remaining source.old) (S.remaining source.new) (take n input.new)) }
+    ensures end { IfOk result (λ n. n < length input.new → IsAtEnd (S.remaining source.new)) }
 {
     let mut end: usize = 0;
     while end < input.len() {
-        let rest = &mut input[end..];
-        let got = libc::read(libc::STDIN_FILENO, rest);
-        if got < 0 {
-            os::fail(b"cannot read standard input");
-            return -1;
+        match source.read(&mut input[end..]) {
+            Ok(0) => return Ok(end),
+            Ok(n) => end += n,
+            Err(error) => return Err(error),
         }
-        let n = io::count(got, rest);
-        if n == 0 {
-            return end as isize;
-        }
-        end += n;
     }
-    end as isize
+    Ok(end)
+}
+
+// The same of standard input. The longest record has 32,064 bytes: of longer input 65,536 are enough to refuse it.
+pub fn read<R: Input>(rt: &R, input: &mut [u8]) -> io::Result<usize>
+    ensures { IfOk result (λ n. n ≤ length input.new) }
+{
+    read_from(&mut rt.reader(), input)
+}
+
+// The system's words for an error, without its number.
+fn reason(text: &str) -> &str {
+    match text.split_once(" (os error ") {
+        Some((words, _)) => words,
+        None => text,
+    }
+}
+
+// Writes a line to standard error: what failed, a colon and the reason.
+pub fn fail<R: Eprint + AllocGlobal>(rt: &R, what: &str, error: &io::Error) -> io::Result<()> {
+    let text = format!(in rt.alloc(); "{error}")?;
+    let why = reason(text.as_str());
+    eprintln!(rt; "{what}: {why}")
 }

@@ -1,5 +1,7 @@
 // The text of document 01's lines, made into a lent buffer: each function answers how many bytes it put at the front;
 // the rest of the buffer stands unaltered.
+#![tactic(auto)]
+
 ghost use Rattle.std.specs.Prelude.{◌≡◌, ◌∷◌, map, ◌+◌, ◌*◌, ◌≤◌, length};
 ghost use Rattle.rules.specs.Seal.{over};
 ghost use Rattle.words.specs.Written.{written};
