@@ -1,6 +1,8 @@
 // What programs print of an answer and of bytes. Each line, and each run of digits, is made in a buffer and written at
 // once to standard output.
-ghost use Rattle.std.specs.Prelude.{◌≡◌, ◌+◌, ◌*◌, ◌≤◌, ◌<◌, length};
+#![tactic(auto)]
+
+ghost use Rattle.std.specs.Prelude.{◌≡◌, ◌+◌, ◌*◌, ◌≤◌, ◌<◌, length, IfOk};
 ghost use Rattle.io.specs.Counts.{IsPrefixLen};
 ghost use Rattle.rules.specs.Seal.{over};
 ghost use Rattle.program_text.specs.Text.{line_of, answer_text, bits_text, hex_text};
@@ -37,14 +39,20 @@ fn put_answer(line: &mut [u8], done: &[u8], refused: &[u8], a: Answer, end: &[u8
 }
 
 // Prints an answer: `done` and the length, or `refused`, the number and the place, and then `end`.
-pub fn print_answer(done: &[u8], refused: &[u8], a: Answer, end: &[u8])
+pub fn print_answer<P: Print>(
+    rt: &P,
+    done: &[u8],
+    refused: &[u8],
+    a: Answer,
+    end: &[u8],
+) -> std::io::Result<()>
     requires done_len_bound { length done.now ≤ 16 }
     requires refused_len_bound { length refused.now ≤ 16 }
     requires end_len_bound { length end.now ≤ 1 }
 {
     let mut line = [0u8; 64];
     let n = put_answer(&mut line, done, refused, a, end);
-    io::write_all(libc::STDOUT_FILENO, &line[..n]);
+    rt.write_all(&line[..n])
 }
 
 // A word, 16 hexadecimal digits with capital letters and an end, at the front of the line.
@@ -59,12 +67,12 @@ fn put_bits(line: &mut [u8], word: &[u8], bits: u64, end: &[u8]) -> usize
 }
 
 // Prints a word and a float's bits, and then a line feed.
-pub fn print_bits(word: &[u8], bits: u64)
+pub fn print_bits<P: Print>(rt: &P, word: &[u8], bits: u64) -> std::io::Result<()>
     requires { length word.now ≤ 16 }
 {
     let mut line = [0u8; 64];
     let n = put_bits(&mut line, word, bits, b"\n");
-    io::write_all(libc::STDOUT_FILENO, &line[..n]);
+    rt.write_all(&line[..n])
 }
 
 // The hexadecimal digit of a number below 16, in lower case.
@@ -100,21 +108,22 @@ fn least(a: usize, b: usize) -> usize
 }
 
 // Prints a run of at most 8,192 of the bytes, from a place on, and answers the place behind it.
-fn print_run(bytes: &[u8], at: usize) -> usize
+fn print_run<P: Print>(rt: &P, bytes: &[u8], at: usize) -> std::io::Result<usize>
     requires { at < length bytes.now }
-    ensures { (at < result) × (result ≤ length bytes.now) }
+    ensures { IfOk result (λ end. (at < end) × (end ≤ length bytes.now)) }
 {
     let mut text = [0u8; 16384];
     let end = at + least(bytes.len() - at, 8192);
     let n = put_hex(&mut text, &bytes[at..end]);
-    io::write_all(libc::STDOUT_FILENO, &text[..n]);
-    end
+    rt.write_all(&text[..n])?;
+    Ok(end)
 }
 
 // Prints each byte as two hexadecimal digits, in lower case.
-pub fn print_hex(bytes: &[u8]) {
+pub fn print_hex<P: Print>(rt: &P, bytes: &[u8]) -> std::io::Result<()> {
     let mut at = 0;
     while at < bytes.len() {
-        at = print_run(bytes, at);
+        at = print_run(rt, bytes, at)?;
     }
+    Ok(())
 }

@@ -1,12 +1,14 @@
 // Program `show`: reads a record on standard input and prints its figures, a line for the sample and one
 // for each row, or the refusal. If standard input cannot be read, only standard error says so.
+#![tactic(auto)]
+
 ghost use Rattle.std.specs.Prelude.{◌≡◌, ◌+◌, ◌*◌, ◌≤◌, length};
 ghost use Rattle.rules.specs.Bytes.{word32};
 
-use libc::{STDERR_FILENO, STDOUT_FILENO};
 use record_reader::Opened;
+use std::io;
 
-fn show_units(bytes: &[u8], units: usize)
+fn show_units<P: Print>(rt: &P, bytes: &[u8], units: usize) -> io::Result<()>
     requires { 64 + 32 * units ≤ length bytes.now }
 {
     let mut text = [0u8; 200];
@@ -14,12 +16,13 @@ fn show_units(bytes: &[u8], units: usize)
     while j < units {
         let row = record_reader::unit_row(bytes, j);
         let n = record_text::unit_line(&mut text, j as u64, row);
-        io::write_all(STDOUT_FILENO, &text[..n]);
+        rt.write_all(&text[..n])?;
         j += 1;
     }
+    Ok(())
 }
 
-fn show_scenes(bytes: &[u8], units: usize, scenes: usize)
+fn show_scenes<P: Print>(rt: &P, bytes: &[u8], units: usize, scenes: usize) -> io::Result<()>
     requires { (units ≡ word32 bytes.now 8) × (64 + 32 * (units + scenes) ≤ length bytes.now) }
 {
     let mut text = [0u8; 200];
@@ -27,34 +30,35 @@ fn show_scenes(bytes: &[u8], units: usize, scenes: usize)
     while j < scenes {
         let row = record_reader::scene_row(bytes, units, j);
         let n = record_text::scene_line(&mut text, j as u64, row);
-        io::write_all(STDOUT_FILENO, &text[..n]);
+        rt.write_all(&text[..n])?;
         j += 1;
     }
+    Ok(())
 }
 
-fn show(bytes: &[u8]) {
+fn show<P: Print>(rt: &P, bytes: &[u8]) -> io::Result<()> {
     let mut text = [0u8; 200];
     match record_reader::open(bytes) {
         Opened::Accepted { units, scenes } => {
             let n = record_text::sample_line(&mut text, record_reader::header_figures(bytes));
-            io::write_all(STDOUT_FILENO, &text[..n]);
-            show_units(bytes, units);
-            show_scenes(bytes, units, scenes);
+            rt.write_all(&text[..n])?;
+            show_units(rt, bytes, units)?;
+            show_scenes(rt, bytes, units, scenes)
         }
         Opened::Refused { number, place: _ } => {
             let n = record_text::refused_line(&mut text, number);
-            io::write_all(STDOUT_FILENO, &text[..n]);
+            rt.write_all(&text[..n])
         }
     }
 }
 
-fn main() {
-    let mut input = io::large_buffer();
-    let got = record_input::read(&mut input);
-    if got < 0 {
-        io::write_all(STDERR_FILENO, b"usage: show < RECORD\n");
-        return;
+fn main(rt: HostRuntime) -> io::Result<()> {
+    let mut input = [0u8; 65536];
+    match record_input::read(&rt, &mut input) {
+        Ok(n) => show(&rt, &input[..n]),
+        Err(error) => {
+            record_input::fail(&rt, "cannot read standard input", &error)?;
+            eprintln!(rt; "usage: show < RECORD")
+        }
     }
-    let n = io::count(got, &input);
-    show(&input[..n]);
 }
