@@ -1,5 +1,7 @@
 // A frame that lies whole in the piece is taken at once, and nothing of it is collected; and where the bytes of a cut
 // frame end.
+#![tactic(auto)]
+
 ghost use Rattle.std.specs.Prelude.{◌≡◌, ℕ, ◌<◌, ◌≤◌, List, length, drop};
 ghost use Rattle.capture_steps.specs.Contract.{Goes, Settles, Ahead};
 

@@ -13,7 +13,7 @@ pub type Collected = [u8; COLLECTED_BYTES];
 // status, place: the refusal that stands, or 0. fed: bytes fed; at: bytes of the frame that are there; size: its
 // stored length L; got: bytes that are there of the cell under way; left: the frame's cells that are not whole yet;
 // frames, skipped: whole frames, and those of them that do not carry.
-#[derive(Drop)]
+#[derive(Clone, Copy)]
 pub struct Walk {
     pub status: u64,
     pub place: u64,
