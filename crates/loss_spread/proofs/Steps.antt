@@ -72,7 +72,8 @@ module _ (ys : List Float) (x : Float) (i : ℕ) where
     unfolding added_at front
     cut = rw (drop-cons ys j nan j<, add-one)
 
-    pub added_more : set (added_at i j x ys) j (add binary64 (get_or (added_at i j x ys) j nan) x) ≡ added_at i (j + 1) x ys
+    pub added_more : set (added_at i j x ys) j (add binary64 (get_or (added_at i j x ys) j nan) x)
+        ≡ added_at i (j + 1) x ys
     unfolding added_at
     added_more =
         rw (
@@ -92,6 +93,7 @@ abbrev pub keys_from : ℕ → ℕ → List Float → List KeyFrameAt
 keys_from n k ps = pick (leb k n) (key_frames k (drop k ps)) []
 
 pub default : (ps : List Float) (k : ℕ) (d e : Float) → k < length ps → get_or ps k d ≡ get_or ps k e
+default [] k d e h = absurd (omega arith)
 default (p ∷ ps) zero d e h = refl
 default (p ∷ ps) (suc k) d e h = default ps k d e (omega arith)
 

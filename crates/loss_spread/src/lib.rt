@@ -1,4 +1,6 @@
 // How far a loss spreads (R-8): the losses of all units, each added to the list of its kind.
+#![tactic(auto)]
+
 ghost use Rattle.std.specs.Prelude.{◌≡◌, ◌≤◌, length, get_or};
 ghost use Rattle.rules.specs.EffectiveLoss.{both, added_at, loss_of, put as put_of, unit_losses, one64};
 ghost use Rattle.loss_spread.specs.Alike.{Alike};

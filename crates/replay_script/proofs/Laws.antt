@@ -137,7 +137,8 @@ no_call (Seal n) script at more z = absurd (omega arith)
 no_call Index script at more z = absurd (omega arith)
 no_call (Repeats a b) script at more z = absurd (omega arith)
 
-pub takes : (h : Head) (script : List ℕ) (at : ℕ) (more : ℕ → List Call) → size_of h ≤ room (calls_with h script at more)
+pub takes : (h : Head) (script : List ℕ) (at : ℕ) (more : ℕ → List Call) →
+    size_of h ≤ room (calls_with h script at more)
 unfolding room
 takes Stop script at more = omega arith
 takes (Capture n) script at more = omega arith

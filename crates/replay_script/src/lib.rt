@@ -3,6 +3,8 @@
 // n bytes, a feed of that side; byte S and a 32-bit length n, a seal into n bytes of 0xA5; byte I, the index; or byte
 // R and 32-bit words a and b, the repeats of a passage. Where the script ends inside a call, or where another byte
 // stands, the list ends.
+#![tactic(auto)]
+
 ghost use Rattle.std.specs.Prelude.{◌≡◌, ◌+◌, ◌-◌, ◌<◌, ◌^◌, length, leb};
 ghost use Rattle.rules.specs.Bytes.{word32};
 ghost use Rattle.replay_script.specs.Script.{word_at, opening_of, head_by, passage_by, head_at};
@@ -11,7 +13,7 @@ ghost use Rattle.replay_script.specs.Script.{next_of, size_of, room_for};
 use rules::Opening;
 
 // What stands where a call should begin: the call's kind and its length, or no call.
-#[derive(Drop)]
+#[derive(Clone, Copy)]
 pub enum Head {
     Stop,
     Capture(u32),

@@ -1,5 +1,6 @@
 -- Of rows in order, those of new places are the first rows of each place, in order.
-use Rattle.std.proofs.Common.{◌≡◌, ℕ, suc, ◌+◌, ◌-◌, ◌*◌, ◌<◌, ◌≤◌, Bool, true, false, not, eqb, ltb, List, [], ◌∷◌, length, sym, refl, ap, ◌∙◌, arith, ltb-false, eq-eqb, ne_eqb, eqb-true}
+use Rattle.std.proofs.Common.{◌≡◌, ℕ, suc, ◌+◌, ◌-◌, ◌*◌, ◌<◌, ◌≤◌, Bool, true, false, not, eqb, ltb, List, [], ◌∷◌}
+use Rattle.std.proofs.Common.{length, sym, refl, ap, ◌∙◌, arith, ltb-false, eq-eqb, ne_eqb, eqb-true}
 use borrow.Author.Tests.{eqb-false}
 use Rattle.rules.specs.Bytes.{pick, only, All, empty, and}
 use Rattle.rules.specs.Cuts.{insert, sorted}
@@ -106,7 +107,8 @@ new-above : (p : ℕ) (l : List ℕ) → Rises l → All (λ (y : ℕ). p ≤ pl
 unfolding new_places
 new-above p [] nothing empty = empty
 new-above p (z ∷ l) (before k r) (and h hs) =
-    go (same? (place_of z) p) (new-above p l r hs) (new-above (place_of z) l r (above (place_of z) z l (omega arith) k))
+    go (same? (place_of z) p) (new-above p l r hs)
+    (new-above (place_of z) l r (above (place_of z) z l (omega arith) k))
   where
     go : Same (place_of z) p → All (λ (y : ℕ). p < place_of y) (new_places p l) →
         All (λ (y : ℕ). place_of z < place_of y) (new_places (place_of z) l) →

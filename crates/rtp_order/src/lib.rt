@@ -1,4 +1,6 @@
 // RTP packets in order: places from sequence numbers, and of each place the row that came first.
+#![tactic(auto)]
+
 ghost use Rattle.std.specs.Prelude.{◌≡◌, ◌≤◌, length};
 ghost use Rattle.rules.specs.Rtp.{ordered};
 ghost use Rattle.rtp_order.specs.Order.{Kept};
