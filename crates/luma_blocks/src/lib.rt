@@ -1,4 +1,6 @@
 // Sums of the blocks of a picture whose bytes come in pieces.
+#![tactic(auto)]
+
 ghost use Rattle.std.specs.Prelude.{◌≡◌, true, ◌+◌, ◌*◌, ◌/◌, ◌%◌, ◌^◌, ◌≤◌, ◌<◌, length};
 ghost use Rattle.luma_blocks.specs.Rows.{Ready, Advanced, TwoNext, Onward, FedRows};
 ghost use Rattle.luma_blocks.specs.Pixels.{Finishing, RowDone};
@@ -12,7 +14,7 @@ pub const PIXELS: usize = 14104;
 pub type Picture = [u8; PIXELS];
 
 // A place in a block row, from its first row on, and how many bytes of a piece were taken to get there.
-#[derive(Drop)]
+#[derive(Clone, Copy)]
 pub struct Spot {
     pub row: usize,
     pub col: usize,

@@ -1,0 +1,33 @@
+use native.Mathlib.Omega.{arith}
+use Rattle.luma_blocks.proofs.Rows.{going-none}
+use Rattle.luma_blocks.proofs.feed_rows.Goals as goal
+
+pub loop-p-init : goal.loop-p-init
+loop-p-init c = going-none _ _ _ _ _ _ _ (omega arith) (omega arith)
+
+pub returns-then-p-n : goal.returns-then-p-n
+returns-then-p-n c = record { going = c.loop-p.invariant; all = λ h. c.if-p-n.true }
+
+pub take_some-p-requires : goal.take_some-p-requires
+take_some-p-requires c =
+    let p = c.requires in
+    let l = c.loop-p in (
+      record {
+        some = p.some;
+        few = p.few;
+        room = p.room;
+        wide = p.wide;
+        above = omega (arith, l.invariant.below, c.if-p-n.false);
+        left = l.invariant.left;
+      },
+      omega arith,
+    )
+
+pub loop-p-smaller : goal.loop-p-smaller
+loop-p-smaller c = omega (arith, c.take_some-p.ensures.some)
+
+pub loop-p-preserved : goal.loop-p-preserved
+loop-p-preserved c = c.take_some-p.ensures.goes _ _ _ c.loop-p.invariant
+
+pub returns : goal.returns
+returns c = record { going = c.loop-p.invariant; all = λ h. omega arith }
