@@ -1,4 +1,6 @@
 // How a picture changes against the one before it: the sums over its pixels while they come, and q at its end.
+#![tactic(auto)]
+
 mod changes;
 pub mod sums;
 

@@ -3,7 +3,7 @@
 ghost use Rattle.std.specs.Prelude.{◌≡◌, ◌-◌, ◌≤◌};
 ghost use Rattle.luma_changes.specs.Figures.{Paired, Compared};
 
-#[derive(Drop)]
+#[derive(Clone, Copy)]
 pub struct Moves {
     pub up: u32,
     pub down: u32,
