@@ -1,5 +1,6 @@
 // The types that the rules of document 01 speak of. The rules themselves are specs/, one file a
 // chapter, in document 01's order.
+#![tactic(auto)]
 
 // What a sample is opened with: width W, height H, display time d of a picture in microseconds, packet identifier PID,
 // and the edition of the rules that it is measured by (document 02, R-2).
