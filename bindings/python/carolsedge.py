@@ -9,7 +9,7 @@
     # 3.25 = 1 + 4 x (75 / 100) x (3 / (3 + 1))
 
 The library is looked for in the folder that the environment variable CAROLSEDGE_LIB_DIR names, or else next to this
-file, where `make install` puts both, and then where `make python` builds it.
+file, where `make install-python` puts both, and then where `make python` builds it.
 """
 import ctypes
 import os

@@ -1,5 +1,5 @@
-# make install: the command, the library with its header, pkg-config's file, the Python module, the man pages and the
-# rule, all of them usable; and make is quiet about it.
+# make install: the command, the library with its header, pkg-config's file, the man pages and the rule, all of them
+# usable; and make is quiet about it. make install-python: the Python module.
 import os
 import shutil
 import subprocess
@@ -38,7 +38,6 @@ def test():
     wanted = ["bin/carolsedge", "include/carolsedge.h", "lib/libcarolsedge.a", "lib/pkgconfig/carolsedge.pc"]
     pages = ["share/man/man1/" + name for name in os.listdir(os.path.join(ROOT, "command", "man"))]
     wanted += ["share/doc/carolsedge/RULE.md", "share/doc/carolsedge/PROMISES.md"]
-    wanted += ["lib/carolsedge/carolsedge.py", "lib/carolsedge/libcarolsedge.so"]
     check(places == sorted(wanted + pages), "installed: %s" % places)
     with open(prefix + "/share/man/man1/carolsedge.1") as page:
         check(prefix + "/share/doc/carolsedge/RULE.md\n" in page.read(), "the man page does not say where the rule is")
@@ -51,6 +50,9 @@ def test():
     else:
         said.append("pkg-config is not installed")
     done("cc", "-std=c11", os.path.join(ROOT, "examples", "c", "measure.c"), *flags, "-o", "example")
+    done("make", "-s", "-C", ROOT, "install-python", "PREFIX=" + prefix)
+    module = sorted(os.listdir(prefix + "/lib/carolsedge"))
+    check(module == ["carolsedge.py", "libcarolsedge.so"], "installed for Python: %s" % module)
     ask = "import carolsedge; print(carolsedge.read(open('record', 'rb').read()).header.index)"
     write("record", proved(64, 48, 40000, 256, stream("clip", ".pcap"), stream("clip", ".y"), 4)[0])
     env = dict(os.environ, PYTHONPATH=prefix + "/lib/carolsedge", PYTHONDONTWRITEBYTECODE="1")
