@@ -1,7 +1,8 @@
 // The program's words.
-ghost use Rattle.std.specs.Prelude.{◌≤◌};
+ghost use Rattle.std.specs.Prelude.{◌≤◌, length};
 
 use rules::Opening;
+use std::env::{Env, FillError};
 
 // A 32-bit number in decimal, or a word that is none.
 #[derive(Drop)]
@@ -55,27 +56,57 @@ fn decimal(word: &[u8]) -> Number {
     }
 }
 
-fn number_at(i: usize) -> Number {
-    let mut word = io::buffer();
-    let n = os::arg(i, &mut word);
+// Whether there is a word of this number, the program's name being word 0.
+fn is_there<E: Env>(rt: &E, i: usize) -> bool {
+    let mut word = [0u8; 1];
+    match rt.arg(i, &mut word) {
+        Err(FillError::NotPresent) => false,
+        _ => true,
+    }
+}
+
+// How many words there are, the program's name among them, as far as ten.
+pub fn count<E: Env>(rt: &E) -> usize
+    ensures { result ≤ 10 }
+{
+    let mut n: usize = 0;
+    while n < 10 && is_there(rt, n) {
+        n += 1;
+    }
+    n
+}
+
+// Puts a word at the front of the buffer and answers its length, or 0 where it is missing or too long for the buffer.
+pub fn word_at<E: Env>(rt: &E, i: usize, word: &mut [u8]) -> usize
+    ensures { result ≤ length word.new }
+{
+    match rt.arg(i, word) {
+        Ok(n) => n,
+        Err(_) => 0,
+    }
+}
+
+fn number_at<E: Env>(rt: &E, i: usize) -> Number {
+    let mut word = [0u8; 4096];
+    let n = word_at(rt, i, &mut word);
     decimal(&word[..n])
 }
 
 // The edition of the rules: the eighth word, and 1 where it is missing.
-fn edition_at(words: usize) -> Number {
+fn edition_at<E: Env>(rt: &E, words: usize) -> Number {
     if words < 9 {
         return Number::Is(1);
     }
-    number_at(8)
+    number_at(rt, 8)
 }
 
 // What the words say; `words` is how many there are, the program's name among them.
-pub fn opening(words: usize) -> Asked {
-    let w = number_at(1);
-    let h = number_at(2);
-    let d = number_at(3);
-    let p = number_at(4);
-    let e = edition_at(words);
+pub fn opening<E: Env>(rt: &E, words: usize) -> Asked {
+    let w = number_at(rt, 1);
+    let h = number_at(rt, 2);
+    let d = number_at(rt, 3);
+    let p = number_at(rt, 4);
+    let e = edition_at(rt, words);
     let Number::Is(width) = w else {
         return Asked::Not;
     };

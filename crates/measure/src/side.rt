@@ -4,132 +4,164 @@ use crate::arguments::is_dash;
 use capture::Numbers;
 use capture_units::Table;
 use capture_walk::{Collected, WalkWords};
-use libc::{STDERR_FILENO, STDIN_FILENO};
 use rules::Answer;
+use std::fs;
+use std::io::{self, Read};
+use std::rt::Files;
 
-// How a turn of feeding ended: 0 where more may come, 1 where the side has had its last byte, 2 where reading failed.
-const MORE: u8 = 0;
-
-const LAST: u8 = 1;
-
-const FAILED: u8 = 2;
-
-fn turn_of(a: Answer) -> u8 {
+// Whether more of a side may come after this answer.
+fn may_follow(a: Answer) -> bool {
     match a {
-        Answer::Done(_) => MORE,
-        Answer::Refused { .. } => LAST,
+        Answer::Done(_) => true,
+        Answer::Refused { .. } => false,
     }
 }
 
 // Says on standard error that a side cannot be read, and why.
-fn fail(name: &[u8]) {
-    io::write_all(STDERR_FILENO, b"cannot read ");
-    if is_dash(name) {
-        os::fail(b"standard input");
-    } else {
-        os::fail(name);
+fn fail<R: Eprint + AllocGlobal>(rt: &R, name: &str, error: &io::Error) -> io::Result<()> {
+    if is_dash(name.as_bytes()) {
+        return record_input::fail(rt, "cannot read standard input", error);
     }
+    let what = format!(in rt.alloc(); "cannot read {name}")?;
+    record_input::fail(rt, what.as_str(), error)
 }
 
-// A side's descriptor, or -1 after a line on standard error.
-fn open_side(name: &[u8]) -> i32 {
-    if is_dash(name) {
-        return STDIN_FILENO;
-    }
-    let fd = os::open_read(name);
-    if fd < 0 {
-        fail(name);
-    }
-    fd
-}
-
-// One piece of the capture; what is read goes to the lent piece, so that no turn has to clear one.
-fn capture_turn(
-    fd: i32,
-    name: &[u8],
+// One piece of the capture, and whether more may come; what is read goes to the lent piece, so that no turn has to
+// clear one.
+fn capture_turn<S: Read>(
+    source: &mut S,
     piece: &mut [u8],
     walk: &mut WalkWords,
     kept: &mut Collected,
     numbers: &mut Numbers,
     table: &mut Table,
-) -> u8 {
-    let got = libc::read(fd, piece);
-    if got < 0 {
-        fail(name);
-        return FAILED;
+) -> io::Result<bool> {
+    let n = source.read(piece)?;
+    if n == 0 {
+        return Ok(false);
     }
-    if got == 0 {
-        return LAST;
-    }
-    let n = io::count(got, piece);
-    turn_of(sample::feed_capture(walk, kept, numbers, table, &piece[..n]))
+    Ok(may_follow(sample::feed_capture(walk, kept, numbers, table, &piece[..n])))
 }
 
-// One piece of the luma.
-fn luma_turn(
-    fd: i32,
-    name: &[u8],
+// One piece of the luma, and whether more may come.
+fn luma_turn<S: Read>(
+    source: &mut S,
     piece: &mut [u8],
     luma: &mut luma::Words,
     sums: &mut luma::Sums,
     bins: &mut luma::Bins,
     picture: &mut luma::Picture,
-) -> u8 {
-    let got = libc::read(fd, piece);
-    if got < 0 {
-        fail(name);
-        return FAILED;
+) -> io::Result<bool> {
+    let n = source.read(piece)?;
+    if n == 0 {
+        return Ok(false);
     }
-    if got == 0 {
-        return LAST;
-    }
-    let n = io::count(got, piece);
-    turn_of(sample::feed_luma(luma, sums, bins, picture, &piece[..n]))
+    Ok(may_follow(sample::feed_luma(luma, sums, bins, picture, &piece[..n])))
 }
 
-// Feeds the whole capture; answers whether it could be read. A proved loop has to end, and nothing says that a file
-// does: the turns are counted down from a number that no run uses up.
-pub fn feed_capture(
-    name: &[u8],
+// Feeds the capture piece by piece; answers whether its last byte was seen. A proved loop has to end, and nothing says
+// that a file does: the turns are counted up to a number that no run reaches.
+fn feed_capture_from<S: Read>(
+    source: &mut S,
     piece: &mut [u8],
     walk: &mut WalkWords,
     kept: &mut Collected,
     numbers: &mut Numbers,
     table: &mut Table,
-) -> bool {
-    let fd = open_side(name);
-    if fd < 0 {
-        return false;
+) -> io::Result<bool> {
+    for _ in 0..u64::MAX {
+        if !capture_turn(source, piece, walk, kept, numbers, table)? {
+            return Ok(true);
+        }
     }
-    let mut turn = MORE;
-    let mut turns = u64::MAX;
-    while turns > 0 && turn == MORE {
-        turn = capture_turn(fd, name, piece, walk, kept, numbers, table);
-        turns -= 1;
+    Ok(false)
+}
+
+// Feeds the luma piece by piece; answers whether its last byte was seen.
+fn feed_luma_from<S: Read>(
+    source: &mut S,
+    piece: &mut [u8],
+    luma: &mut luma::Words,
+    sums: &mut luma::Sums,
+    bins: &mut luma::Bins,
+    picture: &mut luma::Picture,
+) -> io::Result<bool> {
+    for _ in 0..u64::MAX {
+        if !luma_turn(source, piece, luma, sums, bins, picture)? {
+            return Ok(true);
+        }
     }
-    libc::close(fd);
-    turn == LAST
+    Ok(false)
+}
+
+// Feeds the capture of that name.
+fn feed_named_capture<R: Files + Input>(
+    rt: &R,
+    name: &str,
+    piece: &mut [u8],
+    walk: &mut WalkWords,
+    kept: &mut Collected,
+    numbers: &mut Numbers,
+    table: &mut Table,
+) -> io::Result<bool> {
+    if is_dash(name.as_bytes()) {
+        return feed_capture_from(&mut rt.reader(), piece, walk, kept, numbers, table);
+    }
+    let mut file = fs::open(rt, name)?;
+    feed_capture_from(&mut file, piece, walk, kept, numbers, table)
+}
+
+// Feeds the luma of that name.
+fn feed_named_luma<R: Files + Input>(
+    rt: &R,
+    name: &str,
+    piece: &mut [u8],
+    luma: &mut luma::Words,
+    sums: &mut luma::Sums,
+    bins: &mut luma::Bins,
+    picture: &mut luma::Picture,
+) -> io::Result<bool> {
+    if is_dash(name.as_bytes()) {
+        return feed_luma_from(&mut rt.reader(), piece, luma, sums, bins, picture);
+    }
+    let mut file = fs::open(rt, name)?;
+    feed_luma_from(&mut file, piece, luma, sums, bins, picture)
+}
+
+// Feeds the whole capture; answers whether it could be read.
+pub fn feed_capture<R: Files + Input + Eprint + AllocGlobal>(
+    rt: &R,
+    name: &str,
+    piece: &mut [u8],
+    walk: &mut WalkWords,
+    kept: &mut Collected,
+    numbers: &mut Numbers,
+    table: &mut Table,
+) -> io::Result<bool> {
+    match feed_named_capture(rt, name, piece, walk, kept, numbers, table) {
+        Ok(whole) => Ok(whole),
+        Err(error) => {
+            fail(rt, name, &error)?;
+            Ok(false)
+        }
+    }
 }
 
 // Feeds the whole luma; answers whether it could be read.
-pub fn feed_luma(
-    name: &[u8],
+pub fn feed_luma<R: Files + Input + Eprint + AllocGlobal>(
+    rt: &R,
+    name: &str,
     piece: &mut [u8],
     luma: &mut luma::Words,
     sums: &mut luma::Sums,
     bins: &mut luma::Bins,
     picture: &mut luma::Picture,
-) -> bool {
-    let fd = open_side(name);
-    if fd < 0 {
-        return false;
+) -> io::Result<bool> {
+    match feed_named_luma(rt, name, piece, luma, sums, bins, picture) {
+        Ok(whole) => Ok(whole),
+        Err(error) => {
+            fail(rt, name, &error)?;
+            Ok(false)
+        }
     }
-    let mut turn = MORE;
-    let mut turns = u64::MAX;
-    while turns > 0 && turn == MORE {
-        turn = luma_turn(fd, name, piece, luma, sums, bins, picture);
-        turns -= 1;
-    }
-    libc::close(fd);
-    turn == LAST
 }

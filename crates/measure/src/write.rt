@@ -1,171 +1,201 @@
 // Writing the record: to RECORD.part, which is renamed to RECORD once it is whole. So RECORD is missing or whole
 // wherever a run is interrupted. What exists already under one of the two names is left alone.
-ghost use Rattle.std.specs.Prelude.{◌≡◌, length};
-ghost use Rattle.io.specs.Counts.{IsPrefixLen};
+ghost use Rattle.std.specs.Prelude.{◌≡◌, ◌<◌, ◌++◌, ◌⊎◌, length, codes, string_bytes, IfOk, MatchOption};
 
-use libc::STDERR_FILENO;
+use std::alloc::{AllocError, Global};
+use std::fs::{self, OpenFile, OpenOptions};
+use std::io::{self, ErrorKind, Write};
+use std::rt::Files;
 
 // With `.part` and the 0 that ends a path, the longest RECORD fills 4,096 bytes.
 const LONGEST_NAME: usize = 4090;
 
-// How a step of writing ended; where it failed, errno has the reason.
+// How a step of writing ended.
 #[derive(Drop)]
 enum Outcome {
     Done,
     Taken,
-    Failed,
+    Failed(io::Error),
 }
 
-fn fail(what: &[u8], name: &[u8]) {
-    io::write_all(STDERR_FILENO, what);
-    os::fail(name);
+fn fail<R: Eprint + AllocGlobal>(
+    rt: &R,
+    what: &str,
+    name: &str,
+    error: &io::Error,
+) -> io::Result<()> {
+    let text = format!(in rt.alloc(); "{what} {name}")?;
+    record_input::fail(rt, text.as_str(), error)
 }
 
 // Whether the step is done; otherwise standard error says why RECORD is not written.
-fn is_done(outcome: Outcome, name: &[u8]) -> bool {
+fn is_done<R: Eprint + AllocGlobal>(rt: &R, outcome: Outcome, name: &str) -> io::Result<bool> {
     match outcome {
-        Outcome::Done => true,
+        Outcome::Done => Ok(true),
         Outcome::Taken => {
-            io::write_all(STDERR_FILENO, name);
-            io::write_all(
-                STDERR_FILENO,
-                b": exists already, and is left alone; remove it, or choose another RECORD\n",
-            );
-            false
+            eprintln!(rt;
+                "{name}: exists already, and is left alone; remove it, or choose another RECORD"
+            )?;
+            Ok(false)
         }
-        Outcome::Failed => {
-            fail(b"cannot write ", name);
-            false
+        Outcome::Failed(error) => {
+            fail(rt, "cannot write", name, &error)?;
+            Ok(false)
         }
     }
 }
 
 // Whether nothing has the name. To rename something to the name that it has does nothing, whatever it is.
-fn find_free(name: &[u8]) -> Outcome {
-    if os::rename(name, name) == 0 {
-        return Outcome::Taken;
-    }
-    if os::errno() == libc::ENOENT {
-        Outcome::Done
-    } else {
-        Outcome::Failed
+fn find_free<R: Files>(rt: &R, name: &str) -> Outcome {
+    match fs::rename(rt, name, name) {
+        Ok(()) => Outcome::Taken,
+        Err(error) => {
+            if error.kind() == ErrorKind::NotFound {
+                Outcome::Done
+            } else {
+                Outcome::Failed(error)
+            }
+        }
     }
 }
 
-// Creates RECORD.part, and answers its descriptor, or -1 after a message on standard error. Its mode is what the umask
+// Creates RECORD.part, and answers its file, or none after a message on standard error. Its mode is what the umask
 // leaves of a file's. While it exists, no other run writes this RECORD.
-fn create_part(part: &[u8]) -> i32 {
-    let fd = os::create(part);
-    if fd >= 0 {
-        return fd;
+fn create_part<R: Files + Eprint + AllocGlobal>(rt: &R, part: &str) -> io::Result<Option<R::File>> {
+    match OpenOptions::new()
+        .write(true)
+        .create_new(true)
+        .open(rt, part)
+    {
+        Ok(file) => Ok(Some(file)),
+        Err(error) => {
+            refuse_part(rt, part, &error)?;
+            Ok(None)
+        }
     }
-    if os::errno() != libc::EEXIST {
-        fail(b"cannot create ", part);
-        return fd;
-    }
-    io::write_all(STDERR_FILENO, part);
-    io::write_all(
-        STDERR_FILENO,
-        b": exists already, and the record is written there first\n",
-    );
-    io::write_all(
-        STDERR_FILENO,
-        b"hint: an interrupted run may have left it; if nobody needs it, remove it and run again\n",
-    );
-    fd
 }
 
-fn remove_part(part: &[u8]) -> bool {
-    if os::unlink(part) == 0 {
-        return true;
+// Says on standard error why RECORD.part is not created.
+fn refuse_part<R: Eprint + AllocGlobal>(rt: &R, part: &str, error: &io::Error) -> io::Result<()> {
+    if error.kind() != ErrorKind::AlreadyExists {
+        return fail(rt, "cannot create", part, error);
     }
-    fail(b"cannot remove ", part);
-    false
+    eprintln!(rt; "{part}: exists already, and the record is written there first")?;
+    eprintln!(rt;
+        "hint: an interrupted run may have left it; if nobody needs it, remove it and run again"
+    )
+}
+
+fn remove_part<R: Files + Eprint + AllocGlobal>(rt: &R, part: &str) -> io::Result<bool> {
+    match fs::remove_file(rt, part) {
+        Ok(()) => Ok(true),
+        Err(error) => {
+            fail(rt, "cannot remove", part, &error)?;
+            Ok(false)
+        }
+    }
 }
 
 // Whether RECORD.part can be created. It is removed at once: a run that is interrupted while it reads leaves no file.
-fn try_part(part: &[u8]) -> bool {
-    let fd = create_part(part);
-    if fd < 0 {
-        return false;
+fn try_part<R: Files + Eprint + AllocGlobal>(rt: &R, part: &str) -> io::Result<bool> {
+    match create_part(rt, part)? {
+        Some(_file) => remove_part(rt, part),
+        None => Ok(false),
     }
-    let removed = remove_part(part);
-    libc::close(fd);
-    removed
 }
 
-// Fills the new file and closes it; answers whether the record is on its device.
-fn fill(fd: i32, record: &[u8]) -> bool {
-    let kept = io::write_all(fd, record) && libc::fsync(fd) == 0;
-    let closed = libc::close(fd) == 0;
-    kept && closed
+// Fills the new file and closes it; answers an error where the record is not on its device.
+fn fill<F: Write + OpenFile + Drop>(file: F, record: &[u8]) -> io::Result<()> {
+    let mut file = file;
+    file.write_all(record)?;
+    file.sync_all()
 }
 
 // Renames the whole part to RECORD. The library has no rename that fails if the name is taken, so `find_free` comes
 // just before (docs/DECISIONS.md, The command).
-fn rename_part(part: &[u8], name: &[u8]) -> Outcome {
-    let found = find_free(name);
-    let Outcome::Done = found else {
-        return found;
-    };
-    if os::rename(part, name) == 0 {
-        Outcome::Done
-    } else {
-        Outcome::Failed
+fn rename_part<R: Files>(rt: &R, part: &str, name: &str) -> Outcome {
+    match find_free(rt, name) {
+        Outcome::Done => match fs::rename(rt, part, name) {
+            Ok(()) => Outcome::Done,
+            Err(error) => Outcome::Failed(error),
+        },
+        Outcome::Taken => Outcome::Taken,
+        Outcome::Failed(error) => Outcome::Failed(error),
+    }
+}
+
+// Fills the part and renames it.
+fn finish_part<R: Files>(rt: &R, file: R::File, part: &str, name: &str, record: &[u8]) -> Outcome {
+    match fill(file, record) {
+        Ok(()) => rename_part(rt, part, name),
+        Err(error) => Outcome::Failed(error),
     }
 }
 
 // Writes the part and renames it to RECORD. If that fails, it removes the part and then says why: a message into a
-// closed pipe ends the run. A removal that succeeds leaves errno as it is.
-fn write_part(part: &[u8], name: &[u8], record: &[u8]) -> bool {
-    let fd = create_part(part);
-    if fd < 0 {
-        return false;
+// closed pipe ends the run.
+fn write_part<R: Files + Eprint + AllocGlobal>(
+    rt: &R,
+    part: &str,
+    name: &str,
+    record: &[u8],
+) -> io::Result<bool> {
+    let Some(file) = create_part(rt, part)? else {
+        return Ok(false);
+    };
+    match finish_part(rt, file, part, name, record) {
+        Outcome::Done => Ok(true),
+        outcome => {
+            remove_part(rt, part)?;
+            is_done(rt, outcome, name)
+        }
     }
-    let mut outcome = Outcome::Failed;
-    if fill(fd, record) {
-        outcome = rename_part(part, name);
-    }
-    if let Outcome::Done = outcome {
-        return true;
-    }
-    remove_part(part);
-    is_done(outcome, name)
 }
 
-// Puts the part's name into the path, and answers its length: 0 where RECORD is empty or too long.
-fn put_part_name(path: &mut [u8], name: &[u8]) -> usize
-    requires { 4096 ≡ length path.old }
-    ensures { IsPrefixLen result path.new }
+// The part's name; none where RECORD is empty or too long.
+fn part_name(alloc: Global, name: &str) -> Result<Option<String>, AllocError>
+    ensures { IfOk result (λ part. MatchOption part
+        ((length name.now ≡ 0) ⊎ (4090 < length name.now))
+        (λ text. string_bytes text ≡ name.now ++ codes ".part")) }
 {
     if name.len() == 0 {
-        return 0;
+        return Ok(None);
     }
     if LONGEST_NAME < name.len() {
-        return 0;
+        return Ok(None);
     }
-    let end = record_text::put_text(path, 0, name);
-    let whole = record_text::put_text(path, end, b".part");
-    io::count(whole as isize, path)
+    let text = format!(in alloc; "{name}.part")?;
+    Ok(Some(text))
+}
+
+fn refuse_name<R: Eprint>(rt: &R) -> io::Result<()> {
+    eprintln!(rt; "RECORD is empty or longer than 4,090 bytes; choose another name")
 }
 
 // Whether RECORD can be written, as far as can be known before any input is read; otherwise standard error says why.
-pub fn can_write(name: &[u8]) -> bool {
-    let mut path = io::buffer();
-    let n = put_part_name(&mut path, name);
-    if n == 0 {
-        io::write_all(
-            STDERR_FILENO,
-            b"RECORD is empty or longer than 4,090 bytes; choose another name\n",
-        );
-        return false;
+pub fn can_write<R: Files + Eprint + AllocGlobal>(rt: &R, name: &str) -> io::Result<bool> {
+    match part_name(rt.alloc(), name)? {
+        Some(part) => {
+            Ok(is_done(rt, find_free(rt, name), name)? && try_part(rt, part.as_str())?)
+        }
+        None => {
+            refuse_name(rt)?;
+            Ok(false)
+        }
     }
-    is_done(find_free(name), name) && try_part(&path[..n])
 }
 
 // Writes the record under its name; answers whether it is there, and otherwise standard error says why.
-pub fn write_record(name: &[u8], record: &[u8]) -> bool {
-    let mut path = io::buffer();
-    let n = put_part_name(&mut path, name);
-    write_part(&path[..n], name, record)
+pub fn write_record<R: Files + Eprint + AllocGlobal>(
+    rt: &R,
+    name: &str,
+    record: &[u8],
+) -> io::Result<bool> {
+    match part_name(rt.alloc(), name)? {
+        Some(part) => write_part(rt, part.as_str(), name, record),
+        None => {
+            refuse_name(rt)?;
+            Ok(false)
+        }
+    }
 }

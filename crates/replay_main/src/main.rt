@@ -5,14 +5,20 @@
 // length and as many bytes: a feed of that side. `S` and a 32-bit length: a seal into a buffer of so many bytes, each
 // 0xA5 before. `I`: the index, whose bits are printed. `R` and 32-bit numbers a and b: the repeats of a passage.
 // Anything else, or the end of the script inside a call, ends the run.
+#![tactic(auto)]
+
+ghost use Rattle.std.specs.Prelude.{◌≡◌, ◌≤◌};
+
 use capture::Numbers;
 use capture_units::Table;
 use capture_walk::{Collected, WalkWords};
-use libc::{STDERR_FILENO, STDIN_FILENO, STDOUT_FILENO};
 use rules::{Answer, IndexAnswer, Opening};
+use std::io::{self, Read};
 
 // The opening; answers whether its words were there.
-fn run_opening(
+fn run_opening<P: Print, S: Read>(
+    rt: &P,
+    source: &mut S,
     walk: &mut WalkWords,
     kept: &mut Collected,
     numbers: &mut Numbers,
@@ -21,10 +27,10 @@ fn run_opening(
     sums: &mut luma::Sums,
     bins: &mut luma::Bins,
     picture: &mut luma::Picture,
-) -> bool {
+) -> io::Result<bool> {
     let mut words = [0u8; 20];
-    if io::read_full(STDIN_FILENO, &mut words) < 20 {
-        return false;
+    if record_input::read_from(source, &mut words)? < 20 {
+        return Ok(false);
     }
     let o = Opening {
         width: words::word32(&words, 0),
@@ -35,112 +41,123 @@ fn run_opening(
     };
     let a = sample::open(walk, kept, numbers, table, luma, sums, bins, picture, o);
     match a {
-        Answer::Done(_) => {
-            io::write_all(STDOUT_FILENO, b"open ok\n");
-        }
-        Answer::Refused { .. } => program_text::print_answer(b"", b"open refused", a, b"\n"),
+        Answer::Done(_) => rt.write_all(b"open ok\n")?,
+        Answer::Refused { .. } => program_text::print_answer(rt, b"", b"open refused", a, b"\n")?,
     }
-    true
+    Ok(true)
 }
 
 // A seal, where its buffer is not too long.
-fn run_seal(
+fn run_seal<R: Print + Eprint>(
+    rt: &R,
     walk: &WalkWords,
     kept: &Collected,
     numbers: &Numbers,
     table: &Table,
     luma: &luma::Words,
     length: u32,
-) -> bool {
+) -> io::Result<bool> {
     if 65536 < length {
-        io::write_all(
-            STDERR_FILENO,
-            b"replay_main: a buffer above 65,536 bytes ends the run\n",
-        );
-        return false;
+        eprintln!(rt; "replay_main: a buffer above 65,536 bytes ends the run")?;
+        return Ok(false);
     }
     let mut space = [0xA5u8; 65536];
-    let n = io::count(length as isize, &space);
+    let n = length as usize;
     let buffer = &mut space[..n];
     let a = sample::seal(walk, kept, numbers, table, luma, buffer);
-    program_text::print_answer(b"seal", b"seal refused", a, b" ");
-    program_text::print_hex(buffer);
-    io::write_all(STDOUT_FILENO, b"\n");
-    true
+    program_text::print_answer(rt, b"seal", b"seal refused", a, b" ")?;
+    program_text::print_hex(rt, buffer)?;
+    rt.write_all(b"\n")?;
+    Ok(true)
 }
 
-fn run_index(numbers: &Numbers, luma: &luma::Words) -> bool {
+fn run_index<P: Print>(rt: &P, numbers: &Numbers, luma: &luma::Words) -> io::Result<bool> {
     match sample::index(numbers, luma) {
-        IndexAnswer::Given(i) => program_text::print_bits(b"index", index::index_bits(i)),
+        IndexAnswer::Given(i) => program_text::print_bits(rt, b"index", index::index_bits(i))?,
         IndexAnswer::Refused { number, place } => {
             let a = Answer::Refused { number, place };
-            program_text::print_answer(b"", b"index refused", a, b"\n");
+            program_text::print_answer(rt, b"", b"index refused", a, b"\n")?;
         }
     }
-    true
+    Ok(true)
 }
 
-fn run_repeats(luma: &luma::Words) -> bool {
+fn run_repeats<P: Print, S: Read>(rt: &P, source: &mut S, luma: &luma::Words) -> io::Result<bool> {
     let mut ends = [0u8; 8];
-    if io::read_full(STDIN_FILENO, &mut ends) < 8 {
-        return false;
+    if record_input::read_from(source, &mut ends)? < 8 {
+        return Ok(false);
     }
     let a = words::word32(&ends, 0);
     let b = words::word32(&ends, 4);
     let answer = sample::repeats(luma, a, b);
-    program_text::print_answer(b"repeats", b"repeats refused", answer, b"\n");
-    true
+    program_text::print_answer(rt, b"repeats", b"repeats refused", answer, b"\n")?;
+    Ok(true)
+}
+
+fn least(a: usize, b: usize) -> usize
+    ensures within { result ≤ b }
+    ensures whole { a ≤ b → result ≡ a }
+{
+    if a < b { a } else { b }
 }
 
 // Reads a piece of so many bytes; answers whether it is not too long and was there.
-fn read_piece(piece: &mut [u8], length: u32) -> bool {
+fn read_piece<E: Eprint, S: Read>(
+    rt: &E,
+    source: &mut S,
+    piece: &mut [u8],
+    length: u32,
+) -> io::Result<bool> {
     if 1048576 < length {
-        io::write_all(
-            STDERR_FILENO,
-            b"replay_main: a piece above 1,048,576 bytes ends the run\n",
-        );
-        return false;
+        eprintln!(rt; "replay_main: a piece above 1,048,576 bytes ends the run")?;
+        return Ok(false);
     }
-    let n = io::count(length as isize, piece);
-    io::read_full(STDIN_FILENO, &mut piece[..n]) == n
+    let n = least(length as usize, piece.len());
+    Ok(record_input::read_from(source, &mut piece[..n])? == n)
 }
 
-fn feed_capture(
+fn feed_capture<R: Print + Eprint, S: Read>(
+    rt: &R,
+    source: &mut S,
     walk: &mut WalkWords,
     kept: &mut Collected,
     numbers: &mut Numbers,
     table: &mut Table,
     piece: &mut [u8],
     length: u32,
-) -> bool {
-    if !read_piece(piece, length) {
-        return false;
+) -> io::Result<bool> {
+    if !read_piece(rt, source, piece, length)? {
+        return Ok(false);
     }
-    let n = io::count(length as isize, piece);
+    let n = least(length as usize, piece.len());
     let a = sample::feed_capture(walk, kept, numbers, table, &piece[..n]);
-    program_text::print_answer(b"capture", b"capture refused", a, b"\n");
-    true
+    program_text::print_answer(rt, b"capture", b"capture refused", a, b"\n")?;
+    Ok(true)
 }
 
-fn feed_luma(
+fn feed_luma<R: Print + Eprint, S: Read>(
+    rt: &R,
+    source: &mut S,
     luma: &mut luma::Words,
     sums: &mut luma::Sums,
     bins: &mut luma::Bins,
     picture: &mut luma::Picture,
     piece: &mut [u8],
     length: u32,
-) -> bool {
-    if !read_piece(piece, length) {
-        return false;
+) -> io::Result<bool> {
+    if !read_piece(rt, source, piece, length)? {
+        return Ok(false);
     }
-    let n = io::count(length as isize, piece);
+    let n = least(length as usize, piece.len());
     let a = sample::feed_luma(luma, sums, bins, picture, &piece[..n]);
-    program_text::print_answer(b"luma", b"luma refused", a, b"\n");
-    true
+    program_text::print_answer(rt, b"luma", b"luma refused", a, b"\n")?;
+    Ok(true)
 }
 
 // The next call; answers whether there was one.
-fn run_call(
+fn run_call<R: Print + Eprint, S: Read>(
+    rt: &R,
+    source: &mut S,
     walk: &mut WalkWords,
     kept: &mut Collected,
     numbers: &mut Numbers,
@@ -150,34 +167,35 @@ fn run_call(
     bins: &mut luma::Bins,
     picture: &mut luma::Picture,
     piece: &mut [u8],
-) -> bool {
+) -> io::Result<bool> {
     let mut kind = [0u8; 1];
-    if io::read_full(STDIN_FILENO, &mut kind) < 1 {
-        return false;
+    if record_input::read_from(source, &mut kind)? < 1 {
+        return Ok(false);
     }
     if kind[0] == 73 {
-        return run_index(numbers, luma);
+        return run_index(rt, numbers, luma);
     }
     if kind[0] == 82 {
-        return run_repeats(luma);
+        return run_repeats(rt, source, luma);
     }
     let mut word = [0u8; 4];
-    if io::read_full(STDIN_FILENO, &mut word) < 4 {
-        return false;
+    if record_input::read_from(source, &mut word)? < 4 {
+        return Ok(false);
     }
     let length = words::word32(&word, 0);
     let side = kind[0];
     match side {
-        67 => feed_capture(walk, kept, numbers, table, piece, length),
-        76 => feed_luma(luma, sums, bins, picture, piece, length),
-        83 => run_seal(walk, kept, numbers, table, luma, length),
-        _ => false,
+        67 => feed_capture(rt, source, walk, kept, numbers, table, piece, length),
+        76 => feed_luma(rt, source, luma, sums, bins, picture, piece, length),
+        83 => run_seal(rt, walk, kept, numbers, table, luma, length),
+        _ => Ok(false),
     }
 }
 
-// A proved loop has to end, and nothing says that a script does: the turns are counted down from a
-// number that no run uses up.
-fn main() {
+// A proved loop has to end, and nothing says that a script does: the turns are counted up to a
+// number that no run reaches.
+fn main(rt: HostRuntime) -> io::Result<()> {
+    let mut source = rt.reader();
     let mut walk = [0u64; capture_walk::WALK_WORDS];
     let mut kept = [0u8; capture_walk::COLLECTED_BYTES];
     let mut numbers = [0u64; capture::NUMBERS];
@@ -188,6 +206,8 @@ fn main() {
     let mut picture = [0u8; luma::PIXELS];
     let mut piece = [0u8; 1048576];
     if !run_opening(
+        &rt,
+        &mut source,
         &mut walk,
         &mut kept,
         &mut numbers,
@@ -196,12 +216,13 @@ fn main() {
         &mut sums,
         &mut bins,
         &mut picture,
-    ) {
-        return;
+    )? {
+        return Ok(());
     }
-    let mut turns = u64::MAX;
-    while turns > 0
-        && run_call(
+    for _ in 0..u64::MAX {
+        if !run_call(
+            &rt,
+            &mut source,
             &mut walk,
             &mut kept,
             &mut numbers,
@@ -211,8 +232,9 @@ fn main() {
             &mut bins,
             &mut picture,
             &mut piece,
-        )
-    {
-        turns -= 1;
+        )? {
+            return Ok(());
+        }
     }
+    Ok(())
 }
