@@ -1,4 +1,6 @@
 // What a run of bytes does in the file header, in a frame's header, or in the first 42 bytes behind that.
+#![tactic(auto)]
+
 ghost use Rattle.std.specs.Prelude.{◌≡◌, ◌+◌, ◌<◌, ◌≤◌, length};
 ghost use Rattle.capture_steps.specs.Contract.{Goes, Within};
 

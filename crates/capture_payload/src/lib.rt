@@ -1,5 +1,7 @@
 // What a run of bytes does behind a frame's first 58: in a cell, in cells that lie whole in the piece, or behind the
 // frame's cells.
+#![tactic(auto)]
+
 ghost use Rattle.std.specs.Prelude.{◌≡◌, ◌+◌, ◌*◌, ◌<◌, ◌≤◌, length};
 ghost use Rattle.capture_steps.specs.Contract.{Goes, Runs};
 
