@@ -28,7 +28,7 @@ pub struct Walk {
 
 // Cells that lie whole in the piece, one behind the other: the first starts at byte `at` of the piece, and at the
 // offset `place` of the capture.
-#[derive(Drop)]
+#[derive(Clone, Copy)]
 pub struct Run {
     pub at: usize,
     pub many: u64,
@@ -36,7 +36,7 @@ pub struct Run {
     pub place: u64,
 }
 
-#[derive(Drop)]
+#[derive(Clone, Copy)]
 pub enum Event {
     // no cell is shown or whole by these bytes
     Nothing,

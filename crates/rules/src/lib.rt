@@ -4,7 +4,7 @@
 
 // What a sample is opened with: width W, height H, display time d of a picture in microseconds, packet identifier PID,
 // and the edition of the rules that it is measured by (document 02, R-2).
-#[derive(Drop)]
+#[derive(Clone, Copy)]
 pub struct Opening {
     pub width: u32,
     pub height: u32,
@@ -17,7 +17,7 @@ pub struct Opening {
 pub const LAST_NUMBER: u64 = 28;
 
 // What a call answers: done, with its length, or refused, with document 01's number and the place.
-#[derive(Drop)]
+#[derive(Clone, Copy)]
 pub enum Answer {
     Done(u64),
     Refused { number: u64, place: u64 },
@@ -25,7 +25,7 @@ pub enum Answer {
 
 // What reading a cell says of it (document 02, R-6): it starts with 0x47 and is undamaged, it starts with 0x47 and is
 // marked as damaged, or it does not start with 0x47.
-#[derive(Drop)]
+#[derive(Clone, Copy)]
 pub enum Condition {
     Good,
     Damaged,
@@ -33,7 +33,7 @@ pub enum Condition {
 }
 
 // A row of the units, 32 bytes of the record.
-#[derive(Drop)]
+#[derive(Clone, Copy)]
 pub struct UnitRow {
     pub least: u64, // 0: least time
     pub greatest: u64, // 8: greatest time
@@ -44,7 +44,7 @@ pub struct UnitRow {
 }
 
 // A row of the scenes, 32 bytes of the record; word 28 is 0.
-#[derive(Drop)]
+#[derive(Clone, Copy)]
 pub struct SceneRow {
     pub first: u32, // 0: first picture
     pub pictures: u32, // 4
@@ -56,7 +56,7 @@ pub struct SceneRow {
 }
 
 // The index travels with its two parts.
-#[derive(Drop)]
+#[derive(Clone, Copy)]
 pub struct Index {
     pub ic: f64,
     pub ip: f64,
@@ -64,7 +64,7 @@ pub struct Index {
 }
 
 // The figures of a record's header. The record's length (4) and the rows' offsets (12, 20) follow from these.
-#[derive(Drop)]
+#[derive(Clone, Copy)]
 pub struct Header {
     pub edition: u32, // 0
     pub units: u32, // 8
@@ -81,54 +81,54 @@ pub struct Header {
 }
 
 // What reading a record answers: its header's figures, a row, or a refusal.
-#[derive(Drop)]
+#[derive(Clone, Copy)]
 pub enum HeaderAnswer {
     Given(Header),
     Refused { number: u64, place: u64 },
 }
 
-#[derive(Drop)]
+#[derive(Clone, Copy)]
 pub enum UnitAnswer {
     Given(UnitRow),
     Refused { number: u64, place: u64 },
 }
 
-#[derive(Drop)]
+#[derive(Clone, Copy)]
 pub enum SceneAnswer {
     Given(SceneRow),
     Refused { number: u64, place: u64 },
 }
 
 // What an index call answers (document 02, R-7): the index with its two parts, or a refusal.
-#[derive(Drop)]
+#[derive(Clone, Copy)]
 pub enum IndexAnswer {
     Given(Index),
     Refused { number: u64, place: u64 },
 }
 
 // What a survey answers: the identifier with most good packets and how many it has, or a refusal (document 02, R-4).
-#[derive(Drop)]
+#[derive(Clone, Copy)]
 pub enum SurveyAnswer {
     Most { identifier: u64, count: u64 },
     Refused { number: u64, place: u64 },
 }
 
 // A loss that spreads over units (document 02, R-8) is either a key-frame loss or a plain loss, each with its amount.
-#[derive(Drop)]
+#[derive(Clone, Copy)]
 pub enum Loss {
     KeyFrame(f64),
     Plain(f64),
 }
 
 // What reading a shelf answers (R-13): how many records it holds and how many cells they lost, or a refusal.
-#[derive(Drop)]
+#[derive(Clone, Copy)]
 pub enum ShelfAnswer {
     Given { records: usize, lost: u64 },
     Refused { number: u64, place: u64 },
 }
 
 // Where a record starts and ends in its shelf, or a refusal.
-#[derive(Drop)]
+#[derive(Clone, Copy)]
 pub enum PartAnswer {
     Given { start: usize, end: usize },
     Refused { number: u64, place: u64 },
