@@ -1,4 +1,6 @@
 // Whether the rules allow a record: its header and its rows, test by test.
+#![tactic(auto)]
+
 ghost use Rattle.std.specs.Prelude.{◌≡◌, ◌+◌, ◌*◌, ◌≤◌, ◌<◌, length, drop};
 ghost use Rattle.rules.specs.Bytes.{word32 as rule32};
 ghost use Rattle.rules.specs.Reading.{allowed_header, allowed_unit, allowed_units};

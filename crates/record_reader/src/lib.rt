@@ -1,4 +1,6 @@
 // Reading a record: opening it where the rules allow it (`record_allowed`), its header's figures and its rows.
+#![tactic(auto)]
+
 ghost use Rattle.std.specs.Prelude.{◌≡◌, ◌+◌, ◌*◌, ◌≤◌, ◌<◌, length};
 ghost use Rattle.rules.specs.Bytes.{word32 as rule32};
 ghost use Rattle.rules.specs.Record.{scene_offset};

@@ -1,5 +1,7 @@
 // A view of one record: its bytes with its counts, made by opening it. Its functions are thin: each hands the slice
 // and the numbers to a function over those.
+#![tactic(auto)]
+
 ghost use Rattle.std.specs.Prelude.{◌≡◌};
 ghost use Rattle.record_view.specs.Seen.{units_of, scenes_of, fits, HeaderSeen, UnitSeen, SceneSeen, ViewOf};
 

@@ -1,5 +1,7 @@
 // Writing a record: its header, and rows at the places that the caller gives; every other byte of the buffer stands
 // unaltered.
+#![tactic(auto)]
+
 ghost use Rattle.std.specs.Prelude.{◌≡◌, ◌++◌, ◌+◌, ◌*◌, ◌≤◌, ◌<◌, ◌^◌, length};
 ghost use Rattle.rules.specs.Bytes.{bytes_of};
 ghost use Rattle.rules.specs.Record.{record_length, header_bytes, unit_bytes, scene_bytes};
