@@ -1,5 +1,7 @@
 // What the lent arrays of the luma side mean: its scalars, the sizes of its pictures, where everything stands, and how
 // it is opened, read and kept between calls.
+#![tactic(auto)]
+
 ghost use Rattle.std.specs.Prelude.{◌≡◌, ◌+◌, ◌*◌, ◌%◌, ◌^◌, ◌≤◌};
 
 pub mod layout;
@@ -14,7 +16,7 @@ pub use stored::{grid_of, load, opening_in, placed, store};
 // The sizes of a sample's pictures: rows of `width` bytes, blocks of `side` by `side` of them, `columns` by `lines`
 // pixels, `bytes` in all.
 // The second and the third tile column begin at the columns `second` and `third`.
-#[derive(Drop)]
+#[derive(Clone, Copy)]
 pub struct Grid {
     pub width: usize,
     pub side: usize,
@@ -27,7 +29,7 @@ pub struct Grid {
 
 // The scalars of the state: the refusal that stands, bytes fed, whole pictures and those that are not repeated, the
 // place in the current picture, and how its pixels moved so far.
-#[derive(Drop)]
+#[derive(Clone, Copy)]
 pub struct Progress {
     pub status: u64,
     pub place: u64,

@@ -72,11 +72,12 @@ fn boundary(k: u64, w: u64) -> u64
 pub fn grid_of(o: Opening) -> Grid
     ensures { result ≡ grid_of o }
 {
+    let width = o.width as usize;
     let z = figures::sizes_of(o);
     let second = boundary(1, z.columns);
     let third = boundary(2, z.columns);
     Grid {
-        width: o.width as usize,
+        width: width,
         side: z.side as usize,
         columns: z.columns as usize,
         lines: z.lines as usize,
