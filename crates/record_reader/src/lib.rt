@@ -4,15 +4,15 @@
 ghost use Rattle.std.specs.Prelude.{◌≡◌, ◌+◌, ◌*◌, ◌≤◌, ◌<◌, length};
 ghost use Rattle.rules.specs.Bytes.{word32 as rule32};
 ghost use Rattle.rules.specs.Record.{scene_offset};
-ghost use Rattle.rules.specs.Reading.{header_of, unit_place, unit_at, scene_at, header_answer, unit_answer, scene_answer};
-ghost use Rattle.rules.specs.Reading.{unit_in, scene_in};
+ghost use Rattle.rules.specs.Reading.{header_of, unit_place, unit_at, scene_at, header_answer, unit_answer};
+ghost use Rattle.rules.specs.Reading.{scene_answer, unit_in, scene_in};
 ghost use Rattle.record_reader.specs.Opened.{opened_as};
 
 use figures::is_edition;
 use rules::{Header, HeaderAnswer, SceneAnswer, SceneRow, UnitAnswer, UnitRow};
 
 // What opening a record answers: accepted, with its counts of units and scenes, or refused.
-#[derive(Drop)]
+#[derive(Clone, Copy)]
 pub enum Opened {
     Accepted { units: usize, scenes: usize },
     Refused { number: u64, place: u64 },

@@ -9,7 +9,7 @@ use record_reader::Opened;
 use rules::{HeaderAnswer, SceneAnswer, UnitAnswer};
 
 // Its fields are its own: nobody else makes one.
-#[derive(Drop)]
+#[derive(Clone, Copy)]
 pub struct View<'a> {
     bytes: &'a [u8],
     units: usize,
@@ -17,7 +17,7 @@ pub struct View<'a> {
 }
 
 // A record's counts of units and scenes: 0 and 0 where it is refused.
-#[derive(Drop)]
+#[derive(Clone, Copy)]
 struct Counts {
     units: usize,
     scenes: usize,

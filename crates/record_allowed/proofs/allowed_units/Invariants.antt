@@ -6,7 +6,8 @@ use Rattle.record_allowed.proofs.allowed_units.Given as goal
 
 abbrev pub invariant-loop-j : goal.invariant-loop-j
 invariant-loop-j l =
-    (l.j ≤ l.n) × (allowed_units l.known l.n (drop 64 l.bytes) ≡ allowed_units l.known (l.n - l.j) (drop (64 + 32 * l.j) l.bytes))
+    (l.j ≤ l.n) × (allowed_units l.known l.n (drop 64 l.bytes)
+    ≡ allowed_units l.known (l.n - l.j) (drop (64 + 32 * l.j) l.bytes))
 
 abbrev pub decreases-loop-j : goal.decreases-loop-j
 decreases-loop-j l = l.n - l.j
