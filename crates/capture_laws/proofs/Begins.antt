@@ -345,7 +345,8 @@ module _ (known : Bool) where
 abbrev begins_unit : Arrival → Bool
 begins_unit a = a.begins
 
-begins-follow : {n : ℕ} {xs bs : List Arrival} → Follows n xs bs → Follows n (only begins_unit xs) (only begins_unit bs)
+begins-follow : {n : ℕ} {xs bs : List Arrival} → Follows n xs bs →
+    Follows n (only begins_unit xs) (only begins_unit bs)
 unfolding only
 begins-follow (stops h) = stops (only-all begins_unit h)
 begins-follow {n} (next {a} {b} {xs} {bs} p e l f) = go a.begins b.begins e (begins-follow f)

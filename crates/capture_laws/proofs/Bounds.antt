@@ -85,7 +85,8 @@ of-few place f =
     rw (of-from place f) (let h = from-few (count_of f) (frame_time f) (place + 58) (drop 58 f) in
     let d = length-drop 58 f in omega arith)
 
-packets-few : (place : ℕ) (fs : List (List ℕ)) → 188 * length (reaching 188 (packets place fs)) ≤ length (end_to_end fs)
+packets-few : (place : ℕ) (fs : List (List ℕ)) →
+    188 * length (reaching 188 (packets place fs)) ≤ length (end_to_end fs)
 unfolding packets end_to_end
 packets-few place [] = unfold only in omega arith
 packets-few place (f ∷ fs) =

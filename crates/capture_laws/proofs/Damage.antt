@@ -1,4 +1,5 @@
--- The laws of damage (document 02, R-6): editions that know none have document 01's rows, with word 28 zero; and every
+-- The laws of damage (document 02, R-6): editions that know none have document 01's rows, with word 28 zero; and
+-- every
 -- cell is accounted for.
 use Prim.Native.Nat.{ℕ, suc, ◌+◌, ◌*◌}
 use native.Mathlib.Omega.{arith}
@@ -98,9 +99,11 @@ zero-rows (g ∷ gs) = and refl (zero-rows gs)
 
 pub zero-units : (edition : ℕ) (ps : List Packet) → knows_damage edition ≡ false →
     All (λ u. u.damaged ≡ 0) (units_of edition ps)
-zero-units edition ps h = rw (plain-units edition ps h) (zero-rows (groups (arrivals (heeds_splices edition) false ps)))
+zero-units edition ps h =
+    rw (plain-units edition ps h) (zero-rows (groups (arrivals (heeds_splices edition) false ps)))
 
--- ---- every cell is bad, of another identifier, or of PID; and one of PID stands before the first unit, or in a unit,
+-- ---- every cell is bad, of another identifier, or of PID; and one of PID stands before the first unit, or in a
+-- unit,
 -- where it is a cell or damaged
 
 all_kinds : (o : Opening) (ps : List Packet) → length ps ≡ bad_of ps + other_of o ps + length (wanted_of o ps)
@@ -120,7 +123,8 @@ all_kinds o (p ∷ ps) = go (is_bad (condition p.bytes)) (eqb (identifier p.byte
 -- cells or its word 28
 pub every-cell : (o : Opening) (s : List ℕ) →
     length (whole (packets 24 (all_frames s)))
-    ≡ bad_count o s + other_of o (whole (packets 24 (all_frames s))) + all_packets (units o s) + all_damaged (units o s)
+    ≡ bad_count o s + other_of o (whole (packets 24 (all_frames s))) + all_packets (units o s) + all_damaged
+    (units o s)
 unfolding bad_count units whole_wanted
 every-cell o s =
     let ps = whole (packets 24 (all_frames s)) in
@@ -147,7 +151,8 @@ module _ (heeded known : Bool) where
   unfolding arrivals_after
   after-quiet q [] = empty
   after-quiet q (p ∷ ps) =
-      by-pick (All Quiet) (set_apart known p) (and (record { begins = λ _. refl; lost = λ _. refl }) (after-quiet q ps))
+      by-pick (All Quiet) (set_apart known p)
+      (and (record { begins = λ _. refl; lost = λ _. refl }) (after-quiet q ps))
       (and (sound-quiet refl) (after-quiet p ps))
 
   after-sounds : (q : Packet) (ps : List Packet) →
@@ -264,7 +269,8 @@ cells-lost (and {x} {xs} q qs) = go x.damaged refl (cells-lost qs)
 clean-unit : {g : List Arrival} → All Quiet g → unit_of (cells_of g) ≡ clean (unit_of g)
 clean-unit {g} q = plain-unit (cells-sound g) ∙ (unfold plain_unit unit_of in rw (cells-lost q))
 
-clean-rows : {gs : List (List Arrival)} → All (All Quiet) gs → map unit_of (map cells_of gs) ≡ map clean (map unit_of gs)
+clean-rows : {gs : List (List Arrival)} → All (All Quiet) gs →
+    map unit_of (map cells_of gs) ≡ map clean (map unit_of gs)
 clean-rows empty = refl
 clean-rows (and q qs) = rw (clean-unit q, clean-rows qs)
 

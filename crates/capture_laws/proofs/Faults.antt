@@ -206,7 +206,8 @@ module _ (n n' : ℕ) (t : List ℕ) (h : n ≤ n') where
       (λ x c ih place e.
       rw (frames-one x c, rest-one x c, frames-onward x t c, rest-onward x t c)
       (earlier-grows (header-grows n n' h place (take (frame_size x) x) (take (frame_size x) x) (λ i g k. refl))
-      (ih (place + length (take (frame_size x) x)) (rw (length-take-le (frame_size x) x c, length-drop) (omega arith)))))
+      (ih (place + length (take (frame_size x) x))
+      (rw (length-take-le (frame_size x) x c, length-drop) (omega arith)))))
 
 -- ---- 7 and 8 of a capture that goes on
 
@@ -225,7 +226,8 @@ module _ (n : ℕ) where
   frame-none place (f ∷ fs) g = rw (header-none place f g, frame-none (place + length f) fs (omega arith))
 
 pub frames-grow : (s t : List ℕ) →
-    Grows (length s) (wrong_frame (length s) 24 (all_frames s)) (wrong_frame (length (s ++ t)) 24 (all_frames (s ++ t)))
+    Grows (length s) (wrong_frame (length s) 24 (all_frames s))
+    (wrong_frame (length (s ++ t)) 24 (all_frames (s ++ t)))
 unfolding all_frames whole_frames unfinished behind_header
 frames-grow s t = elim (dec_le 24 (length s)) [
   | yes g ↦

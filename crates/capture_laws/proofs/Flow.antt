@@ -15,7 +15,8 @@ use Rattle.rules.specs.Editions.{knows_damage}
 use Rattle.rules.specs.Packets.{Packet, carries, packets_from, packets_of, packets, shown, whole, skipped}
 use Rattle.rules.specs.Packets.{wanted_of, bad_of}
 use Rattle.rules.specs.Units.{Arrival, before_units, beginnings}
-use Rattle.rules.specs.Capture.{whole_frames, unfinished, all_frames, whole_wanted, shown_wanted, bad_count, begins_at}
+use Rattle.rules.specs.Capture.{whole_frames, unfinished, all_frames, whole_wanted, shown_wanted, bad_count}
+use Rattle.rules.specs.Capture.{begins_at}
 use Rattle.rules.specs.Capture.{too_many_units}
 use Rattle.capture_laws.specs.UnderWay.{Split, current}
 use Rattle.rules.proofs.Laws.Lists.{only-append, count-append}
@@ -72,7 +73,8 @@ module _ (d : ℕ) (some : 0 < d) (small : d ≤ 188) where
 
     module _ (k m : ℕ) (p : Split (unfinished s) k m) where
       now : reached d s ≡ passed s k
-          ++ reaching d (packets_from m (frame_time (unfinished s)) (base s + 58 + 188 * k) (current (unfinished s) k))
+          ++ reaching d (packets_from m (frame_time (unfinished s)) (base s + 58 + 188 * k)
+          (current (unfinished s) k))
       unfolding passed
       now =
           let e = of-split (base s) (unfinished s) [] k m p in

@@ -16,7 +16,8 @@ use Rattle.rules.specs.Frames.{microseconds, stored_length, frame_size}
 use Rattle.rules.specs.Packets.{packets, wanted_of}
 use Rattle.rules.specs.Units.{arrivals, beginnings}
 use Rattle.rules.specs.Capture.{whole_frames, unfinished, all_frames, earlier, showing, too_long, is_magic}
-use Rattle.rules.specs.Capture.{wrong_magic, wrong_link, wrong_frame_header, wrong_frame, too_many_units, format_fault}
+use Rattle.rules.specs.Capture.{wrong_magic, wrong_link, wrong_frame_header, wrong_frame, too_many_units}
+use Rattle.rules.specs.Capture.{format_fault}
 use Rattle.rules.specs.Capture.{capture_fault}
 use Rattle.capture_laws.specs.UnderWay.{Fine}
 use Rattle.capture_laws.proofs.Frames.{size-least}
@@ -214,7 +215,8 @@ header-same n n' place f h g =
 -- frames that showed nothing show nothing later
 frames-next : (n n' p : ℕ) {fs : List (List ℕ)} (r : List ℕ) (gs : List (List ℕ)) → All Whole fs →
     p + length (end_to_end fs) ≤ n → n ≤ n' →
-    wrong_frame n p (fs ++ r ∷ []) ≡ none → wrong_frame n' p (fs ++ gs) ≡ wrong_frame n' (p + length (end_to_end fs)) gs
+    wrong_frame n p (fs ++ r ∷ []) ≡ none →
+    wrong_frame n' p (fs ++ gs) ≡ wrong_frame n' (p + length (end_to_end fs)) gs
 unfolding wrong_frame end_to_end
 frames-next n n' p r gs empty a h e = ap (λ (q : ℕ). wrong_frame n' q gs) (omega arith)
 frames-next n n' p r gs (and {x} {xs} w ws) a h e =
@@ -344,5 +346,6 @@ magic-shown s h =
 pub link-shown : (s : List ℕ) → 23 < length s → wrong_link s ≡ pick (eqb (word32 s 20) 1) none (fault 6 23)
 unfolding wrong_link showing
 link-shown s h =
-    rw (lt-ltb 23 (length s) h) (by-test (λ (b : Bool). pick (not b) (fault 6 23) none ≡ pick b none (fault 6 23)) (eqb
+    rw (lt-ltb 23 (length s) h)
+    (by-test (λ (b : Bool). pick (not b) (fault 6 23) none ≡ pick b none (fault 6 23)) (eqb
     (word32 s 20) 1) (λ e. refl) (λ e. refl))

@@ -63,7 +63,8 @@ module _ (s t : List ℕ) (h : 24 ≤ length s) where
   behind_more = drop-append-le 24 s t h
 
   -- the frame is not whole yet
-  pub whole_part : length (unfinished s ++ t) < frame_size (unfinished s ++ t) → whole_frames (s ++ t) ≡ whole_frames s
+  pub whole_part : length (unfinished s ++ t) < frame_size (unfinished s ++ t) →
+      whole_frames (s ++ t) ≡ whole_frames s
   unfolding whole_frames unfinished
   whole_part k =
       rw (behind_more, frames-append (behind_header s) t, frames-none (rest (behind_header s) ++ t) k)
@@ -258,7 +259,8 @@ frames-whole s =
     by_frames (λ (x : List ℕ). All Whole (frames x))
     (λ x h. rw (frames-none x h) empty)
     (λ x h ih.
-    rw (frames-one x h) (and (length-take-le (frame_size x) x h ∙ sym (size-take x (frame_size x) (size-least x) h)) ih))
+    rw (frames-one x h) (and
+    (length-take-le (frame_size x) x h ∙ sym (size-take x (frame_size x) (size-least x) h)) ih))
     (behind_header s)
 
 whole_room : (f : List ℕ) → Whole f → 188 * count_of f ≤ length (drop 58 f)

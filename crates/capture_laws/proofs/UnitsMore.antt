@@ -55,7 +55,8 @@ units-groups heeded known (p ∷ ps) =
     (units-groups heeded known ps)
     (length-groups _ (arrivals_after heeded known p ps) ∙ ap suc (begins-alike heeded known p ps))
 
-pub units-beginnings : (edition : ℕ) (ps : List Packet) → length (units_of edition ps) ≡ length (beginnings edition ps)
+pub units-beginnings : (edition : ℕ) (ps : List Packet) →
+    length (units_of edition ps) ≡ length (beginnings edition ps)
 unfolding units_of beginnings
 units-beginnings edition ps =
     length-map (groups (arrivals (heeds_splices edition) (knows_damage edition) ps)) unit_of

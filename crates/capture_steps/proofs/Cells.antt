@@ -1,7 +1,10 @@
 -- Bytes behind a frame's first 58: of a cell, of a run of cells, and behind the cells. What the walk stands for
 -- behind them, and what they bring.
 use Prim.{tt}
-use Rattle.std.proofs.Common.{◌≡◌, ℕ, suc, ◌+◌, ◌-◌, ◌*◌, ◌%◌, ◌^◌, ◌<◌, ◌≤◌, leb, List, [], ◌∷◌, ◌++◌, map, length, get_or, take, drop, sym, refl, ap, ◌∙◌, append_assoc, append-nil, arith, length-append, length-drop, drop_of_length-le, length-take-le, get_or-drop, get_or-take, get_or-append-add}
+use Rattle.std.proofs.Common.{◌≡◌, ℕ, suc, ◌+◌, ◌-◌, ◌*◌, ◌%◌, ◌^◌, ◌<◌, ◌≤◌, leb, List, [], ◌∷◌, ◌++◌, map, length}
+use Rattle.std.proofs.Common.{get_or, take, drop, sym, refl, ap, ◌∙◌, append_assoc, append-nil, arith, length-append}
+use Rattle.std.proofs.Common.{length-drop, drop_of_length-le, length-take-le, get_or-drop, get_or-take}
+use Rattle.std.proofs.Common.{get_or-append-add}
 use native.Mathlib.Decide.{dec_lt}
 use lib.ListN.{get_or-append}
 use lib.Seq.{drop-append-le}
@@ -107,7 +110,8 @@ module _ (d : ℕ) (some : 0 < d) (small : d ≤ 188) (s t : List ℕ) (h : 24 �
         from-whole d small m τ (pl + 188 * k) t (omega arith),
         from-short d small l τ (pl + 188 * k + 188 * m) [] (omega arith),
         append-nil (packets_from m τ (pl + 188 * k) t),
-        append_assoc (packets 24 (whole_frames s)) (packets_from k τ pl (drop 58 r)) (packets_from m τ (pl + 188 * k) t),
+        append_assoc (packets 24 (whole_frames s)) (packets_from k τ pl (drop 58 r))
+            (packets_from m τ (pl + 188 * k) t),
       )
 
 module _ {k : List ℕ} {s : Walk} {joined : List ℕ} (start : 24 ≤ length joined)
@@ -280,7 +284,8 @@ module _ {k : List ℕ} {s : Walk} {joined : List ℕ} (start : 24 ≤ length jo
     run-gains x time place e f g =
         let h = time-held t k r room fits-run refl (λ i y. refl) in
         let p : base joined + 58 + 188 * b ≡ s.fed = omega (arith, place-now, at-cell) in
-        gains-many (clear-more t k r room fits-run refl (λ i y. refl)) (passed joined b) new (cells_from m time place x)
+        gains-many (clear-more t k r room fits-run refl (λ i y. refl)) (passed joined b) new
+        (cells_from m time place x)
         (from-cells m (frame_time (unfinished joined)) (base joined + 58 + 188 * b) t ∙ rw (p, e, f, h) g)
         (before 4 (omega arith) (omega arith))
         (before 188 (omega arith) (omega arith))

@@ -1,6 +1,7 @@
 -- Bytes of the file header: what the walk stands for behind them.
 use Prim.{tt}
-use Rattle.std.proofs.Common.{◌≡◌, ℕ, ◌+◌, ◌<◌, ◌≤◌, Bool, true, false, List, [], ◌++◌, length, sym, refl, ◌∙◌, arith, length-append, eq-eqb, ne_eqb}
+use Rattle.std.proofs.Common.{◌≡◌, ℕ, ◌+◌, ◌<◌, ◌≤◌, Bool, true, false, List, [], ◌++◌, length, sym, refl, ◌∙◌, arith}
+use Rattle.std.proofs.Common.{length-append, eq-eqb, ne_eqb}
 use native.Mathlib.Decide.{dec_lt}
 use Rattle.rules.specs.Bytes.{word32, count}
 use Rattle.rules.specs.Refusals.{none}

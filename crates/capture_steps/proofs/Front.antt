@@ -1,6 +1,7 @@
 -- Bytes of a frame's header or of the first 42 behind it: what the walk stands for behind them.
 use Prim.{tt}
-use Rattle.std.proofs.Common.{◌≡◌, ℕ, ◌+◌, ◌-◌, ◌<◌, ◌≤◌, List, ◌++◌, length, get_or, take, drop, sym, ◌∙◌, arith, length-append, length-drop, length-take-le, get_or-drop, get_or-take, get_or-append-add}
+use Rattle.std.proofs.Common.{◌≡◌, ℕ, ◌+◌, ◌-◌, ◌<◌, ◌≤◌, List, ◌++◌, length, get_or, take, drop, sym, ◌∙◌, arith}
+use Rattle.std.proofs.Common.{length-append, length-drop, length-take-le, get_or-drop, get_or-take, get_or-append-add}
 use native.Mathlib.Decide.{dec_lt}
 use lib.ListN.{get_or-append}
 use Rattle.rules.specs.Bytes.{byte}

@@ -1,5 +1,6 @@
 -- The cells of a capture that goes on: those that are shown, and those that are whole.
-use Rattle.std.proofs.Common.{◌≡◌, ℕ, zero, suc, ◌+◌, ◌*◌, ◌≤◌, List, [], ◌∷◌, ◌++◌, map, length, take, drop, sym, refl, ap, ◌∙◌, append-nil, arith, take-append-drop, length-take-le, drop-drop}
+use Rattle.std.proofs.Common.{◌≡◌, ℕ, zero, suc, ◌+◌, ◌*◌, ◌≤◌, List, [], ◌∷◌, ◌++◌, map, length, take, drop, sym}
+use Rattle.std.proofs.Common.{refl, ap, ◌∙◌, append-nil, arith, take-append-drop, length-take-le, drop-drop}
 use Rattle.rules.specs.Refusals.{none}
 use Rattle.rules.specs.Packets.{Packet, packets_from, shown, whole}
 use Rattle.capture_laws.proofs.Onward.{from-done}
@@ -33,7 +34,8 @@ shown-same s a e = shown_of a ∙ ap (map head_of) e ∙ sym (shown_of s)
 
 -- ---- cells one behind the other
 
-pub from-cells : (n time place : ℕ) (s : List ℕ) → map cell_of (packets_from n time place s) ≡ cells_from n time place s
+pub from-cells : (n time place : ℕ) (s : List ℕ) →
+    map cell_of (packets_from n time place s) ≡ cells_from n time place s
 unfolding packets_from cells_from
 from-cells zero time place s = refl
 from-cells (suc n) time place s =
@@ -42,7 +44,8 @@ from-cells (suc n) time place s =
 
 -- one more, at the end: for whoever takes a run's cells one by one
 pub cells-more : (n time place : ℕ) (s : List ℕ) →
-    cells_from (n + 1) time place s ≡ cells_from n time place s ++ cell_in time (place + 188 * n) (drop (188 * n) s) ∷ []
+    cells_from (n + 1) time place s ≡ cells_from n time place s
+    ++ cell_in time (place + 188 * n) (drop (188 * n) s) ∷ []
 unfolding cells_from
 cells-more zero time place s =
     let e : place + 188 * zero ≡ place = omega arith in
@@ -103,7 +106,8 @@ module _ {s a : List ℕ} (clear : format_fault a ≡ none) where
       still : (ps : List Packet) (p q : Packet) → head_of q ≡ head_of p → reached 4 s ≡ ps ++ p ∷ [] →
           reached 4 a ≡ ps ++ q ∷ [] → shown_cells a ≡ shown_cells s
       still ps p q h c d =
-          shown_of a ∙ ap (map head_of) d ∙ map-append head_of ps (q ∷ []) ∙ ap (λ (x : Cell). map head_of ps ++ x ∷ []) h
+          shown_of a ∙ ap (map head_of) d ∙ map-append head_of ps (q ∷ [])
+          ∙ ap (λ (x : Cell). map head_of ps ++ x ∷ []) h
           ∙ sym (map-append head_of ps (p ∷ [])) ∙ ap (map head_of) (sym c) ∙ sym (shown_of s)
 
   -- and is whole
@@ -129,10 +133,12 @@ module _ {s a : List ℕ} (clear : format_fault a ≡ none) where
       record {
         clear = clear;
         shown = shown_of a ∙ ap (map head_of) d ∙ map-append head_of ps qs
-            ∙ rw (heads qs, g) (ap (λ (x : List Cell). x ++ map head cs) (ap (map head_of) (sym b) ∙ sym (shown_of s)));
+            ∙ rw (heads qs, g) (ap (λ (x : List Cell). x ++ map head cs)
+            (ap (map head_of) (sym b) ∙ sym (shown_of s)));
         whole = whole-of a ∙ ap (map cell_of) e ∙ map-append cell_of ps qs
             ∙ rw g (ap (λ (x : List Cell). x ++ cs) (ap (map cell_of) (sym c) ∙ sym (whole-of s)));
       }
 
 pub level : (s : List ℕ) (ps : List Packet) → reached 4 s ≡ ps → reached 188 s ≡ ps → Level s
-level s ps e f = shown_of s ∙ ap (map head_of) e ∙ heads ps ∙ ap (map head) (ap (map cell_of) (sym f) ∙ sym (whole-of s))
+level s ps e f = shown_of s ∙ ap (map head_of) e ∙ heads ps
+    ∙ ap (map head) (ap (map cell_of) (sym f) ∙ sym (whole-of s))

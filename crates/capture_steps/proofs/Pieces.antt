@@ -1,5 +1,6 @@
 -- The state in the words, a refusal that bytes show, and the bytes of a step.
-use Rattle.std.proofs.Common.{◌≡◌, ℕ, ◌+◌, ◌<◌, ◌≤◌, List, [], ◌∷◌, length, take, drop, ap, arith, length-drop, length-take-le, take_all}
+use Rattle.std.proofs.Common.{◌≡◌, ℕ, ◌+◌, ◌<◌, ◌≤◌, List, [], ◌∷◌, length, take, drop, ap, arith, length-drop}
+use Rattle.std.proofs.Common.{length-take-le, take_all}
 use lib.Seq.{sets, sets-eq}
 use Rattle.rules.specs.Refusals.{fault}
 use Rattle.rules.specs.Capture.{whole_frames, unfinished}

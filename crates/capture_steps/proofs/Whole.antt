@@ -1,12 +1,16 @@
 -- A frame that lies whole in the piece: what the walk stands for behind it, and the cells that it brings.
 use Prim.{tt}
-use Rattle.std.proofs.Common.{◌≡◌, ℕ, ◌+◌, ◌-◌, ◌*◌, ◌/◌, ◌%◌, ◌^◌, ◌<◌, ◌≤◌, Bool, true, false, ◌&&◌, eqb, ltb, List, [], ◌∷◌, ◌++◌, map, length, take, drop, sym, refl, ap, ◌∙◌, append-nil, arith, length-append, length-drop, take-append-drop, length-take-le, drop-drop, ltb-true, eqb-true}
+use Rattle.std.proofs.Common.{◌≡◌, ℕ, ◌+◌, ◌-◌, ◌*◌, ◌/◌, ◌%◌, ◌^◌, ◌<◌, ◌≤◌, Bool, true, false, ◌&&◌, eqb, ltb, List}
+use Rattle.std.proofs.Common.{[], ◌∷◌, ◌++◌, map, length, take, drop, sym, refl, ap, ◌∙◌, append-nil, arith}
+use Rattle.std.proofs.Common.{length-append, length-drop, take-append-drop, length-take-le, drop-drop, ltb-true}
+use Rattle.std.proofs.Common.{eqb-true}
 use native.Mathlib.Decide.{dec_le}
 use lib.Seq.{drop-append-le}
 use Rattle.rules.specs.Bytes.{pick}
 use Rattle.rules.specs.Refusals.{none}
 use Rattle.rules.specs.Frames.{microseconds, stored_length, frame_size, frame_time}
-use Rattle.rules.specs.Packets.{Packet, carries, holds_headers, is_ipv4, is_plain, is_unfragmented, is_udp, lengths_agree}
+use Rattle.rules.specs.Packets.{Packet, carries, holds_headers, is_ipv4, is_plain, is_unfragmented, is_udp}
+use Rattle.rules.specs.Packets.{lengths_agree}
 use Rattle.rules.specs.Packets.{is_stored_whole, holds_packets, udp_length, packets_from, packets, skipped}
 use Rattle.rules.specs.Capture.{whole_frames, unfinished}
 use Rattle.capture_laws.specs.UnderWay.{count_of, Fine}
@@ -138,7 +142,8 @@ module _ {k : List ℕ} {s : Walk} {joined : List ℕ} (start : 24 ≤ length jo
   as-they-stand =
       let e : drop 58 x ≡ drop 58 f ++ drop n x =
       ap (drop 58) (sym (take-append-drop n x)) ∙ drop-append-le 58 f (drop n x) far in
-      rw (count-is, time-is, e) (from-done (count_of f) (frame_time f) (base joined + 58) (drop 58 f) (drop n x) whole)
+      rw (count-is, time-is, e)
+      (from-done (count_of f) (frame_time f) (base joined + 58) (drop 58 f) (drop n x) whole)
 
   place : base joined ≡ s.fed
   place = let e = base_sum joined start in let g = u.many in let h = u.fed in let z = a.next in omega arith

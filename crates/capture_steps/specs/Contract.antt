@@ -42,7 +42,8 @@ abbrev pub Tells : Event → Walk → List ℕ → List ℕ → List ℕ → Typ
 Tells Nothing s piece before after = Gains before after [] []
 Tells (Shown c) s piece before after = Gains before after (c ∷ []) [] × Level before
 Tells (Whole c) s piece before after = Gains before after [] (c ∷ []) × Level after
-Tells (Cells r) s piece before after = Gains before after (map head (cells_of r piece)) (cells_of r piece) × Level before
+Tells (Cells r) s piece before after =
+    Gains before after (map head (cells_of r piece)) (cells_of r piece) × Level before
 Tells Refused s piece before after = (format_fault after ≡ fault s.status s.place) × Halts s before after
 
 -- the whole cells that an event brings
@@ -92,7 +93,8 @@ pub record Carried (w : List ℕ) (at : ℕ) (piece : List ℕ) (from n : ℕ) (
 -- of n bytes of a cell from its byte `got` on, those among its first six
 pub record Collects (w : List ℕ) (got : ℕ) (piece : List ℕ) (from n : ℕ) (w' : List ℕ) : Type 0 where
   pub size : length w' ≡ length w
-  pub new : length w ≡ 64 → (i : ℕ) → i < n → got + i < 6 → slice_index w' (58 + (got + i)) ≡ slice_index piece (from + i)
+  pub new : length w ≡ 64 → (i : ℕ) → i < n → got + i < 6 →
+      slice_index w' (58 + (got + i)) ≡ slice_index piece (from + i)
   pub below : (k : ℕ) → k < 58 + got → slice_index w' k ≡ slice_index w k
 
 -- n bytes more, of a frame of which at bytes are there, end no later than what they are in: the header, the first 42

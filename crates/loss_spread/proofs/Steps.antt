@@ -110,7 +110,8 @@ module _ (n k : ℕ) (ps : List Float) (long : length ps ≡ n) where
       let inside : k < length ps = omega arith in
       rw (le-leb k n (omega arith), drop-cons ps k one64 inside, t, le-leb (k + 1) n (omega arith), add-one)
 
-  end-taken : k ≡ n → keys_from n k ps ≡ record { place = k; probability = get_or ps k one64 } ∷ keys_from n (k + 1) ps
+  end-taken : k ≡ n → keys_from n k ps
+      ≡ record { place = k; probability = get_or ps k one64 } ∷ keys_from n (k + 1) ps
   unfolding key_frames
   end-taken e =
       let past : length ps ≤ k = omega arith in

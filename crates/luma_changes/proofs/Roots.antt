@@ -1,6 +1,7 @@
 -- Changes: a number that fits, with the next one too large, is the rule's root; and four times V is small enough for
 -- 64 bits.
-use Rattle.std.proofs.Common.{◌≡◌, ℕ, ◌*◌, ◌<◌, ◌≤◌, le_trans, mul_assoc, mul_comm, mul-le-mul, le_antisymm, mul-le-mul_left, mul-pos, sub-le, arith}
+use Rattle.std.proofs.Common.{◌≡◌, ℕ, ◌*◌, ◌<◌, ◌≤◌, le_trans, mul_assoc, mul_comm, mul-le-mul, le_antisymm}
+use Rattle.std.proofs.Common.{mul-le-mul_left, mul-pos, sub-le, arith}
 use Rattle.rules.specs.Bytes.{apart}
 use Rattle.rules.specs.Changes.{root}
 use Rattle.luma_laws.proofs.Changes.{Root, greatest, root-greatest, root-most}

@@ -98,7 +98,8 @@ by_rows F G W e (suc m) y p =
 
 -- any size of picture, of rows and of blocks; bytes behind the H rows count in neither
 pub sum-tally : (H W n r c : ℕ) (p : List ℕ) → 0 < n → 0 < W → r * n + n ≤ H →
-    total (map (λ row. total (take n (drop (c * n) row))) (take n (drop (r * n) (parts H W p)))) ≡ block_tally W n r c p
+    total (map (λ row. total (take n (drop (c * n) row))) (take n (drop (r * n) (parts H W p))))
+    ≡ block_tally W n r c p
 unfolding from_row
 sum-tally H W n r c p some wide h =
     let g : List ℕ → ℕ = λ row. total (take n (drop (c * n) row)) in

@@ -61,7 +61,8 @@ half-low s p h = omega arith
 half_high : (s p : ℕ) → (s + 1) / 2 < p → s + 1 ≤ p + (s + 1) / 2
 half_high s p h = omega arith
 
--- half of the whole root of 40,000 × V / n², rounded up, is nearest to the root of 10,000 × V / n²: 16 bits are enough
+-- half of the whole root of 40,000 × V / n², rounded up, is nearest to the root of 10,000 × V / n²: 16 bits are
+-- enough
 pub nearest-is : (v n : ℕ) → 40000 * v < 65536 * 65536 * n * n → Nearest v n (nearest v n)
 unfolding nearest
 nearest-is v n h =

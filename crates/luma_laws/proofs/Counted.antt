@@ -1,4 +1,5 @@
--- The pictures of a sample: which are whole, and that each of their pixels adds one to one bin of one tile's histogram
+-- The pictures of a sample: which are whole, and that each of their pixels adds one to one bin of one tile's
+-- histogram
 -- and to no other, so that the bins of the nine histograms total w × h.
 use Prim.Native.Nat.{ℕ, suc, ◌+◌, ◌*◌, ◌/◌, ◌≤◌, ◌<◌}
 use native.Mathlib.Omega.{arith}
@@ -52,7 +53,8 @@ pub counted-whole : (o : Opening) (luma : List ℕ) (i : ℕ) → i < picture_co
 unfolding picture_count
 counted-whole o luma i h = go (opening_fault o) refl h
   where
-    go : (f : Fault) → opening_fault o ≡ f → i < if_opened f (smaller 750 (length luma / picture_size o)) → Whole o luma i
+    go : (f : Fault) → opening_fault o ≡ f → i < if_opened f (smaller 750 (length luma / picture_size o)) →
+        Whole o luma i
     go none e l =
         let k = smaller-least 750 (length luma / picture_size o) i l in
         let up : i + 1 ≤ length luma / picture_size o = omega (arith, k.1) in
@@ -77,7 +79,8 @@ reduced-length o luma =
 
 -- a bin is what the pixel at place j gives and what the others give
 pixel-adds : (o : Opening) (px : List ℕ) (j t b : ℕ) → j < length px → t < 9 → b < 16 →
-    get_or (get_or (histograms o px) t []) b 0 ≡ other_bin o t b j px + hits (columns o) (lines o) t b j (get_or px j 0)
+    get_or (get_or (histograms o px) t []) b 0
+    ≡ other_bin o t b j px + hits (columns o) (lines o) t b j (get_or px j 0)
 unfolding tally
 pixel-adds o px j t b h ht hb =
     let f : ℕ → ℕ → ℕ = hits (columns o) (lines o) t b in

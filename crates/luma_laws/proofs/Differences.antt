@@ -14,7 +14,8 @@ use Rattle.rules.specs.Bytes.{pick, total, smaller, parts, All, empty, and, Byte
 use Rattle.rules.specs.Opening.{columns, lines}
 use Rattle.rules.specs.Pictures.{picture_size, picture_count, pictures, pixels}
 use Rattle.rules.specs.Histograms.{in_tile, histogram, histograms}
-use Rattle.rules.specs.Cuts.{bins_apart, per_million, tile_difference, tile_differences, insert, sorted, fifth, difference}
+use Rattle.rules.specs.Cuts.{bins_apart, per_million, tile_difference, tile_differences, insert, sorted, fifth}
+use Rattle.rules.specs.Cuts.{difference}
 use Rattle.rules.specs.Cuts.{least_of_six, at, cut_score}
 use Rattle.rules.specs.Seal.{reduced}
 use Rattle.rules.proofs.Laws.Lists.{length-table, by-test}

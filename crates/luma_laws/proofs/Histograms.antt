@@ -108,7 +108,8 @@ unfolding in_tile_from
 in-tile w h t p [] empty = empty
 in-tile w h t p (v ∷ px) (and k ks) = go (eqb (tile_at w h p) t) (in-tile w h t (suc p) px ks)
   where
-    go : (b : Bool) {more : List ℕ} → All (λ (x : ℕ). x < 256) more → All (λ (x : ℕ). x < 256) (pick b (v ∷ more) more)
+    go : (b : Bool) {more : List ℕ} → All (λ (x : ℕ). x < 256) more →
+        All (λ (x : ℕ). x < 256) (pick b (v ∷ more) more)
     go true r = and k r
     go false r = r
 

@@ -39,7 +39,8 @@ few-scenes d hs rs qs low high =
     go (s ∷ ss) e =
         let m = least_between d in
         let long = (between_is d low).least in
-        let far = starts_apart d (cut_scores hs) m (length hs - 2) long (cut_inside hs) (length ss) 0 1 (omega arith) in
+        let far = starts_apart d (cut_scores hs) m (length hs - 2) long (cut_inside hs) (length ss) 0 1
+        (omega arith) in
         let apart = rw e at far in
         let is = starts_from d (s ∷ ss) (length ss) 0 1 in
         omega (arith, few-starts m (length hs) is (between-three d low high) apart)

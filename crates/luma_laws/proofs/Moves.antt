@@ -48,7 +48,8 @@ squared-most old new g h =
 behind : (g : ℕ → ℕ → ℕ) (x q : ℕ) (xs t : List ℕ) →
     tally (λ i v. g (get_or (x ∷ xs) i 0) v) (suc q) t ≡ tally (λ i v. g (get_or xs i 0) v) q t
 behind g x q xs t =
-    tally-shift (λ i v. g (get_or (x ∷ xs) i 0) v) (λ i v. g (get_or xs i 0) v) (suc q) q t (λ j v k. rw (suc-add q j))
+    tally-shift (λ i v. g (get_or (x ∷ xs) i 0) v) (λ i v. g (get_or xs i 0) v) (suc q) q t
+    (λ j v k. rw (suc-add q j))
 
 pub squares-are : (old new : List ℕ) → length new ≤ length old → squares old new ≡ squared old new
 unfolding squares tally

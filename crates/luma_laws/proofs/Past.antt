@@ -1,7 +1,8 @@
 -- A picture more.
 use Prim.Native.Nat.{ℕ, zero, suc, ◌+◌, ◌-◌, ◌*◌, ◌/◌, ◌%◌, ◌^◌, ◌≤◌, ◌<◌}
 use native.Mathlib.Omega.{arith}
-use native.Mathlib.Nat.{suc-mul, pow-le-pow_right, pow-suc, zero-div, div-one, lt_of_not-le, mul_comm, div-eq_of_lt-le}
+use native.Mathlib.Nat.{suc-mul, pow-le-pow_right, pow-suc, zero-div, div-one, lt_of_not-le, mul_comm}
+use native.Mathlib.Nat.{div-eq_of_lt-le}
 use native.Mathlib.Nat.{div-div-eq-div-mul, add-mul}
 use native.Mathlib.Decide.{dec_le}
 use mathlib.Core.Path.{◌≡◌, refl, sym, ap, ◌∙◌}
@@ -248,7 +249,8 @@ pub fresh-more : (pxs : List (List ℕ)) (px : List ℕ) →
 unfolding count
 fresh-more pxs px =
     rw (repeats-more pxs px, count-append not (repeats pxs) (next_repeat pxs px ∷ [])) (ap (λ (x : ℕ). count not
-    (repeats pxs) + x) (by-test (λ (b : Bool). pick (not b) 1 0 + 0 ≡ pick b 0 1) (next_repeat pxs px) (λ e. refl) (λ e.
+    (repeats pxs) + x) (by-test (λ (b : Bool). pick (not b) 1 0 + 0 ≡ pick b 0 1) (next_repeat pxs px) (λ e. refl)
+    (λ e.
     refl)))
 
 -- ---- a map of bits

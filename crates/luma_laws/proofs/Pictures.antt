@@ -112,7 +112,8 @@ pixels-small o picture h = all_lines (lines o) 0 (λ r. pixel_line o (band o pic
 
 -- ---- refusal 10 stays
 
-pub luma-kept : (o : Opening) (s t : List ℕ) (k p : ℕ) → luma_fault o s ≡ fault k p → luma_fault o (s ++ t) ≡ fault k p
+pub luma-kept : (o : Opening) (s t : List ℕ) (k p : ℕ) → luma_fault o s ≡ fault k p →
+    luma_fault o (s ++ t) ≡ fault k p
 unfolding luma_fault
 luma-kept o s t k p h = elim (dec_le (length s) (750 * picture_size o)) [
   | yes g ↦

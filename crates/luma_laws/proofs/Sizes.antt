@@ -1,4 +1,5 @@
--- The sizes of an opening that is not refused: what its given values and its reduced size are bounded by, and that the
+-- The sizes of an opening that is not refused: what its given values and its reduced size are bounded by, and that
+-- the
 -- level is the greatest of all.
 use Prim.Native.Nat.{ℕ, zero, suc, ◌*◌, ◌/◌, ◌^◌, ◌≤◌, ◌<◌}
 use native.Mathlib.Omega.{arith}
@@ -13,7 +14,8 @@ use Rattle.rules.specs.declared.Opening.{Opening}
 use Rattle.rules.specs.Bytes.{pick, within}
 use Rattle.rules.specs.Refusals.{Fault, none, unless, ◌or_else◌}
 use Rattle.rules.specs.Editions.{is_edition}
-use Rattle.rules.specs.Opening.{good_size, good_time, good_pid, opening_fault, level_up_to, level, side, columns, lines}
+use Rattle.rules.specs.Opening.{good_size, good_time, good_pid, opening_fault, level_up_to, level, side, columns}
+use Rattle.rules.specs.Opening.{lines}
 use Rattle.rules.specs.Opening.{pixel_count}
 use Rattle.rules.proofs.Laws.Lists.{both, inside}
 

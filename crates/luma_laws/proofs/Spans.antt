@@ -16,7 +16,8 @@ module _ {A : Type 0} where
   span_none : (j : ℕ) (xs : List A) → span j j xs ≡ []
   span_none j xs = rw (sub_self j)
 
-  span-cons : (k j : ℕ) (xs : List A) (e : A) → k < j → j ≤ length xs → span k j xs ≡ get_or xs k e ∷ span (k + 1) j xs
+  span-cons : (k j : ℕ) (xs : List A) (e : A) → k < j → j ≤ length xs →
+      span k j xs ≡ get_or xs k e ∷ span (k + 1) j xs
   span-cons k j xs e h g =
       let n : j - k ≡ suc (j - (k + 1)) = omega arith in
       rw (n, drop-cons xs k e (omega arith), add-one k)

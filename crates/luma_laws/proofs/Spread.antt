@@ -128,4 +128,5 @@ change-nearest old new g h e some =
 pub change-most : (rounds : Bool) (old new : List ℕ) → Bytes old → Bytes new → length old ≡ length new →
     0 < length new → change rounds old new ≤ 25500
 change-most false old new g h e some = root-most (change-greatest old new g h e some) some (spread-most old new g h e)
-change-most true old new g h e some = nearest-most (change-nearest old new g h e some) some (spread-most old new g h e)
+change-most true old new g h e some =
+    nearest-most (change-nearest old new g h e some) some (spread-most old new g h e)

@@ -38,7 +38,8 @@ module _ {ℓ} {A : Type ℓ} where
       part_at n m i (drop m s) (omega arith) ∙ ap (take m) (drop-drop (i * m) m s ∙ ap (λ (k : ℕ). drop k s) e)
 
   -- n lines of m each, joined: column c of line r stands at r × m + c
-  pub get_or-lines : (n from m : ℕ) (f : ℕ → List A) (r c : ℕ) (d : A) → ((i : ℕ) → length (f i) ≡ m) → r < n → c < m →
+  pub get_or-lines : (n from m : ℕ) (f : ℕ → List A) (r c : ℕ) (d : A) → ((i : ℕ) → length (f i) ≡ m) → r < n →
+      c < m →
       get_or (end_to_end (table n from f)) (r * m + c) d ≡ get_or (f (from + r)) c d
   unfolding table end_to_end
   get_or-lines zero from m f r c d e h k = absurd (omega arith)
@@ -55,7 +56,8 @@ module _ {ℓ} {A : Type ℓ} where
       ∙ ap (λ (i : ℕ). get_or (f i) c d) next
 
 -- what stands at a place of a mapped list
-pub get_or-mapped {ℓ ℓ'} : {A : Type ℓ} {B : Type ℓ'} (f : A → B) (xs : List A) (j : ℕ) (d : A) (e : B) → j < length xs →
+pub get_or-mapped {ℓ ℓ'} : {A : Type ℓ} {B : Type ℓ'} (f : A → B) (xs : List A) (j : ℕ) (d : A) (e : B) →
+    j < length xs →
     get_or (map f xs) j e ≡ f (get_or xs j d)
 get_or-mapped f [] j d e h = absurd (omega arith)
 get_or-mapped f (x ∷ xs) zero d e h = refl

@@ -125,7 +125,8 @@ module _ {ℓ} {A : Type ℓ} where
   tally-places g q (a ∷ s) (b ∷ t) e = omega (arith, tally-places g (suc q) s t (omega arith))
 
   -- the sum of two tallies
-  pub tally-add : (f g : ℕ → A → ℕ) (q : ℕ) (t : List A) → tally (λ i a. f i a + g i a) q t ≡ tally f q t + tally g q t
+  pub tally-add : (f g : ℕ → A → ℕ) (q : ℕ) (t : List A) →
+      tally (λ i a. f i a + g i a) q t ≡ tally f q t + tally g q t
   unfolding tally
   tally-add f g q [] = omega arith
   tally-add f g q (a ∷ t) = omega (arith, tally-add f g (suc q) t)

@@ -78,7 +78,8 @@ line_gives w h j k r line hk e =
   where
     both : (a b : ℕ) → b < 3 → (x y : Bool) → eqb a j ≡ x → eqb b k ≡ y →
         ◌≡◌ {A = ℕ} (pick (eqb (3 * a + b) (3 * j + k)) 1 0) (pick x (pick y 1 0) 0)
-    both a b hb true true ex ey = rw (eq-eqb (3 * a + b) (3 * j + k) (omega (arith, eqb-true a j ex, eqb-true b k ey)))
+    both a b hb true true ex ey =
+        rw (eq-eqb (3 * a + b) (3 * j + k) (omega (arith, eqb-true a j ex, eqb-true b k ey)))
     both a b hb true false ex ey =
         rw (ne_eqb (3 * a + b) (3 * j + k) (λ z. eqb-false b k ey (omega (arith, eqb-true a j ex))))
     both a b hb false y ex ey = rw (ne_eqb (3 * a + b) (3 * j + k) (λ z. eqb-false a j ex (omega arith)))

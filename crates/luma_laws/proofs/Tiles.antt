@@ -29,7 +29,8 @@ bin-more w h t b v p =
 
 -- never more than there are pixels
 pub bin-most : (w h t b : ℕ) (p : List ℕ) → bin_tally w h t b p ≤ length p
-bin-most w h t b p = omega (arith, tally-most (hits w h t b) 1 0 p (λ i v. go (eqb (tile_at w h i) t) (eqb (bin v) b)))
+bin-most w h t b p = omega
+    (arith, tally-most (hits w h t b) 1 0 p (λ i v. go (eqb (tile_at w h i) t) (eqb (bin v) b)))
   where
     go : (x y : Bool) → pick x (pick y 1 0) 0 ≤ 1
     go true true = omega arith
@@ -79,7 +80,8 @@ pub record Raised (w h v : ℕ) (p : List ℕ) : Type 0 where
   pub tile_below : the_tile < 9
   pub bin_below : the_bin < 16
   pub own : bin_tally w h the_tile the_bin (p ++ v ∷ []) ≡ bin_tally w h the_tile the_bin p + 1
-  pub others : (t b : ℕ) → ((t ≡ the_tile) × (b ≡ the_bin) → ⊥) → bin_tally w h t b (p ++ v ∷ []) ≡ bin_tally w h t b p
+  pub others : (t b : ℕ) → ((t ≡ the_tile) × (b ≡ the_bin) → ⊥) →
+      bin_tally w h t b (p ++ v ∷ []) ≡ bin_tally w h t b p
 
 pub raised : (w h v : ℕ) (p : List ℕ) → 0 < w → length p < w * h → v < 256 → Raised w h v p
 raised w h v p some place byte =
@@ -97,7 +99,8 @@ raised w h v p some place byte =
 
 -- ---- the rule's histograms are these counts
 
-in-bin : (w h t b p : ℕ) (px : List ℕ) → count (λ v. eqb (bin v) b) (in_tile_from w h t p px) ≡ tally (hits w h t b) p px
+in-bin : (w h t b p : ℕ) (px : List ℕ) →
+    count (λ v. eqb (bin v) b) (in_tile_from w h t p px) ≡ tally (hits w h t b) p px
 unfolding count in_tile_from tally
 in-bin w h t b p [] = refl
 in-bin w h t b p (v ∷ px) = go (eqb (tile_at w h p) t) (in-bin w h t b (suc p) px)

@@ -1,5 +1,6 @@
 -- The sum of a run's bytes, as the loops of every width make it. No code.
-use Rattle.std.proofs.Common.{◌≡◌, ℕ, ◌+◌, ◌*◌, ◌<◌, ◌≤◌, List, length, get_or, drop, refl, add-one, arith, length-drop, get_or-drop, take-suc}
+use Rattle.std.proofs.Common.{◌≡◌, ℕ, ◌+◌, ◌*◌, ◌<◌, ◌≤◌, List, length, get_or, drop, refl, add-one, arith}
+use Rattle.std.proofs.Common.{length-drop, get_or-drop, take-suc}
 use Rattle.rules.specs.Bytes.{total}
 use Rattle.rules.proofs.Laws.Lists.{total-append}
 use Rattle.luma_sums.specs.Sums.{run}

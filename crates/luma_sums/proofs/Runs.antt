@@ -1,5 +1,8 @@
 -- Runs of a row: what a part of a run that lies in one block column adds. No code.
-use Rattle.std.proofs.Common.{◌≡◌, ℕ, ◌+◌, ◌-◌, ◌*◌, ◌/◌, ◌%◌, ◌^◌, ◌<◌, ◌≤◌, Bool, true, false, eqb, List, [], ◌++◌, length, get_or, drop, set, sym, refl, ap, ◌∙◌, add-zero, mul-le-mul_right, add-mul, le-div_iff_mul-le, zero-mul, arith, length-drop, length-set, length-take-le, get_or-set_other, get_or-set_same, drop-drop, take-add, eq-eqb, ne_eqb, eqb-true}
+use Rattle.std.proofs.Common.{◌≡◌, ℕ, ◌+◌, ◌-◌, ◌*◌, ◌/◌, ◌%◌, ◌^◌, ◌<◌, ◌≤◌, Bool, true, false, eqb, List, [], ◌++◌}
+use Rattle.std.proofs.Common.{length, get_or, drop, set, sym, refl, ap, ◌∙◌, add-zero, mul-le-mul_right, add-mul}
+use Rattle.std.proofs.Common.{le-div_iff_mul-le, zero-mul, arith, length-drop, length-set, length-take-le}
+use Rattle.std.proofs.Common.{get_or-set_other, get_or-set_same, drop-drop, take-add, eq-eqb, ne_eqb, eqb-true}
 use native.Mathlib.Nat.{div-eq_of_lt-le}
 use borrow.Author.Tests.{eqb-false}
 use Rattle.rules.specs.Bytes.{total, tally}

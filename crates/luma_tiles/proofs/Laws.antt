@@ -1,5 +1,8 @@
 -- Counting: nothing but a picture's own bins changes, and they stand for a pixel more. No code.
-use Rattle.std.proofs.Common.{◌≡◌, ℕ, ◌+◌, ◌-◌, ◌*◌, ◌/◌, ◌%◌, ◌^◌, ◌<◌, ◌≤◌, Bool, true, false, eqb, List, [], ◌∷◌, ◌++◌, length, get_or, drop, set, sym, refl, ap, ◌∙◌, append_assoc, append-nil, one-mul, zero-mul, add-one, arith, length-append, length-drop, length-set, get_or-drop, get_or-set_other, take-suc, get_or-set_same, below_more, eqb-true}
+use Rattle.std.proofs.Common.{◌≡◌, ℕ, ◌+◌, ◌-◌, ◌*◌, ◌/◌, ◌%◌, ◌^◌, ◌<◌, ◌≤◌, Bool, true, false, eqb, List, [], ◌∷◌}
+use Rattle.std.proofs.Common.{◌++◌, length, get_or, drop, set, sym, refl, ap, ◌∙◌, append_assoc, append-nil, one-mul}
+use Rattle.std.proofs.Common.{zero-mul, add-one, arith, length-append, length-drop, length-set, get_or-drop}
+use Rattle.std.proofs.Common.{get_or-set_other, take-suc, get_or-set_same, below_more, eqb-true}
 use borrow.Author.Tests.{eqb-false}
 use Rattle.rules.specs.Bytes.{pick, count, tally}
 use Rattle.rules.specs.Histograms.{third, tile_at, bin, in_bin}
@@ -67,10 +70,15 @@ counted base v t k x {a} hs ht hk e =
         rw (
           y,
           z,
-          get_or-set_other a (base + (16 * t + k)) (base + (16 * u + b)) x 0 (λ m. eqb-false (bin v) b z (omega arith)),
+          get_or-set_other a (base + (16 * t + k)) (base + (16 * u + b)) x 0
+              (λ m. eqb-false (bin v) b z (omega arith)),
         ) (omega arith)
     step size u b hu hb false y r z =
-        rw (y, get_or-set_other a (base + (16 * t + k)) (base + (16 * u + b)) x 0 (λ m. eqb-false t u y (omega arith)))
+        rw (
+          y,
+          get_or-set_other a (base + (16 * t + k)) (base + (16 * u + b)) x 0
+              (λ m. eqb-false t u y (omega arith)),
+        )
         (omega arith)
 
 -- ---- pixels of one tile
@@ -217,7 +225,8 @@ module _ (w h r base second third' m : ℕ) (pixels : List ℕ) (is2 : second �
       (omega (arith, zero-mul w)) (omega (arith, zero-mul w))) in
       let y = in-columns w h r 1 second (third' - second) t b (p ++ first) pixels (omega arith) (omega arith)
       (omega arith) (omega (arith, one-mul w)) (omega (arith, one-mul w)) in
-      let v = in-columns w h r 2 third' m t b ((p ++ first) ++ middle) pixels (omega arith) (omega arith) (omega arith)
+      let v = in-columns w h r 2 third' m t b ((p ++ first) ++ middle) pixels (omega arith) (omega arith)
+      (omega arith)
       (omega arith) (omega arith) in
       rw (row_is p) (omega (arith, x, y, v))
 

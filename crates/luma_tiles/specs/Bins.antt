@@ -11,7 +11,8 @@ use Rattle.luma_sums.specs.Sums.{run}
 -- count 16 t + b, modulo 2 ^ 32
 pub record Counts (w h base : ℕ) (p counts : List ℕ) : Type 0 where
   pub size : length counts ≡ 720
-  pub each : (t b : ℕ) → t < 9 → b < 16 → slice_index counts (base + (16 * t + b)) % 2 ^ 32 ≡ bin_tally w h t b p % 2 ^ 32
+  pub each : (t b : ℕ) → t < 9 → b < 16 →
+      slice_index counts (base + (16 * t + b)) % 2 ^ 32 ≡ bin_tally w h t b p % 2 ^ 32
 
 -- nothing but the 144 counts from `base` on changed
 pub record Kept (base : ℕ) (before after : List ℕ) : Type 0 where
@@ -38,7 +39,8 @@ pub record Grown (base : ℕ) (f : ℕ → ℕ → ℕ) (before after : List ℕ
 abbrev pub Three : ℕ → ℕ → List ℕ → ℕ → ℕ → ℕ → ℕ → List ℕ → List ℕ → Type 0
 Three base t pixels x y z m =
     Grown base
-    (λ u b. in_tile t (run pixels x m) u b + in_tile (t + 1) (run pixels y m) u b + in_tile (t + 2) (run pixels z m) u b)
+    (λ u b. in_tile t (run pixels x m) u b + in_tile (t + 1) (run pixels y m) u b + in_tile (t + 2)
+    (run pixels z m) u b)
 
 -- a row of pixels more
 pub record CountedRow (w h r base : ℕ) (pixels before after : List ℕ) : Type 0 where

@@ -25,7 +25,8 @@ length_over r s h = simp (length-append, length-drop) (omega arith)
 
 -- the digits of one byte more
 hex_text-more : (bs : List ℕ) (i : ℕ) → i < length bs →
-    hex_text (take (i + 1) bs) ≡ hex_text (take i bs) ++ (digit (get_or bs i 0 / 16) ∷ digit (get_or bs i 0 % 16) ∷ [])
+    hex_text (take (i + 1) bs) ≡ hex_text (take i bs)
+    ++ (digit (get_or bs i 0 / 16) ∷ digit (get_or bs i 0 % 16) ∷ [])
 unfolding hex_text end_to_end
 hex_text-more bs i h =
     let two : ℕ → List ℕ = λ b. digit (b / 16) ∷ digit (b % 16) ∷ [] in

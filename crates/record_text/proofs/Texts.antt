@@ -168,7 +168,8 @@ module _ (s : List ℕ) (at : ℕ) where
   space : at < length s → set s at 32 ≡ written at (32 ∷ []) s
   space k = written-sets at (32 ∷ []) s (omega arith)
 
-  module _ (n k : ℕ) (t : List ℕ) (fits : n < 2 ^ 64) (few-digits : IsDigitCount 10 1 n k) (is : take k t ≡ last_digits 10 k n)
+  module _ (n k : ℕ) (t : List ℕ) (fits : n < 2 ^ 64) (few-digits : IsDigitCount 10 1 n k)
+      (is : take k t ≡ last_digits 10 k n)
       (room : at + 21 ≤ length s) where
     field-digits : take k t ≡ decimal n
     field-digits = is ∙ decimal-digits n k fits few-digits
@@ -189,7 +190,8 @@ module _ (s : List ℕ) (at : ℕ) where
           next at 1 (32 ∷ []) (decimal n) s refl (omega arith) (space (omega arith)) e₁,
         )
 
-  module _ (n k : ℕ) (t : List ℕ) (fits : n < 2 ^ 64) (few-digits : IsDigitCount 16 16 n k) (is : take k t ≡ last_digits 16 k n)
+  module _ (n k : ℕ) (t : List ℕ) (fits : n < 2 ^ 64) (few-digits : IsDigitCount 16 16 n k)
+      (is : take k t ≡ last_digits 16 k n)
       (room : at + 17 ≤ length s) where
     hex-digits : map capital (take k t) ≡ hex_in 16 n
     hex-digits = rw (is, sixteen n k fits few-digits) (capitals 16 n)
@@ -224,8 +226,11 @@ module _ (ns s s₁ s₂ : List ℕ) (at i end r : ℕ) (h : i < length ns) (roo
       let p = fields (take i ns) in
       let x = field (get_or ns i 0) in
       let n = length-append p x in
-      let k₁ : s₂ ≡ written (at + length p) x s₁ = rw e at k in
-      (rw (field-more ns i h) (omega arith), rw (field-more ns i h) (next at (length p) p x s refl (omega arith) f k₁))
+      let k₁ : s₂ ≡ written (at + length p) x s₁ = rw e at k in (
+        rw (field-more ns i h) (omega arith),
+        rw (field-more ns i h)
+            (next at (length p) p x s refl (omega arith) f k₁),
+      )
 
 pub all-fields : (ns : List ℕ) (i : ℕ) → length ns ≤ i → fields (take i ns) ≡ fields ns
 all-fields ns i h = ap fields (take_all i ns h)

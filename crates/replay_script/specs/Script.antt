@@ -38,7 +38,8 @@ passage_by left a b = pick (ltb left 9) Stop (Repeats a b)
 abbrev pub head_at : List ℕ → ℕ → Head
 head_at script at =
     pick (eqb (byte script at) 73) Index
-    (pick (eqb (byte script at) 82) (passage_by (length script - at) (word32 script (at + 1)) (word32 script (at + 5)))
+    (pick (eqb (byte script at) 82)
+    (passage_by (length script - at) (word32 script (at + 1)) (word32 script (at + 5)))
     (head_by (length script - at) (byte script at) (word32 script (at + 1))))
 
 -- the calls from a place on, of which the first has this head

@@ -4,7 +4,8 @@ use Rattle.std.proofs.Common.{length, sym, refl, ap, ◌∙◌, arith, ltb-false
 use borrow.Author.Tests.{eqb-false}
 use Rattle.rules.specs.Bytes.{pick, only, All, empty, and}
 use Rattle.rules.specs.Cuts.{insert, sorted}
-use Rattle.rules.specs.Rtp.{wrapped, moved, origin, places_after, places, row_at, place_of, rows_from, firsts, ordered}
+use Rattle.rules.specs.Rtp.{wrapped, moved, origin, places_after, places, row_at, place_of, rows_from, firsts}
+use Rattle.rules.specs.Rtp.{ordered}
 use Rattle.rtp_order.specs.Order.{Rises, nothing, before, new_places}
 use Rattle.rtp_order.proofs.Order.{Side, low, high, side, insert-low, insert-high, insert-front, all-sorted}
 use Rattle.rtp_order.proofs.Order.{all_above, rises_sorted}
@@ -168,7 +169,8 @@ module _ (x p : ℕ) (g : p < place_of x) where
                 (new_places (place_of w) l) (rw (ne_eqb (place_of w) (place_of x) e)),
           )
           (ap (λ (m : List ℕ). w ∷ m) (keeps x (new_places (place_of w) l)
-          (higher (place_of x) (place_of w) (new_places (place_of w) l) (omega arith) (new-above (place_of w) l r b))))
+          (higher (place_of x) (place_of w) (new_places (place_of w) l) (omega arith)
+          (new-above (place_of w) l r b))))
 
   front : (l : List ℕ) → Rises l → All (λ (y : ℕ). x ≤ y) l →
       x ∷ new_places (place_of x) l ≡ insert x (only (other x) (new_places p l))

@@ -39,7 +39,8 @@ module _ (at : ℕ) (bs s : List ℕ) (fits : at + length bs ≤ length s) where
   pub written-append : (cs : List ℕ) → written (at + length bs) cs (written at bs s) ≡ written at (bs ++ cs) s
   unfolding written
   written-append cs =
-      let head : length (take at s ++ bs) ≡ at + length bs = simp (length-append, length-take-le at s (omega arith)) in
+      let head : length (take at s ++ bs) ≡ at + length bs =
+          simp (length-append, length-take-le at s (omega arith)) in
       let behind : drop (at + length bs + length cs) (take at s ++ bs ++ drop (at + length bs) s)
       ≡ drop (at + length bs + length cs) s =
       sym (drop-drop (length cs) (at + length bs) (take at s ++ bs ++ drop (at + length bs) s))

@@ -9,7 +9,8 @@ use Rattle.program_text.proofs.put_hex.Given as goal
 
 abbrev pub invariant-loop-i : goal.invariant-loop-i
 invariant-loop-i l =
-    (l.i ≤ length l.bytes) × (length l.text ≡ length l.initial.text) × (l.text ≡ over (hex_text (take l.i l.bytes)) l.initial.text)
+    (l.i ≤ length l.bytes) × (length l.text ≡ length l.initial.text)
+    × (l.text ≡ over (hex_text (take l.i l.bytes)) l.initial.text)
 
 abbrev pub decreases-loop-i : goal.decreases-loop-i
 decreases-loop-i l = length l.bytes - l.i

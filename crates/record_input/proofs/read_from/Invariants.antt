@@ -1,4 +1,5 @@
--- How far `record_input::read_from` has come: what it read so far stands at the buffer's front, and the input had it next.
+-- How far `record_input::read_from` has come: what it read so far stands at the buffer's front, and the input had it
+-- next.
 use Rattle.std.proofs.Common.{length, ◌-◌, ◌≤◌, take}
 use Rattle.std.specs.Io.KnownBytes.{Consumes}
 use Rattle.record_input.proofs.read_from.Given as goal

@@ -11,5 +11,6 @@ returns c =
     let r = c.put_rows.ensures in
     record {
       few = k.few;
-      front = k.front ∙ (ap (new_places 0) (s ∙ ap sorted r) ∙ new-ordered c.args.sequence.now c.requires.in_bounds.1);
+      front = k.front ∙ (ap (new_places 0) (s ∙ ap sorted r)
+          ∙ new-ordered c.args.sequence.now c.requires.in_bounds.1);
     }
