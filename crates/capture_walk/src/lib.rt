@@ -2,6 +2,8 @@
 // their cells, counts the frames, and gives refusals 4 to 8. It knows no PID, no unit and no edition: whoever counts
 // cells takes them from the steps. Of a frame the first 58 bytes are collected, of a cell the first six; a frame, or
 // a cell, that lies whole in a piece is read where it lies.
+#![tactic(auto)]
+
 ghost use Rattle.std.specs.Prelude.{◌≡◌, false, ◌<◌, length};
 ghost use Rattle.capture_steps.specs.declared.types.Event.TheVariants.{Nothing};
 ghost use Rattle.capture_walk.specs.Contract.{Opened, Asks, Turned, Stepped};
