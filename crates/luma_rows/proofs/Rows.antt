@@ -1,5 +1,5 @@
 -- A block row of the current picture, and its end. No code.
-use Rattle.std.proofs.Common.{◌≡◌, ℕ, zero, suc, ◌+◌, ◌*◌, ◌/◌, ◌%◌, ◌^◌, ◌<◌, ◌≤◌, ◌⊎◌, List, [], ◌∷◌, ◌++◌, length, get_or, take, drop, set, sym, refl, ap, ◌∙◌, inl, inr, append_assoc, append-nil, add-zero, mul-le-mul_right, mod-lt, div-lt_iff_lt-mul, add-mul, mul-pos, lt_of_not-le, div-add-mod', arith, length-append, length-set, length-take-le, get_or-set_other, get_or-take, get_or-set_same, ext_get_or, take-add, below_more}
+use Rattle.std.proofs.Common.{◌≡◌, ℕ, suc, ◌+◌, ◌*◌, ◌/◌, ◌%◌, ◌^◌, ◌<◌, ◌≤◌, ◌⊎◌, List, [], ◌∷◌, ◌++◌, length, get_or, take, drop, set, sym, refl, ap, ◌∙◌, inl, inr, append_assoc, append-nil, add-zero, mul-le-mul_right, mod-lt, div-lt_iff_lt-mul, add-mul, mul-pos, lt_of_not-le, div-add-mod', arith, length-append, length-set, length-take-le, get_or-set_other, get_or-take, get_or-set_same, ext_get_or, take-add, below_more}
 use native.Mathlib.Decide.{dec_le}
 use Rattle.rules.specs.declared.Opening.{Opening}
 use Rattle.rules.specs.Bytes.{empty, and, Bytes}

@@ -1,5 +1,7 @@
 // The current picture of the luma side: bytes of its block rows are taken in, and at the end of each its pixels are
 // made, counted and compared.
+#![tactic(auto)]
+
 ghost use Rattle.std.specs.Prelude.{◌≡◌, ◌+◌, ◌<◌, ◌≤◌, length};
 ghost use Rattle.luma_changes.specs.Figures.{Compared};
 ghost use Rattle.luma_state.specs.State.{Fits, slot};
@@ -15,7 +17,7 @@ use luma_tiles::Bins;
 type Kept = [u8; luma_blocks::COLUMNS];
 
 // Bytes that were taken in, and the state after them.
-#[derive(Drop)]
+#[derive(Clone, Copy)]
 pub struct Taken {
     pub used: usize,
     pub state: Progress,
