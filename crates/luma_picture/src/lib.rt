@@ -1,5 +1,7 @@
 // The end of a picture of the luma side: its change, whether it is repeated, the cut score that it settles, and room
 // in the ring for the next.
+#![tactic(auto)]
+
 ghost use Rattle.std.specs.Prelude.{◌≡◌, ℕ, ◌+◌, ◌*◌, ◌%◌, ◌^◌, ◌<◌, ◌≤◌, length, slice_index};
 ghost use Rattle.luma_state.specs.State.{Fits};
 ghost use Rattle.luma_picture.specs.Contract.{again_of, ChangeOf, ScoreOf, noted, next_picture, AtPictureEnd};
@@ -44,7 +46,7 @@ fn first(counts: &[u32]) -> u32
 }
 
 // A cut score, and what the next one needs again: the smaller of two differences.
-#[derive(Drop)]
+#[derive(Clone, Copy)]
 struct Settled {
     score: u64,
     kept: u64,
