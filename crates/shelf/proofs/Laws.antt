@@ -157,7 +157,8 @@ module _ (r : List ℕ) where
       omega (
         arith,
         units-few r,
-        table-most (λ (i : ℕ). lost_given (unit_answer r i)) 4294967295 (units_given (header_answer r)) 0 (lost-fits r b),
+        table-most (λ (i : ℕ). lost_given (unit_answer r i)) 4294967295 (units_given (header_answer r)) 0
+            (lost-fits r b),
       )
 
 module _ (s : List ℕ) where

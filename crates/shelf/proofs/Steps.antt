@@ -22,7 +22,8 @@ use Rattle.record_reader.proofs.Answers.{accepted, refused}
 use Rattle.rules.specs.declared.ShelfAnswer.{ShelfAnswer}
 use Rattle.rules.specs.declared.ShelfAnswer.TheVariants as of-shelf
 use Rattle.rules.specs.declared.PartAnswer.TheVariants as of_part
-use Rattle.rules.specs.Shelf.{record_count, head_length, edge, rising, laid_out, part, records, units_given, lost_given}
+use Rattle.rules.specs.Shelf.{record_count, head_length, edge, rising, laid_out, part, records, units_given}
+use Rattle.rules.specs.Shelf.{lost_given}
 use Rattle.rules.specs.Shelf.{record_lost, shelf_lost}
 use Rattle.rules.specs.Shelf.{refused_at, first_refused, shelf_fault, part_fault, or_shelf, shelf_answer, part_answer}
 use Rattle.record_reader.proofs.Promise.{units-given}
@@ -120,7 +121,8 @@ module _ (r : List ℕ) (o : Opened) (e : o ≡ opened_as r) where
       let a = accepted r o e u s d in
       (a.fault, a.units ∙ sym (units-given r a.fault))
 
-  pub record-done : (u s x : ℕ) → o ≡ Accepted u s → x ≡ record_lost r → Done x ≡ answer (reading_fault r) (record_lost r)
+  pub record-done : (u s x : ℕ) → o ≡ Accepted u s → x ≡ record_lost r →
+      Done x ≡ answer (reading_fault r) (record_lost r)
   record-done u s x d k = rw ((accepted r o e u s d).fault, k)
 
   pub record-refused : (k p : ℕ) → o ≡ of-opened.Refused k p → Refused k p ≡ answer (reading_fault r) (record_lost r)
@@ -168,7 +170,8 @@ module _ (s : List ℕ) (n j : ℕ) (h : j < n) where
         go none m e = absurd (let z : ◌≡◌ {A = ℕ} 0 1 = cc in omega arith)
         go (fault i q) m e = refl
 
-pub records-end : (s : List ℕ) (n j : ℕ) (f : Fault) → n ≤ j → f ≡ first_refused j (table (n - j) j (part s)) → f ≡ none
+pub records-end : (s : List ℕ) (n j : ℕ) (f : Fault) → n ≤ j → f ≡ first_refused j (table (n - j) j (part s)) →
+    f ≡ none
 unfolding first_refused table
 records-end s n j f h e = let z : n - j ≡ 0 = omega arith in e ∙ rw z
 

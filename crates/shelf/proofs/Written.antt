@@ -14,7 +14,8 @@ use borrow.Author.Tests.{lt-ltb, le-leb, eq-eqb}
 use Rattle.rules.specs.Bytes.{word32, bytes_of, total, table, end_to_end, All, empty, and}
 use Rattle.rules.specs.Refusals.{none}
 use Rattle.rules.specs.Reading.{reading_fault}
-use Rattle.rules.specs.Shelf.{record_count, head_length, edge, rising, laid_out, part, records, first_refused, shelf_fault}
+use Rattle.rules.specs.Shelf.{record_count, head_length, edge, rising, laid_out, part, records, first_refused}
+use Rattle.rules.specs.Shelf.{shelf_fault}
 use Rattle.rules.specs.Shelf.{offsets_from, head_bytes, shelf_of, Shelved, EveryShelf, OneList}
 use Rattle.record_laws.proofs.Words.{length-bytes, word32-bytes}
 use Rattle.record_reader.proofs.Promise.{taken-length}
@@ -48,7 +49,8 @@ grows (l ∷ ls) (and f fs) (suc k) h = omega (arith, grows ls fs k (omega arith
 
 -- ---- offsets
 
-pub offset-is : (at : ℕ) (ls : List ℕ) (k : ℕ) → k < length ls → get_or (offsets_from at ls) k 0 ≡ at + total (take k ls)
+pub offset-is : (at : ℕ) (ls : List ℕ) (k : ℕ) → k < length ls →
+    get_or (offsets_from at ls) k 0 ≡ at + total (take k ls)
 unfolding offsets_from total
 offset-is at [] k h = absurd (omega arith)
 offset-is at (l ∷ ls) zero h = omega arith
@@ -171,7 +173,8 @@ module _ (rs : List (List ℕ)) (h : Shelved rs) where
       let head = head_length size in
       let second = bytes_of 4 (head + total (map length rs)) in
       let more = end_to_end (map (bytes_of 4) (offsets_from head (map length rs))) in
-      let same : bytes_of 4 size ++ second ++ more ++ end_to_end rs ≡ bytes_of 4 size ++ (second ++ more ++ end_to_end rs) =
+      let same : bytes_of 4 size ++ second ++ more ++ end_to_end rs ≡ bytes_of 4 size
+      ++ (second ++ more ++ end_to_end rs) =
       simp append_assoc
       in
       ap (λ (z : List ℕ). word32 z 0) same

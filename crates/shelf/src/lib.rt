@@ -1,5 +1,7 @@
 // The shelf (document 02, R-13): records behind a head of offsets. The record reader reads each record; nothing here
 // knows how one is made.
+#![tactic(auto)]
+
 ghost use Rattle.std.specs.Prelude.{◌≡◌, true, ◌+◌, ◌*◌, ◌≤◌, length};
 ghost use Rattle.rules.specs.Refusals.{none, answer};
 ghost use Rattle.rules.specs.Reading.{reading_fault, header_answer};
