@@ -1,5 +1,7 @@
 // All rows of a record in one call: the record is tested once, and its rows are then read one after the other into
 // rows that the caller lends. A lent row is the row's figures, each a number of 64 bits.
+#![tactic(auto)]
+
 ghost use Rattle.std.specs.Prelude.{◌≡◌, ◌+◌, ◌*◌, ◌≤◌, length};
 ghost use Rattle.rules.specs.Bytes.{word32 as rule32};
 ghost use Rattle.record_rows.specs.Rows.{unit_figures, scene_figures, unit_row, scene_row, rows_over};
