@@ -121,7 +121,8 @@ allowed-scene : (from : ℕ) (s : SceneRow) (t : List ℕ) → SceneFits s →
 unfolding allowed_scene scene_in
 allowed-scene from s t f =
     let at : SceneRow → Bool = λ x. eqb x.first from && leb 1 x.pictures in
-    let e : allowed_scene from (scene_bytes s ++ t) ≡ at (scene_in (scene_bytes s ++ t)) = rw (scene-zero s t, and-true) in
+    let e : allowed_scene from (scene_bytes s ++ t) ≡ at (scene_in (scene_bytes s ++ t)) =
+    rw (scene-zero s t, and-true) in
     e ∙ ap at (scene-back s t f)
 
 allowed-scenes : (pictures from : ℕ) (ss : List SceneRow) (t : List ℕ) → Each SceneFits ss →
@@ -159,7 +160,8 @@ unfolding allowed allowed_rows good_figures header_of
 allowed-figures h us ss f =
     let r = record_bytes h us ss in
     let w : Words h r =
-    rw (parts-of h us ss) (header-words h (end_to_end (map unit_bytes us) ++ end_to_end (map scene_bytes ss)) f.header) in
+    rw (parts-of h us ss)
+    (header-words h (end_to_end (map unit_bytes us) ++ end_to_end (map scene_bytes ss)) f.header) in
     let n : length r ≡ record_length h.units h.scenes = length-record h us ss ∙ (rw (f.units, f.scenes)) in
     let u : word32 r 8 ≡ length us = ap (λ (x : Header). x.units) w.figures ∙ sym f.units in
     let s : word32 r 16 ≡ length ss = ap (λ (x : Header). x.scenes) w.figures ∙ sym f.scenes in

@@ -95,7 +95,8 @@ unfolding rounds_to_nearest
 changes-two pxs = changes-cut pxs
 
 -- by edition 3 a picture's is rounded to the nearest
-pub change-three : (before px : List ℕ) → change (rounds_to_nearest 3) before px ≡ nearest (spread before px) (length px)
+pub change-three : (before px : List ℕ) →
+    change (rounds_to_nearest 3) before px ≡ nearest (spread before px) (length px)
 unfolding rounds_to_nearest change change_from
 change-three before px = refl
 

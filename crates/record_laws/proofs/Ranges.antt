@@ -40,12 +40,14 @@ use Rattle.record_laws.proofs.Words.{word32-fits}
 use Rattle.capture_laws.proofs.Frames.{size-least, by_frames, frames-none, frames-one}
 use Rattle.capture_laws.proofs.Onward.{base, base_sum, Whole, frames-whole, of_none, of-from, layout}
 use Rattle.capture_laws.proofs.Flow.{reached, wanted-of, nine-of, few-begin}
-use Rattle.rules.proofs.Laws.Lists.{by-pick, all_drop, count-few, inside, smaller-min, larger-max, only-all, all_append}
+use Rattle.rules.proofs.Laws.Lists.{by-pick, all_drop, count-few, inside, smaller-min, larger-max, only-all}
+use Rattle.rules.proofs.Laws.Lists.{all_append}
 use Rattle.capture_laws.proofs.Format.{none_both, clear_of, long_of, shows}
 use Rattle.capture_laws.proofs.Bounds.{frame-count-few, skipped-few, bad-few, wanted-few}
 use Rattle.luma_laws.proofs.Sizes.{good}
 use Rattle.luma_laws.proofs.Ranges.{AtMost, sample-scored, sample-changed}
-use Rattle.capture_laws.proofs.UnitsMore.{units-beginnings, packets-total, lost-small, all_packets, all_lost, all_damaged}
+use Rattle.capture_laws.proofs.UnitsMore.{units-beginnings, packets-total, lost-small, all_packets, all_lost}
+use Rattle.capture_laws.proofs.UnitsMore.{all_damaged}
 use Rattle.capture_laws.proofs.Damage.{cells-groups, zero-units}
 use Rattle.record_laws.proofs.Record.{Each, UnitFits, SceneFits, Figures}
 use Rattle.luma_laws.proofs.Spans.{longest-most, peak-most}
@@ -177,7 +179,8 @@ header-micro n place f h e =
     (showing n 8 (place + 11) (ltb 65535 (stored_length f))) e in
     ltb-false 999999 (microseconds f) (shows n 7 (place + 7) (ltb 999999 (microseconds f)) (omega arith) b.0)
 
-frames-timed : (n place : ℕ) (fs gs : List (List ℕ)) → All Whole fs → All Bytes fs → place + length (end_to_end fs) ≤ n →
+frames-timed : (n place : ℕ) (fs gs : List (List ℕ)) → All Whole fs → All Bytes fs →
+    place + length (end_to_end fs) ≤ n →
     wrong_frame n place (fs ++ gs) ≡ none → All (λ (f : List ℕ). frame_time f ≤ last_time) fs
 unfolding wrong_frame end_to_end
 frames-timed n place [] gs w b h e = empty
@@ -210,7 +213,8 @@ wanted-timed : (o : Opening) (s : List ℕ) → Bytes s → capture_fault o s �
 unfolding wanted_of
 wanted-timed o s h c i =
     let fs = whole_frames s in
-    let whole-bytes : All Bytes fs = unfold whole_frames behind_header in frames-bytes (drop 24 s) (bytes_drop 24 s h) in
+    let whole-bytes : All Bytes fs =
+    unfold whole_frames behind_header in frames-bytes (drop 24 s) (bytes_drop 24 s h) in
     let room : 24 + length (end_to_end fs) ≤ length s = unfold base in omega (arith, base_sum s (header-there s i)) in
     let fine : wrong_frame (length s) 24 (fs ++ unfinished s ∷ []) ≡ none =
     unfold all_frames in (clear_of o s c).sound.frames in

@@ -52,7 +52,8 @@ abbrev pub Each : {A : Type 0} → (A → Type 0) → List A → Type 0
 Each P [] = Unit
 Each P (x ∷ xs) = P x × Each P xs
 
-pub each_at : {A : Type 0} (P : A → Type 0) (xs : List A) (j : ℕ) (z : A) → Each P xs → j < length xs → P (get_or xs j z)
+pub each_at : {A : Type 0} (P : A → Type 0) (xs : List A) (j : ℕ) (z : A) → Each P xs → j < length xs →
+    P (get_or xs j z)
 each_at P [] j z e h = absurd (omega arith)
 each_at P (x ∷ xs) zero z e h = e.0
 each_at P (x ∷ xs) (suc j) z e h = each_at P xs j z e.1 (omega arith)
@@ -205,7 +206,8 @@ scene-place h us ss j z k =
 module _ (h : Header) (us : List UnitRow) (ss : List SceneRow) (f : Figures h us ss) where
   pub header_read : header_of (record_bytes h us ss) ≡ h
   header_read =
-      rw (parts-of h us ss) (header-back h (end_to_end (map unit_bytes us) ++ end_to_end (map scene_bytes ss)) f.header)
+      rw (parts-of h us ss)
+      (header-back h (end_to_end (map unit_bytes us) ++ end_to_end (map scene_bytes ss)) f.header)
 
   pub unit-read : (j : ℕ) (z : UnitRow) → j < length us → unit_at (record_bytes h us ss) j ≡ get_or us j z
   unfolding unit_at unit_in

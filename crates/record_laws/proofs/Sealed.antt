@@ -21,7 +21,8 @@ use Rattle.rules.specs.Opening.{good_size, good_time, good_pid, opening_fault}
 use Rattle.rules.specs.Capture.{units, frame_count, skipped_count}
 use Rattle.rules.specs.Pictures.{picture_count}
 use Rattle.rules.specs.Record.{record_length}
-use Rattle.rules.specs.Reading.{header_of, unit_at, scene_at, allowed, reading_fault, row_fault, unit_fault, scene_fault}
+use Rattle.rules.specs.Reading.{header_of, unit_at, scene_at, allowed, reading_fault, row_fault, unit_fault}
+use Rattle.rules.specs.Reading.{scene_fault}
 use Rattle.rules.specs.Reading.{header_answer, unit_answer, scene_answer}
 use Rattle.rules.specs.Seal.{scenes, header, sealed, sealed_length, seal_fault}
 use Rattle.record_laws.proofs.Record.{Each, Figures, length-record, header_read, unit-read, scene-read}

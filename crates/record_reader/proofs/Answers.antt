@@ -17,7 +17,8 @@ use Rattle.rules.specs.Bytes.{word32}
 use Rattle.rules.specs.Refusals.{Fault, none, fault, unless, ◌or_else◌}
 use Rattle.rules.specs.Record.{record_length}
 use Rattle.rules.specs.Editions.{is_edition}
-use Rattle.rules.specs.Reading.{header_of, unit_at, scene_at, allowed, reading_fault, row_fault, unit_fault, scene_fault}
+use Rattle.rules.specs.Reading.{header_of, unit_at, scene_at, allowed, reading_fault, row_fault, unit_fault}
+use Rattle.rules.specs.Reading.{scene_fault}
 use Rattle.rules.specs.Reading.{header_answer, unit_answer, scene_answer}
 use Rattle.record_laws.proofs.Allowed.{record-allowed}
 use Rattle.record_reader.specs.declared.Opened.{Opened}

@@ -9,7 +9,8 @@ use borrow.Author.Tests.{lt-ltb}
 use Rattle.rules.specs.Bytes.{word32}
 use Rattle.rules.specs.Refusals.{Fault, none, fault}
 use Rattle.rules.specs.Record.{record_length}
-use Rattle.rules.specs.Reading.{header_of, unit_place, unit_at, reading_fault, unit_fault, row_fault, or_header, or_unit}
+use Rattle.rules.specs.Reading.{header_of, unit_place, unit_at, reading_fault, unit_fault, row_fault, or_header}
+use Rattle.rules.specs.Reading.{or_unit}
 use Rattle.rules.specs.Reading.{header_answer, unit_in, unit_answer}
 use Rattle.rules.specs.Shelf.{units_given, lost_given}
 use Rattle.record_laws.proofs.Words.{EachByte, word32-fits, word32-drop}

@@ -8,7 +8,8 @@ use Rattle.rules.specs.declared.HeaderAnswer.TheVariants as of-header
 use Rattle.rules.specs.Bytes.{pick, within, word32}
 use Rattle.rules.specs.Pictures.{if_opened}
 use Rattle.rules.specs.Record.{record_length}
-use Rattle.rules.specs.Reading.{header_of, unit_at, scene_at, reading_fault, row_fault, or_unit, or_scene, header_answer}
+use Rattle.rules.specs.Reading.{header_of, unit_at, scene_at, reading_fault, row_fault, or_unit, or_scene}
+use Rattle.rules.specs.Reading.{header_answer}
 use Rattle.rules.specs.Reading.{unit_answer, scene_answer}
 use Rattle.record_view.specs.declared.View.{View}
 
@@ -31,7 +32,8 @@ abbrev pub HeaderSeen : List ℕ → ℕ → ℕ → HeaderAnswer → Type 0
 HeaderSeen r units scenes a = a ≡ pick (fits r units scenes) (of-header.Given (header_of r)) (header_answer r)
 
 abbrev pub UnitSeen : List ℕ → ℕ → ℕ → ℕ → UnitAnswer → Type 0
-UnitSeen r units scenes j a = a ≡ pick (fits r units scenes) (or_unit (row_fault units j) (unit_at r j)) (unit_answer r j)
+UnitSeen r units scenes j a =
+    a ≡ pick (fits r units scenes) (or_unit (row_fault units j) (unit_at r j)) (unit_answer r j)
 
 abbrev pub SceneSeen : List ℕ → ℕ → ℕ → ℕ → SceneAnswer → Type 0
 SceneSeen r units scenes j a =
