@@ -1,4 +1,6 @@
 // What an answer is as numbers. The crates `c_..` have the calls as C functions, which give these.
+#![tactic(auto)]
+
 ghost use Rattle.std.specs.Prelude.{◌≡◌};
 ghost use Rattle.rules.specs.Refusals.{listed};
 ghost use Rattle.c_numbers.specs.Numbers.{number_of, value_of};

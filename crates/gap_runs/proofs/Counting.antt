@@ -193,7 +193,7 @@ pub narrow : Narrow
 narrow n l h = lt_of_le_of_lt (few n l)
     (lt_of_le_of_lt (pow-le-pow_right {n = 16} (zero-lt-suc 15) {i = n} {j = 15} (omega arith)) (lit< tt))
 
-none-further : (l : ℕ) {rs : List (List ℕ)} (b : ℕ) → b < l → All (λ (run : List ℕ). lost_in run ≤ b) rs →
+none-further : (l b : ℕ) → b < l → {rs : List (List ℕ)} → All (λ (run : List ℕ). lost_in run ≤ b) rs →
     count (λ run. eqb (lost_in run) l) rs ≡ 0
 unfolding count
 none-further l b h empty = refl

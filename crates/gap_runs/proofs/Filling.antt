@@ -17,7 +17,8 @@ use Rattle.rules.proofs.Laws.Lists.{length-table}
 use Rattle.luma_laws.proofs.Tables.{get_or-table, same-table}
 use Rattle.rules.specs.Seal.{no_room, over}
 use Rattle.rules.specs.declared.Answer.TheVariants.{Done}
-use Rattle.rules.specs.GapRuns.{gap_lost, lost_in, gaps, runs, runs_losing, entry_count, gap_table, gap_fault, gap_answer}
+use Rattle.rules.specs.GapRuns.{gap_lost, lost_in, gaps, runs, runs_losing, entry_count, gap_table, gap_fault}
+use Rattle.rules.specs.GapRuns.{gap_answer}
 use Rattle.rules.specs.GapRuns.{table_after}
 use Rattle.gap_runs.proofs.Counting.{gaps-table, total-same, more-runs, few as few-runs, no-further}
 use Rattle.gap_runs.specs.Entries.{entry_at, one_more, Small, started, grown}
@@ -61,7 +62,8 @@ cleared-all ys zs (suc n) h e =
 -- ---- one gap more, from the last entry to the first
 
 -- entry l looks at no later ones
-same-entry : (xs ys : List ℕ) (l lost : ℕ) → take (l + 1) xs ≡ take (l + 1) ys → entry_at xs l lost ≡ entry_at ys l lost
+same-entry : (xs ys : List ℕ) (l lost : ℕ) → take (l + 1) xs ≡ take (l + 1) ys →
+    entry_at xs l lost ≡ entry_at ys l lost
 same-entry xs ys l lost e =
     ap (λ (k : ℕ). pick (leb lost l) k 0)
     (sym (get_or-take (l + 1) xs (l - lost) 0 (omega arith)) ∙ ap (λ (zs : List ℕ). get_or zs (l - lost) 0) e

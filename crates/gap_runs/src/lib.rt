@@ -1,4 +1,6 @@
 // What a lost count can hide (R-10): how many runs of n gaps have one lost total.
+#![tactic(auto)]
+
 ghost use Rattle.std.specs.Prelude.{◌≡◌, ◌+◌, ◌<◌, ◌≤◌, length};
 ghost use Rattle.rules.specs.GapRuns.{gap_lost, TableGiven};
 ghost use Rattle.gap_runs.specs.Entries.{entry_at, one_more, Small, started, grown};

@@ -22,7 +22,8 @@ use Rattle.index.proofs.Bound.{AtMost, at_most, Is, is, finite, whole, under, sm
 use Rattle.index.proofs.Bound.{add-at-most, mul-at-most}
 use Rattle.rules.specs.declared.Loss.TheVariants.{KeyFrame, Plain}
 use Rattle.rules.specs.EffectiveLoss.{zero64, one64, hundredth, half, KeyFrameAt, key_frames, Part, shares, Lists}
-use Rattle.rules.specs.EffectiveLoss.{both, added_at, loss_of, put, spread_loss, unit_loss, unit_losses, is_probability}
+use Rattle.rules.specs.EffectiveLoss.{both, added_at, loss_of, put, spread_loss, unit_loss, unit_losses}
+use Rattle.rules.specs.EffectiveLoss.{is_probability}
 use Rattle.rules.specs.EffectiveLoss.{are_probabilities, effective_loss, good_lengths, loss_fault, loss_answer, filled}
 use Rattle.rules.specs.EffectiveLoss.{Sound, AlwaysSound, CallsSound, WithoutLoss, reaching, ToTheEnd}
 use Rattle.loss.proofs.Steps.{lengths-are}
@@ -280,7 +281,8 @@ none_before k zero = let e : k + 0 ≡ k = omega arith in rw e
 none_before k (suc m) = let e : k + suc m ≡ suc k + m = omega arith in rw (zero-passed, e) (none_before (suc k) m)
 
 reaches : (i n m : ℕ) (k l : List Float) → n < 2 ^ 32 →
-    unit_loss i n zero64 (replicate m zero64) (both k l) ≡ both k (pick (ltb 0 n) (added_at i (i + suc m) (float n) l) l)
+    unit_loss i n zero64 (replicate m zero64) (both k l)
+    ≡ both k (pick (ltb 0 n) (added_at i (i + suc m) (float n) l) l)
 unfolding unit_loss spread_loss shares loss_of
 reaches i n m k l h =
     let e : suc i + m ≡ i + suc m = omega arith in

@@ -1,4 +1,6 @@
 // The effective loss (R-8): 001's, for streams without B frames. `loss_spread` has the walks over units.
+#![tactic(auto)]
+
 ghost use Rattle.std.specs.Prelude.{◌≡◌, length, replicate};
 ghost use Rattle.rules.specs.EffectiveLoss.{both, zero64, is_probability, are_probabilities, good_lengths, Filled};
 

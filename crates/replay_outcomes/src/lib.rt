@@ -1,4 +1,6 @@
 // Writing what a call comes to: an answer, an index, and a buffer before a seal.
+#![tactic(auto)]
+
 ghost use Rattle.std.specs.Prelude.{◌≡◌, ◌++◌, ◌≤◌, length, drop, replicate};
 ghost use Rattle.replay_outcomes.specs.Codes.{kind_of, first_of, second_of, code, three_words, index_code, HasBits};
 

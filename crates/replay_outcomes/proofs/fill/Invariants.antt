@@ -1,0 +1,12 @@
+-- The loop's invariant: the first i bytes are filled.
+use Prim.Native.Nat.{◌-◌, ◌≤◌}
+use mathlib.Core.Path.{◌≡◌}
+use lib.ListN.{length, take, replicate}
+use Rattle.replay_outcomes.proofs.fill.Given as goal
+
+abbrev pub invariant-loop-i : goal.invariant-loop-i
+invariant-loop-i l =
+    (l.i ≤ length l.out) × (length l.out ≡ length l.initial.out) × (take l.i l.out ≡ replicate l.i 165)
+
+abbrev pub decreases-loop-i : goal.decreases-loop-i
+decreases-loop-i l = length l.out - l.i
