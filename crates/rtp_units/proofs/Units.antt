@@ -4,7 +4,7 @@ use native.Mathlib.Omega.{arith}
 use native.Mathlib.Nat.{sub-zero, add-zero}
 use native.Mathlib.Numerals.{add-one}
 use mathlib.Core.Path.{◌≡◌, refl, sym, ap, ◌∙◌}
-use mathlib.Core.Bool.{Bool, true, false, not}
+use mathlib.Core.Bool.{Bool, true, false}
 use mathlib.Core.List.{List, [], ◌∷◌, ◌++◌, map, append_assoc, append-nil}
 use lib.ListN.{length, take, get_or, length-append, take-append-drop}
 use lib.Dec.{eqb}
@@ -140,7 +140,8 @@ onto-groups g (p ∷ q ∷ ps) =
     go p.marked (from-none (q ∷ ps) (onto-groups [] (q ∷ ps))) (onto-groups (g ++ (p ∷ [])) (q ∷ ps))
   where
     go : (b : Bool) → units_onto no_unit (q ∷ ps) ≡ map rtp_unit (rtp_groups (q ∷ ps)) →
-        units_onto (rtp_unit (g ++ (p ∷ []))) (q ∷ ps) ≡ map rtp_unit (prefixed (g ++ (p ∷ [])) (rtp_groups (q ∷ ps))) →
+        units_onto (rtp_unit (g ++ (p ∷ []))) (q ∷ ps)
+        ≡ map rtp_unit (prefixed (g ++ (p ∷ [])) (rtp_groups (q ∷ ps))) →
         pick b (with (rtp_unit g) p ∷ units_onto no_unit (q ∷ ps)) (units_onto (with (rtp_unit g) p) (q ∷ ps))
         ≡ map rtp_unit (prefixed g (pick b ((p ∷ []) ∷ rtp_groups (q ∷ ps)) (rtp_into_first p (rtp_groups (q ∷ ps)))))
     go true e f = cc (unit-snoc g p, e)
@@ -187,9 +188,11 @@ module _ (l : RtpLists) (rows : List ℕ) where
 
       go : Side (length rows) (i + 1) → ends_here (rtp_row_at l rows i) (from (i + 1)) ≡ ends_at l.marker rows i
       go (low k) =
-          rw (from-none-left (i + 1) k, eq-eqb (i + 1) (length rows) (omega arith)) (last (rtp_row_at l rows i).marked)
+          rw (from-none-left (i + 1) k, eq-eqb (i + 1) (length rows) (omega arith))
+          (last (rtp_row_at l rows i).marked)
       go (high k) =
-          rw (from_next (i + 1) k, ne_eqb (i + 1) (length rows) (λ e. omega arith)) (inner (rtp_row_at l rows i).marked)
+          rw (from_next (i + 1) k, ne_eqb (i + 1) (length rows) (λ e. omega arith))
+          (inner (rtp_row_at l rows i).marked)
 
   module _ (i : ℕ) (h : i < length rows) (u : UnitRow) where
     pub onto-ended : ends_at l.marker rows i ≡ true →
@@ -353,10 +356,12 @@ module _ (l : RtpLists) (rows : List ℕ) (i : ℕ) (u : UnitRow) (j : ℕ) (s a
           rw (k, at) (written-append (32 * j) v s fits more ∙ now)
 
     module _ (e : ends_at l.marker rows i ≡ false) where
-      pub room-more : 32 * j + 32 * length (units_onto (with u (rtp_row_at l rows i)) (from l rows (i + 1))) ≤ length s
+      pub room-more : 32 * j + 32 * length (units_onto (with u (rtp_row_at l rows i)) (from l rows (i + 1)))
+          ≤ length s
       room-more = omega (arith, room, ap length (onto-more l rows i h u e))
 
-      pub rows_more : written (32 * j) (rows_bytes (units_onto (with u (rtp_row_at l rows i)) (from l rows (i + 1)))) s
+      pub rows_more : written (32 * j)
+          (rows_bytes (units_onto (with u (rtp_row_at l rows i)) (from l rows (i + 1)))) s
           ≡ all
       rows_more = rw (onto-more l rows i h u e) at rest
 

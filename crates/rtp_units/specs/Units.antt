@@ -24,7 +24,8 @@ joined u time size missing =
 
 -- row i, in order, ends a unit: by its marker, or as the last
 abbrev pub ends_at : List ℕ → List ℕ → ℕ → Bool
-ends_at marker rows i = pick (not (eqb (get_or marker (arrival_of (get_or rows i 0)) 0) 0)) true (eqb (i + 1) (length rows))
+ends_at marker rows i =
+    pick (not (eqb (get_or marker (arrival_of (get_or rows i 0)) 0) 0)) true (eqb (i + 1) (length rows))
 
 -- so many units, whatever times and lengths are
 abbrev pub Counts : List ℕ → List ℕ → ℕ → Type 0

@@ -1,4 +1,6 @@
 // Units of rows in order: counted, made row by row, and written.
+#![tactic(auto)]
+
 ghost use Rattle.std.specs.Prelude.{◌≡◌, ◌+◌, ◌*◌, ◌%◌, ◌≤◌, ◌<◌, length};
 ghost use Rattle.rules.specs.Bytes.{larger};
 ghost use Rattle.rules.specs.Rtp.{missing_at, rtp_lists, rtp_units_in};
