@@ -1,5 +1,7 @@
 // R-1: the lines of a record's sheet, of 100 columns and a line feed, put into a lent buffer.
 // Each function that puts a text answers the place behind it; every other byte of the buffer stands unaltered.
+#![tactic(auto)]
+
 ghost use Rattle.std.specs.Prelude.{◌≡◌, ◌∷◌, [], ◌+◌, ◌-◌, ◌*◌, ◌^◌, ◌≤◌, ◌<◌, length, replicate};
 ghost use Rattle.rules.specs.Bytes.{word32, All};
 ghost use Rattle.rules.specs.Reading.{unit_at, scene_at};

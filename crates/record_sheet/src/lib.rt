@@ -1,5 +1,7 @@
 // R-1, a page for the reading room: a record printed into a lent buffer, in lines of 100 columns on pages of 60 lines.
 // `record_lines` puts the lines.
+#![tactic(auto)]
+
 ghost use Rattle.std.specs.Prelude.{◌≡◌, ◌+◌, ◌-◌, ◌*◌, ◌≤◌, ◌<◌, length};
 ghost use Rattle.rules.specs.Bytes.{word32};
 ghost use Rattle.rules.specs.Seal.{over};
