@@ -8,7 +8,7 @@ use lib.Seq.{take-add, take_all, sets, sets-eq}
 use Rattle.rules.specs.declared.Opening.{Opening}
 use Rattle.rules.specs.declared.Answer.{Answer}
 use Rattle.rules.specs.declared.Answer.TheVariants.{Done, Refused}
-use Rattle.rules.specs.Refusals.{Fault, none, fault, ◌or_else◌, answer}
+use Rattle.rules.specs.Refusals.{Fault, none, fault, ◌or_else◌}
 use Rattle.rules.specs.Opening.{opening_fault}
 use Rattle.rules.specs.Capture.{capture_fault}
 use Rattle.rules.specs.Seal.{capture_answer}
@@ -23,7 +23,7 @@ use Rattle.capture_steps.proofs.Use.{none-whole}
 use Rattle.capture_counts.specs.declared.Tally.{Tally}
 use Rattle.capture_counts.proofs.Laws.{counts-none}
 use Rattle.capture.specs.declared.Meter.{Meter}
-use Rattle.capture.specs.State.{Arrays, loaded, Live, Counting, stopped, live, Stands, Means}
+use Rattle.capture.specs.State.{Arrays, loaded, Live, Counting, stopped, live, Stands}
 use Rattle.capture.specs.Contract.{Opened, FeedPost, Takes, Goes, Replies, Stored}
 
 -- ---- a refusal stays

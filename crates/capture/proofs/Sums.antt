@@ -7,7 +7,7 @@ use mathlib.Core.Bool.{Bool}
 use lib.ListN.{length}
 use borrow.Author.Tests.{eq-eqb, ne_eqb}
 use Rattle.rules.specs.declared.Opening.{Opening}
-use Rattle.rules.specs.Capture.{units, too_many_units, capture_inside}
+use Rattle.rules.specs.Capture.{too_many_units, capture_inside}
 use Rattle.capture_laws.proofs.Format.{none_both, capture-format}
 use Rattle.capture_laws.proofs.Bounds.{frame-count-few, skipped-few, bad-few}
 use Rattle.capture_steps.specs.declared.types.Walk.{Walk}

@@ -1,6 +1,8 @@
 // The capture side of a sample: the walk finds frames and cells in pieces that are cut anywhere, and the cells of
 // PID make units. Its state is four lent arrays: the walk's words and collected bytes, the side's own numbers, and
 // the table of units. Every call is safe on any contents of them.
+#![tactic(auto)]
+
 ghost use Rattle.capture_steps.specs.Contract.{Fits};
 ghost use Rattle.capture.specs.Contract.{Opened, FeedPost, SumsUp, Takes, Goes, Replies, summary_of, totals_in};
 ghost use Rattle.std.specs.Prelude.{◌≡◌};
@@ -16,7 +18,7 @@ pub use numbers::{NUMBERS, Numbers};
 use rules::Answer;
 
 // What is kept of the walk and of the counts while a piece is taken in.
-#[derive(Drop)]
+#[derive(Clone, Copy)]
 pub struct Meter {
     pub walk: Walk,
     pub tally: Tally,
@@ -25,7 +27,7 @@ pub struct Meter {
 // What a seal needs. The refusal that stands (number 0: none) and its place; if none stands: the bytes fed,
 // whether they end inside the file header or a frame, the frames, skipped frames, bad cells, units, and over all
 // units the cells and those lost.
-#[derive(Drop)]
+#[derive(Clone, Copy)]
 pub struct Summary {
     pub number: u64,
     pub place: u64,
@@ -41,7 +43,7 @@ pub struct Summary {
 
 // What an index call reads (document 02, R-7): the refusal that stands (number 0: none) and its place; over all units
 // the cells and those lost.
-#[derive(Drop)]
+#[derive(Clone, Copy)]
 pub struct Totals {
     pub number: u64,
     pub place: u64,

@@ -1,5 +1,7 @@
 // Counts of one identifier, cell by cell: the table of units, bad cells, and refusal 9. The edition decides how a cell
 // is seen.
+#![tactic(auto)]
+
 ghost use Rattle.std.specs.Prelude.{◌≡◌, ◌+◌, ◌*◌, ◌≤◌, ◌&&◌, length, ◌==◌};
 ghost use Rattle.rules.specs.Packets.{is_damaged};
 ghost use Rattle.capture_units.specs.Units.{as_known, is_of, seen as seen_by};
@@ -14,7 +16,7 @@ use rules::Condition;
 
 // status, place: refusal 9, or 0. pid: the identifier. bad: bad cells. units: the state of the table. edition: of
 // the rules that the cells are counted by.
-#[derive(Drop)]
+#[derive(Clone, Copy)]
 pub struct Tally {
     pub status: u64,
     pub place: u64,

@@ -1,5 +1,7 @@
 // The units of the cells of PID, kept in a lent table: unit j has the five words from 5 * j on.
 // Cells come one by one. Every function is safe on any table and any `Units`.
+#![tactic(auto)]
+
 ghost use Rattle.std.specs.Prelude.{◌≡◌, ◌<◌};
 ghost use Rattle.rules.specs.Bytes.{smaller, larger};
 ghost use Rattle.capture_units.specs.State.{unit_at, unit_set};
@@ -21,7 +23,7 @@ pub type Table = [u64; TABLE_WORDS];
 
 // What is kept beside the table: the number of units, the counter that the next gap is measured from, and the totals
 // over all units.
-#[derive(Drop)]
+#[derive(Clone, Copy)]
 pub struct Units {
     pub count: u64,
     pub previous: u64,
@@ -30,7 +32,7 @@ pub struct Units {
 }
 
 // The words of a unit.
-#[derive(Drop)]
+#[derive(Clone, Copy)]
 pub struct Unit {
     pub least: u64,
     pub greatest: u64,

@@ -8,7 +8,7 @@ use lib.ListN.{length, get_or, take, drop, length-append}
 use lib.Seq.{take-add, take_all}
 use borrow.Author.Tests.{ne_eqb}
 use Rattle.rules.specs.Bytes.{count}
-use Rattle.rules.specs.Refusals.{Fault, fault, answer, listed}
+use Rattle.rules.specs.Refusals.{Fault, fault, listed}
 use Rattle.rules.specs.Seal.{capture_unfinished}
 use Rattle.rules.specs.Survey.{good_packets, identifiers, with_most, HasMost, survey_feed_answer, no_good, survey_fault}
 use Rattle.rules.specs.Survey.{survey_answer}

@@ -1,5 +1,5 @@
 -- What each call promises, in terms of the rules and of what the lent arrays stand for.
-use Rattle.std.specs.Prelude.{ℕ, ◌+◌, ◌<◌, ◌≡◌, List, [], ◌++◌, length}
+use Rattle.std.specs.Prelude.{ℕ, ◌<◌, ◌≡◌, List, [], ◌++◌, length}
 use Rattle.rules.specs.declared.Answer.{Answer}
 use Rattle.rules.specs.declared.Answer.TheVariants as of-feed
 use Rattle.rules.specs.declared.SurveyAnswer.{SurveyAnswer}

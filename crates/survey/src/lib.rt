@@ -1,6 +1,8 @@
 // A survey (document 02, R-4): which identifier of a capture has most good packets. The capture comes in pieces, cut
 // anywhere; the walk finds the cells. The state is three lent arrays: the walk's words and collected bytes, and the
 // counts. Every call is safe on any contents of them.
+#![tactic(auto)]
+
 ghost use Rattle.std.specs.Prelude.{◌≡◌};
 ghost use Rattle.survey.specs.State.{state_of};
 ghost use Rattle.survey.specs.Contract.{Opened, FeedPost, AskPost, Goes, Replies};

@@ -2,7 +2,7 @@
 use Rattle.std.proofs.Common.{◌≡◌, ℕ, zero, suc, ◌+◌, ◌*◌, ◌%◌, ◌^◌, ◌<◌, ◌≤◌, Bool, true, false, ◌&&◌, eqb, List, [], ◌∷◌, ◌++◌, map, length, get_or, drop, set, replicate, sym, refl, ap, ◌∙◌, append_assoc, append-nil, arith, length-append, length-set, get_or-set_other, get_or-set_same, drop-drop, eq-eqb, ne_eqb}
 use native.Mathlib.Decide.{dec_le}
 use Rattle.rules.specs.Bytes.{pick, count}
-use Rattle.rules.specs.Packets.{Packet, packets, whole, is_good, identifier}
+use Rattle.rules.specs.Packets.{Packet, packets, whole, is_good}
 use Rattle.rules.specs.Capture.{all_frames}
 use Rattle.rules.specs.Survey.{good_of, good_packets}
 use Rattle.rules.proofs.Laws.Lists.{count-append, count-few}

@@ -1,4 +1,6 @@
 // Good packets, counted by identifier.
+#![tactic(auto)]
+
 ghost use Rattle.std.specs.Prelude.{◌≡◌, ◌+◌, ◌*◌, ◌<◌, ◌≤◌, [], ◌∷◌, length};
 ghost use Rattle.rules.specs.Packets.{is_good};
 ghost use Rattle.rules.specs.Survey.{HasMost, identifiers};

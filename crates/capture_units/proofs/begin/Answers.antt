@@ -1,0 +1,16 @@
+-- `begin` meets its contract: a row more, where there is room.
+use Rattle.std.proofs.Common.{arith}
+use Rattle.capture_units.proofs.Steps.{no_room, begins-by}
+use Rattle.capture_units.proofs.begin.Goals as goal
+
+pub returns-then-count : goal.returns-then-count
+returns-then-count c cs h st few = absurd (omega (arith, no_room c.args.c st h c.if-count.true))
+
+pub returns : goal.returns
+returns c =
+    begins-by _ _ c.args.c
+    c.if-count.false
+    c.loss-lost.ensures
+    c.begun.ensures
+    c.put_unit.ensures
+    c.taken.ensures
