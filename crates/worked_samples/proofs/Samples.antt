@@ -1,7 +1,6 @@
 -- Whole samples, through every rule from the bytes to the answers: the example of document 01's `show`, a scene cut,
 -- and refusal 9 by 751 start marks, and with one of them damaged (document 02, R-6). Each is a theorem that the
 -- checker computes. The small samples stand in rules/proofs/Samples.
-use Prim.Native.Nat.{◌+◌}
 use mathlib.Core.Path.{◌≡◌, refl}
 use mathlib.Core.List.{List, [], ◌∷◌, ◌++◌, map}
 use lib.ListN.{replicate, drop}
@@ -20,7 +19,8 @@ use Rattle.rules.specs.Units.{gap_loss, set_apart, loss_between, arrivals_after,
 use Rattle.rules.specs.Units.{cells_of, least_time, unit_of, units_of, beginnings}
 use Rattle.rules.specs.Capture.{whole_frames, unfinished, all_frames, whole_wanted, shown_wanted, units, frame_count}
 use Rattle.rules.specs.Capture.{skipped_count, bad_count, showing, too_long, wrong_magic, wrong_link}
-use Rattle.rules.specs.Capture.{wrong_frame_header, wrong_frame, too_many_units, begins_at, format_fault, capture_fault}
+use Rattle.rules.specs.Capture.{wrong_frame_header, wrong_frame, too_many_units, begins_at, format_fault}
+use Rattle.rules.specs.Capture.{capture_fault}
 use Rattle.rules.specs.Capture.{capture_inside}
 use Rattle.rules.specs.Pictures.{picture_size, picture_count, pictures, luma_fault, rows, band, block_sum, pixel_in}
 use Rattle.rules.specs.Pictures.{pixel, pixel_line, pixels}
@@ -84,20 +84,21 @@ samples =
 -- the theorem: the rules give what the paper says
 pub sampled : map (λ (c : Case). c.rule) samples ≡ map (λ (c : Case). c.paper) samples
 unfolding one_broken words run marks one_frame show_record samples open_answer unit_place scene_place allowed_header
-    allowed_unit allowed_units allowed_scene allowed_scenes allowed_rows allowed reading_fault row_fault is_edition unit_fault
-    scene_fault word32 word64 network16 bytes_of total greatest_of least_of count only table parts end_to_end good_size
-    good_time good_pid opening_fault level_up_to level side area columns lines seconds microseconds stored_length frame_time
-    body frame_size frames_up_to rest_up_to frames rest behind_header ip_length udp_length carries skipped packets_from
-    packets_in packets_of packets shown whole starts_cell damage_mark condition identifier is_wanted start_mark counter
-    wanted_of bad_of gap_loss set_apart loss_between heeds_splices knows_damage splice_mark arrivals_after arrivals before_units
-    groups cells_of least_time unit_of units_of beginnings whole_frames unfinished all_frames whole_wanted shown_wanted units
-    frame_count skipped_count bad_count showing too_long wrong_magic wrong_link wrong_frame_header wrong_frame too_many_units
-    format_fault capture_fault capture_inside picture_size picture_count pictures luma_fault rows band block_sum pixel_in pixel
-    pixel_line pixels third tile_at bin in_tile_from in_tile in_bin histogram histograms bins_apart per_million tile_difference
-    tile_differences insert sorted fifth difference least_of_six cut_score cut_scores starts_scene is_start starts_from starts
-    longest_from scene_of scenes_at scenes_of same squares spread root_from root nearest change_from rounds_to_nearest change
-    repeats_after changes_after repeats changes ic_of ip_of value_of index_of index_bits record_length scene_offset header_bytes
-    unit_bytes scene_bytes record_bytes reduced scenes_in scenes unrepeated index_from index header sealed sealed_length
-    capture_unfinished no_packet luma_unfinished no_picture no_room seal_fault capture_answer luma_answer seal_answer over
-    sealed_buffer expected add mul div of_int to_bits
+    allowed_unit allowed_units allowed_scene allowed_scenes allowed_rows allowed reading_fault row_fault is_edition
+    unit_fault scene_fault word32 word64 network16 bytes_of total greatest_of least_of count only table parts
+    end_to_end good_size good_time good_pid opening_fault level_up_to level side area columns lines seconds
+    microseconds stored_length frame_time body frame_size frames_up_to rest_up_to frames rest behind_header ip_length
+    udp_length carries skipped packets_from packets_in packets_of packets shown whole starts_cell damage_mark
+    condition identifier is_wanted start_mark counter wanted_of bad_of gap_loss set_apart loss_between heeds_splices
+    knows_damage splice_mark arrivals_after arrivals before_units groups cells_of least_time unit_of units_of
+    beginnings whole_frames unfinished all_frames whole_wanted shown_wanted units frame_count skipped_count bad_count
+    showing too_long wrong_magic wrong_link wrong_frame_header wrong_frame too_many_units format_fault capture_fault
+    capture_inside picture_size picture_count pictures luma_fault rows band block_sum pixel_in pixel pixel_line pixels
+    third tile_at bin in_tile_from in_tile in_bin histogram histograms bins_apart per_million tile_difference
+    tile_differences insert sorted fifth difference least_of_six cut_score cut_scores starts_scene is_start
+    starts_from starts longest_from scene_of scenes_at scenes_of same squares spread root_from root nearest
+    change_from rounds_to_nearest change repeats_after changes_after repeats changes ic_of ip_of value_of index_of
+    index_bits record_length scene_offset header_bytes unit_bytes scene_bytes record_bytes reduced scenes_in scenes
+    unrepeated index_from index header sealed sealed_length capture_unfinished no_packet luma_unfinished no_picture
+    no_room seal_fault capture_answer luma_answer seal_answer over sealed_buffer expected add mul div of_int to_bits
 sampled = refl

@@ -5,7 +5,8 @@ use Rattle.rules.specs.Bytes.{word32, word64, bytes_of, table, end_to_end}
 use Rattle.rules.specs.Editions.{is_edition, knows_damage}
 use Rattle.rules.specs.Opening.{good_size, good_time, good_pid}
 use Rattle.rules.specs.Record.{record_length, scene_offset, header_bytes, unit_bytes, scene_bytes, record_bytes}
-use Rattle.rules.specs.Reading.{header_of, unit_place, scene_place, unit_in, scene_in, unit_at, scene_at, reading_fault}
+use Rattle.rules.specs.Reading.{header_of, unit_place, scene_place, unit_in, scene_in, unit_at, scene_at}
+use Rattle.rules.specs.Reading.{reading_fault}
 use Rattle.rules.specs.Reading.{allowed_header, allowed_unit, allowed_units, allowed_scene, allowed_scenes}
 use Rattle.rules.specs.Reading.{allowed_rows, allowed}
 use Rattle.rules.specs.Seal.{no_room, over}
@@ -28,10 +29,11 @@ sheets =
 
 -- the theorem: every entry's rule gives what document 02 says
 pub printed : map (λ (c : Case). c.rule) sheets ≡ map (λ (c : Case). c.paper) sheets
-unfolding sheets example_by example spaces header unit_up_to scene text_up_to text is_edition knows_damage word32 word64
-    bytes_of table end_to_end good_size good_time good_pid record_length scene_offset header_bytes unit_bytes scene_bytes
-    record_bytes header_of unit_place scene_place unit_in scene_in unit_at scene_at reading_fault allowed_header allowed_unit
-    allowed_units allowed_scene allowed_scenes allowed_rows allowed no_room over decimal_in decimal hex_in aligned columns
-    header_fields unit_fields scene_fields ending line header_line unit_line scene_line blank_line record_lines line_count
-    pages_for blanks_for sheet_lines sheet_of sheet_length sheet_answer sheet_buffer
+unfolding sheets example_by example spaces header unit_up_to scene text_up_to text is_edition knows_damage word32
+    word64 bytes_of table end_to_end good_size good_time good_pid record_length scene_offset header_bytes unit_bytes
+    scene_bytes record_bytes header_of unit_place scene_place unit_in scene_in unit_at scene_at reading_fault
+    allowed_header allowed_unit allowed_units allowed_scene allowed_scenes allowed_rows allowed no_room over
+    decimal_in decimal hex_in aligned columns header_fields unit_fields scene_fields ending line header_line unit_line
+    scene_line blank_line record_lines line_count pages_for blanks_for sheet_lines sheet_of sheet_length sheet_answer
+    sheet_buffer
 printed = refl

@@ -36,10 +36,10 @@ surveys =
 
 -- the theorem: the rules give what the paper says
 pub surveyed : map (λ (c : Case). c.rule) surveys ≡ map (λ (c : Case). c.paper) surveys
-unfolding surveys ends word32 network16 bytes_of count only end_to_end seconds microseconds
-    stored_length frame_time body frame_size frames_up_to rest_up_to frames rest behind_header ip_length udp_length carries
-    packets_from packets_in packets_of packets whole starts_cell damage_mark condition identifier whole_frames unfinished
-    all_frames showing too_long
-    wrong_magic wrong_link wrong_frame_header wrong_frame format_fault capture_inside capture_unfinished good_of
-    good_packets with_most survey_feed_answer no_good survey_fault survey_answer survey_expected
+unfolding surveys ends word32 network16 bytes_of count only end_to_end seconds microseconds stored_length frame_time
+    body frame_size frames_up_to rest_up_to frames rest behind_header ip_length udp_length carries packets_from
+    packets_in packets_of packets whole starts_cell damage_mark condition identifier whole_frames unfinished
+    all_frames showing too_long wrong_magic wrong_link wrong_frame_header wrong_frame format_fault capture_inside
+    capture_unfinished good_of good_packets with_most survey_feed_answer no_good survey_fault survey_answer
+    survey_expected
 surveyed = refl
