@@ -10,7 +10,8 @@ use Rattle.rules.specs.declared.Answer.{Answer}
 use Rattle.rules.specs.declared.Answer.TheVariants.{Refused}
 use Rattle.rules.specs.Bytes.{within}
 use Rattle.rules.proofs.Laws.Lists.{both, inside}
-use Rattle.rules.specs.Rtp.{RtpLists, ordered, rtp_units_in, rtp_units, good_lists, rtp_fault, rtp_answer, rtp_buffer, Read}
+use Rattle.rules.specs.Rtp.{RtpLists, ordered, rtp_units_in, rtp_units, good_lists, rtp_fault, rtp_answer, rtp_buffer}
+use Rattle.rules.specs.Rtp.{Read}
 use Rattle.rtp_units.specs.Units.{Told}
 
 pub record Good (s : List ℕ) (l : RtpLists) : Type 0 where
@@ -37,7 +38,8 @@ module _ (s : List ℕ) (l : RtpLists) where
         size = eqb-true (length l.size) n b₁.1;
       }
 
-  pub bad-lists : (buffer : List ℕ) (b : Bool) → b ≡ good_lists s l → b ≡ false → Read s l buffer (Refused 25 0) buffer
+  pub bad-lists : (buffer : List ℕ) (b : Bool) → b ≡ good_lists s l → b ≡ false →
+      Read s l buffer (Refused 25 0) buffer
   unfolding rtp_answer rtp_buffer rtp_fault
   bad-lists buffer b d e = record { told = rw (← d, e); left = rw (← d, e) }
 

@@ -62,7 +62,8 @@ new-climb p (r ∷ rs) (before lows rest) (and h hs) =
         Climbs (place_of r) (new_places (place_of r) rs) →
         Climbs p (pick b (new_places p rs) (r ∷ new_places (place_of r) rs))
     go true e f g = f
-    go false e f g = let apart : place_of r ≡ p → ⊥ = eqb-false (place_of r) p e in above {p = p} {r = r} (omega arith) g
+    go false e f g = let apart : place_of r ≡ p → ⊥ = eqb-false (place_of r) p e in
+        above {p = p} {r = r} (omega arith) g
 
 none_below : (l : List ℕ) → All (λ (r : ℕ). 0 ≤ place_of r) l
 none_below [] = empty
@@ -118,7 +119,8 @@ unit-weight [] = refl
 unit-weight (p ∷ g) = omega (arith, unit-weight g)
 
 into_total : (p : RtpRow) (gs : List (List RtpRow)) →
-    total (map (λ g. total (map weight g)) (rtp_into_first p gs)) ≡ weight p + total (map (λ g. total (map weight g)) gs)
+    total (map (λ g. total (map weight g)) (rtp_into_first p gs))
+    ≡ weight p + total (map (λ g. total (map weight g)) gs)
 unfolding total
 into_total p [] = omega arith
 into_total p (g ∷ gs) = omega arith

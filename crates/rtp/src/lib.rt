@@ -1,5 +1,7 @@
 // Units of RTP packets, which come without cells: lists that are as they should be, rows in order (`rtp_order`), units
 // behind markers (`rtp_units`).
+#![tactic(auto)]
+
 ghost use Rattle.std.specs.Prelude.{◌≡◌, true, ◌≤◌, length};
 ghost use Rattle.rules.specs.Rtp.{rtp_lists, good_lists, Read};
 
