@@ -23,7 +23,8 @@ unfolding first_failing
 of_none = refl
 
 -- one, and others behind it
-pub of-more : (c : Check) (cs : List Check) → first_failing (c ∷ cs) ≡ first_of (first_failing (c ∷ [])) (first_failing cs)
+pub of-more : (c : Check) (cs : List Check) →
+    first_failing (c ∷ cs) ≡ first_of (first_failing (c ∷ [])) (first_failing cs)
 unfolding first_failing first_of
 of-more c cs = go c.holds
   where

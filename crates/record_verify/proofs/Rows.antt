@@ -26,7 +26,8 @@ module _ (f : ℕ → List Check) (n : ℕ) where
     unfolding table end_to_end
     next =
         let more : n - j ≡ suc (n - (j + 1)) = omega arith in
-        let d : first_failing (f j ++ end_to_end (table (n - (j + 1)) (j + 1) f)) ≡ all = rw (more, ← add-one j) at e in
+        let d : first_failing (f j ++ end_to_end (table (n - (j + 1)) (j + 1) f)) ≡ all =
+        rw (more, ← add-one j) at e in
         rw (g, ← of-append (f j) (end_to_end (table (n - (j + 1)) (j + 1) f))) d
 
     pub one_more : x ≡ Holds → Left (j + 1) ≡ all

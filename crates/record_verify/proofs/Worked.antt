@@ -13,7 +13,8 @@ use Rattle.rules.specs.Opening.{good_size, good_time, good_pid}
 use Rattle.rules.specs.Index.{ic_of, ip_of, value_of, index_of, index_bits}
 use Rattle.rules.specs.Busiest.{reaching_from, least_between, most_scenes}
 use Rattle.rules.specs.Record.{record_length, scene_offset, header_bytes, unit_bytes, scene_bytes, record_bytes}
-use Rattle.rules.specs.Reading.{header_of, unit_place, scene_place, unit_in, scene_in, unit_at, scene_at, reading_fault}
+use Rattle.rules.specs.Reading.{header_of, unit_place, scene_place, unit_in, scene_in, unit_at, scene_at}
+use Rattle.rules.specs.Reading.{reading_fault}
 use Rattle.rules.specs.Reading.{allowed_header, allowed_unit, allowed_units, allowed_scene, allowed_scenes}
 use Rattle.rules.specs.Reading.{allowed_rows, allowed}
 use Rattle.record_verify.specs.declared.Finding.{Finding}
@@ -91,7 +92,8 @@ cases =
     ∷ case (one 0x3FF0000000000000 4 0 1) (1 ∷ 6 ∷ 0 ∷ 4 ∷ 3 ∷ [])
     ∷ case (one 0x400A000000000000 1 1 0) (1 ∷ 4 ∷ 0 ∷ 1 ∷ 0 ∷ [])
     ∷ case (one 0x400A000000000000 1 0 29) (1 ∷ 4 ∷ 1 ∷ 29 ∷ 28 ∷ [])
-    ∷ case (sample 0x400A000000000000 6 2 (unit_rows 0 1) (scene 0 3 1 ∷ scene 3 3 1 ∷ [])) (1 ∷ 13 ∷ 1 ∷ 0 ∷ 1001 ∷ [])
+    ∷ case (sample 0x400A000000000000 6 2 (unit_rows 0 1) (scene 0 3 1 ∷ scene 3 3 1 ∷ []))
+    (1 ∷ 13 ∷ 1 ∷ 0 ∷ 1001 ∷ [])
     ∷ case (sample 0x3FF0000000000000 6 2 (unit_rows 0 1) (scene 0 2 1 ∷ scene 2 4 4 ∷ []))
     (1 ∷ 15 ∷ 0 ∷ 400000 ∷ 600000 ∷ [])
     ∷ case [] (2 ∷ 16 ∷ 0 ∷ [])
@@ -101,13 +103,14 @@ cases =
 
 -- the theorem: every entry's rule gives what was written out
 pub answered : map (λ (c : Case). c.rule) cases ≡ map (λ (c : Case). c.paper) cases
-unfolding bits said unit_rows scene sample one cases word32 word64 bytes_of total table end_to_end is_edition knows_damage
-    good_size good_time good_pid ic_of ip_of value_of index_of index_bits reaching_from least_between most_scenes record_length
-    scene_offset header_bytes unit_bytes scene_bytes record_bytes header_of unit_place scene_place unit_in scene_in unit_at
-    scene_at reading_fault allowed_header allowed_unit allowed_units allowed_scene allowed_scenes allowed_rows allowed
-    repeated_total packets_total lost_total damaged_total unrepeated_total index_of_rows reached_of in_first counted_in
-    header_checks unit_checks repeat_checks sum_checks start_checks length_checks scene_checks units_checks scenes_checks
-    index_checks checks first_failing verdict_of add mul div of_int to_bits
+unfolding bits said unit_rows scene sample one cases word32 word64 bytes_of total table end_to_end is_edition
+    knows_damage good_size good_time good_pid ic_of ip_of value_of index_of index_bits reaching_from least_between
+    most_scenes record_length scene_offset header_bytes unit_bytes scene_bytes record_bytes header_of unit_place
+    scene_place unit_in scene_in unit_at scene_at reading_fault allowed_header allowed_unit allowed_units
+    allowed_scene allowed_scenes allowed_rows allowed repeated_total packets_total lost_total damaged_total
+    unrepeated_total index_of_rows reached_of in_first counted_in header_checks unit_checks repeat_checks sum_checks
+    start_checks length_checks scene_checks units_checks scenes_checks index_checks checks first_failing verdict_of
+    add mul div of_int to_bits
 answered = refl
 
 -- ---- every limit: a header or a row that is at it, and one that is past it

@@ -1,5 +1,7 @@
 // Whether a record could have been sealed: the index that its own rows reach, and the marks that every sealed record
 // has though the reader does not ask for them. The record is read through `record_reader` alone.
+#![tactic(auto)]
+
 ghost use Rattle.std.specs.Prelude.{◌≡◌, true, [], ◌∷◌, ◌+◌, ◌-◌, ◌*◌, ◌^◌, ◌≤◌, ◌<◌, length};
 ghost use Rattle.rules.specs.Bytes.{word32};
 ghost use Rattle.rules.specs.Refusals.{none};
@@ -33,7 +35,7 @@ const CHANGE_MOST: u64 = 25500;
 const SCENE_LEAST: u64 = 600000;
 
 // The counts that an index is taken of, and the index.
-#[derive(Drop)]
+#[derive(Clone, Copy)]
 pub struct Reached {
     pub unrepeated: u64,
     pub pictures: u64,
@@ -44,7 +46,7 @@ pub struct Reached {
 
 // What verifying a record answers. Of a mark: its number, the row (from 0; 0 where none is meant), what the record
 // has, and the limit: the most, the least, or the only value allowed.
-#[derive(Drop)]
+#[derive(Clone, Copy)]
 pub enum Verdict {
     CouldBeSealed(Reached),
     CouldNotBeSealed {
@@ -60,7 +62,7 @@ pub enum Verdict {
 }
 
 // What some marks say: all hold, or the first that fails.
-#[derive(Drop)]
+#[derive(Clone, Copy)]
 pub enum Finding {
     Holds,
     Fails {
@@ -72,7 +74,7 @@ pub enum Finding {
 }
 
 // Words 20, 24 and 28 of all unit rows.
-#[derive(Drop)]
+#[derive(Clone, Copy)]
 struct UnitTotals {
     packets: u64,
     lost: u64,
