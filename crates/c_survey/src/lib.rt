@@ -1,5 +1,7 @@
 // A survey's calls (document 02, R-4) as C functions: each hands its memory to the call of `survey` and splits the
 // answer into numbers.
+#![tactic(auto)]
+
 ghost use Rattle.std.specs.Prelude.{◌≡◌};
 ghost use Rattle.survey.specs.State.{state_of};
 ghost use Rattle.survey.specs.Contract.{Opened};
