@@ -4,12 +4,11 @@ use native.Mathlib.Decide.{dec_le}
 use Rattle.rules.specs.declared.Opening.{Opening}
 use Rattle.rules.specs.declared.Answer.{Answer}
 use Rattle.rules.specs.declared.Answer.TheVariants.{Done, Refused}
-use Rattle.rules.specs.Refusals.{Fault, none, fault, ◌or_else◌, answer}
-use Rattle.rules.specs.Opening.{opening_fault, open_answer, side, lines}
+use Rattle.rules.specs.Refusals.{Fault, none, fault, ◌or_else◌}
+use Rattle.rules.specs.Opening.{opening_fault, open_answer}
 use Rattle.rules.specs.Pictures.{picture_size, luma_fault}
 use Rattle.rules.specs.Seal.{luma_answer}
 use Rattle.luma_laws.proofs.Pictures.{luma-kept}
-use Rattle.luma_laws.proofs.Sizes.{good}
 use Rattle.figures.specs.Opening.{numbered, OpeningFault}
 use Rattle.luma_state.specs.declared.Grid.{Grid}
 use Rattle.luma_state.specs.declared.Progress.{Progress}

@@ -1,5 +1,7 @@
 // The luma side: pictures that come in pieces, cut anywhere, over memory that the caller lends. Whatever stands in
 // that memory, every call is safe.
+#![tactic(auto)]
+
 ghost use Rattle.std.specs.Prelude.{◌≡◌};
 ghost use Rattle.luma.specs.Contract.{Replied, inside_of, OpenPost, FeedPost, SummaryPost, totals_in};
 
@@ -15,7 +17,7 @@ use rules::{Answer, Opening};
 
 // What a seal needs: the refusal that stands, bytes fed, whether they end inside a picture, whole pictures, and those
 // of them that are not repeated.
-#[derive(Drop)]
+#[derive(Clone, Copy)]
 pub struct Summary {
     pub status: u64,
     pub place: u64,
@@ -27,7 +29,7 @@ pub struct Summary {
 
 // What an index call reads (document 02, R-7): the refusal that stands (number 0: none) and its place; whole pictures,
 // and those of them that are not repeated.
-#[derive(Drop)]
+#[derive(Clone, Copy)]
 pub struct Totals {
     pub number: u64,
     pub place: u64,
