@@ -1,4 +1,6 @@
 // The busiest possible sample: the greatest number of scenes for N and d, and the luma of a sample that has that many.
+#![tactic(auto)]
+
 ghost use Rattle.std.specs.Prelude.{◌-◌, ◌*◌, ◌≤◌, ◌<◌, ◌≡◌, true, length, replicate};
 ghost use Rattle.words.specs.Written.{written};
 ghost use Rattle.rules.specs.Seal.{over};

@@ -1,13 +1,12 @@
 -- Lists of one value, n times: their parts, sums and bins.
 use Prim.Native.Nat.{ℕ, zero, suc, ◌+◌, ◌-◌, ◌*◌, ◌≤◌, ◌<◌}
 use native.Mathlib.Omega.{arith}
-use native.Mathlib.Numerals.{add-one}
 use native.Mathlib.Nat.{suc-mul, zero-mul}
-use mathlib.Core.Path.{◌≡◌, refl, ap, ◌∙◌}
+use mathlib.Core.Path.{◌≡◌, refl, ap}
 use mathlib.Core.Bool.{Bool, true, false}
 use mathlib.Core.List.{List, ◌∷◌, map}
-use lib.ListN.{length, take, drop, set, replicate, replicate-append-replicate, length-append}
-use lib.Seq.{take-suc-set, take_at, drop_at}
+use lib.ListN.{length, take, drop, replicate, replicate-append-replicate, length-append}
+use lib.Seq.{take_at, drop_at}
 use Rattle.rules.specs.Bytes.{pick, total, count, table, parts, end_to_end, Bytes, empty, and}
 use Rattle.luma_laws.proofs.Pictures.{bytes-append}
 

@@ -16,7 +16,7 @@ use Rattle.rules.specs.Refusals.{none}
 use Rattle.rules.specs.Opening.{opening_fault}
 use Rattle.rules.specs.Pictures.{picture_size, picture_count, pictures, pixels}
 use Rattle.rules.specs.Histograms.{histograms}
-use Rattle.rules.specs.Cuts.{at, cut_scores}
+use Rattle.rules.specs.Cuts.{cut_scores}
 use Rattle.rules.specs.Scenes.{starts, scene_of, scenes_at, scenes_of}
 use Rattle.rules.specs.Changes.{repeats}
 use Rattle.rules.specs.Seal.{reduced, scenes_in, scenes}
