@@ -40,7 +40,7 @@ module _ (at : ℕ) (bs s : List ℕ) (fits : at + length bs ≤ length s) where
   unfolding written
   written-append cs =
       let head : length (take at s ++ bs) ≡ at + length bs =
-          simp (length-append, length-take-le at s (omega arith)) in
+      simp (length-append, length-take-le at s (omega arith)) in
       let behind : drop (at + length bs + length cs) (take at s ++ bs ++ drop (at + length bs) s)
       ≡ drop (at + length bs + length cs) s =
       sym (drop-drop (length cs) (at + length bs) (take at s ++ bs ++ drop (at + length bs) s))
