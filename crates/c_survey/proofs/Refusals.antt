@@ -4,7 +4,8 @@ use mathlib.Core.Path.{◌≡◌, refl}
 use mathlib.Core.List.{List}
 use Rattle.rules.specs.Refusals.{Fault, none, fault}
 use Rattle.rules.specs.Capture.{format_fault}
-use Rattle.rules.specs.Survey.{good_packets, identifiers, with_most, survey_feed_answer, survey_fault, or_most, survey_answer}
+use Rattle.rules.specs.Survey.{good_packets, identifiers, with_most, survey_feed_answer, survey_fault, or_most}
+use Rattle.rules.specs.Survey.{survey_answer}
 use Rattle.rules.proofs.Laws.Listed.{Numbered, format, survey}
 use Rattle.c_numbers.specs.Numbers.{number_of}
 use Rattle.c_numbers.proofs.Refusals.{number_in, of-answer}

@@ -32,7 +32,8 @@ kept_on : (o : Opening) (joined t : List ℕ) (k p : ℕ) → opening_fault o or
     opening_fault o or_else capture_fault o (joined ++ t) ≡ fault k p
 kept_on o joined t k p = go (opening_fault o)
   where
-    go : (f : Fault) → f or_else capture_fault o joined ≡ fault k p → f or_else capture_fault o (joined ++ t) ≡ fault k p
+    go : (f : Fault) → f or_else capture_fault o joined ≡ fault k p →
+        f or_else capture_fault o (joined ++ t) ≡ fault k p
     go none e = capture-kept o joined t k p e
     go (fault l q) e = e
 

@@ -74,7 +74,12 @@ SumsUp walk numbers r =
 
 abbrev pub totals_in : List ℕ → Totals
 totals_in numbers =
-    record { number = get_or numbers 0 0; place = get_or numbers 1 0; packets = get_or numbers 6 0; lost = get_or numbers 7 0 }
+    record {
+      number = get_or numbers 0 0;
+      place = get_or numbers 1 0;
+      packets = get_or numbers 6 0;
+      lost = get_or numbers 7 0;
+    }
 
 -- ---- of the functions within
 

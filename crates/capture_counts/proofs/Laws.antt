@@ -1,5 +1,8 @@
 -- A cell more, and a run of cells.
-use Rattle.std.proofs.Common.{◌≡◌, ℕ, zero, suc, ◌+◌, ◌-◌, ◌*◌, ◌%◌, ◌^◌, ◌<◌, ◌≤◌, Bool, true, false, not, ◌&&◌, eqb, ltb, List, [], ◌∷◌, ◌++◌, map, length, drop, sym, refl, ap, ◌∙◌, subst, true≢false, append_assoc, append-nil, arith, length-append, length-drop, drop-drop, eq-eqb, eqb-true}
+use Rattle.std.proofs.Common.{◌≡◌, ℕ, zero, suc, ◌+◌, ◌-◌, ◌*◌, ◌%◌, ◌^◌, ◌<◌, ◌≤◌, Bool, true, false, not}
+use Rattle.std.proofs.Common.{◌&&◌, eqb, ltb, List, [], ◌∷◌, ◌++◌, map, length, drop, sym, refl, ap, ◌∙◌, subst}
+use Rattle.std.proofs.Common.{true≢false, append_assoc, append-nil, arith, length-append, length-drop}
+use Rattle.std.proofs.Common.{drop-drop, eq-eqb, eqb-true}
 use mathlib.Core.Bool.{false≢true}
 use Rattle.rules.specs.Bytes.{pick, count, only}
 use Rattle.rules.specs.Refusals.{none, fault}
@@ -13,7 +16,8 @@ use Rattle.capture_cells.specs.Cells.{cell_in, cell_of}
 use Rattle.capture_steps.specs.Format.{cells_from}
 use Rattle.capture_steps.proofs.Lists.{cells-more, from-cells, map-append}
 use Rattle.capture_units.specs.declared.Units.{Units}
-use Rattle.capture_units.specs.Units.{is_of, seen, all_of, from_sound, before_sound, of_pid, bad_in, arrivals_after, arrivals}
+use Rattle.capture_units.specs.Units.{is_of, seen, all_of, from_sound, before_sound, of_pid, bad_in}
+use Rattle.capture_units.specs.Units.{arrivals_after, arrivals}
 use Rattle.capture_units.specs.Units.{beginnings, nine_in}
 use Rattle.capture_units.specs.State as table
 use Rattle.capture_units.specs.Contract as units

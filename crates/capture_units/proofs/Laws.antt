@@ -1,6 +1,8 @@
 -- The rules' figures are those of the cells, and what each event of the walk does to refusal 9: what a table of
 -- units needs to be driven by the walk.
-use Rattle.std.proofs.Common.{◌≡◌, ℕ, zero, suc, ◌+◌, ◌%◌, ◌≤◌, Bool, true, false, not, ◌&&◌, List, [], ◌∷◌, ◌++◌, map, length, drop, sym, refl, ap, ◌∙◌, append_assoc, append-nil, arith, drop_of_length-le, le-leb}
+use Rattle.std.proofs.Common.{◌≡◌, ℕ, zero, suc, ◌+◌, ◌%◌, ◌≤◌, Bool, true, false, not, ◌&&◌, List, [], ◌∷◌}
+use Rattle.std.proofs.Common.{◌++◌, map, length, drop, sym, refl, ap, ◌∙◌, append_assoc, append-nil, arith}
+use Rattle.std.proofs.Common.{drop_of_length-le, le-leb}
 use native.Mathlib.Decide.{dec_le}
 use lib.ListN.{length-map}
 use lib.Seq.{drop-append-le}
@@ -94,8 +96,10 @@ after-cells e q (p ∷ ps) =
     loss = pick (heeds_splices e && splice_mark p.bytes) 0 (rule.gap_loss (counter q.bytes) (counter p.bytes))
 
     go : (t : Bool) →
-        rule.arrivals_after (heeds_splices e) (knows_damage e) q ps ≡ arrivals_after (cell_by e q) (map (cell_by e) ps) →
-        rule.arrivals_after (heeds_splices e) (knows_damage e) p ps ≡ arrivals_after (cell_by e p) (map (cell_by e) ps) →
+        rule.arrivals_after (heeds_splices e) (knows_damage e) q ps
+        ≡ arrivals_after (cell_by e q) (map (cell_by e) ps) →
+        rule.arrivals_after (heeds_splices e) (knows_damage e) p ps
+        ≡ arrivals_after (cell_by e p) (map (cell_by e) ps) →
         pick t (rule.damaged_arrival p ∷ rule.arrivals_after (heeds_splices e) (knows_damage e) q ps)
         (record { time = p.time; place = p.place; begins = start_mark p.bytes; lost = loss; damaged = false }
         ∷ rule.arrivals_after (heeds_splices e) (knows_damage e) p ps)

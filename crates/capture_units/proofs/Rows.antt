@@ -1,5 +1,6 @@
 -- The table of units: what a unit's words are after they are set, and THE FRAME: every other unit is as it was.
-use Rattle.std.proofs.Common.{◌≡◌, ℕ, ◌+◌, ◌*◌, ◌<◌, ◌≤◌, List, length, get_or, set, ◌∙◌, arith, length-set, get_or-set_other, get_or-set_same}
+use Rattle.std.proofs.Common.{◌≡◌, ℕ, ◌+◌, ◌*◌, ◌<◌, ◌≤◌, List, length, get_or, set, ◌∙◌, arith, length-set}
+use Rattle.std.proofs.Common.{get_or-set_other, get_or-set_same}
 use Rattle.capture_units.specs.declared.Unit.{Unit}
 use Rattle.capture_units.specs.State.{unit_at, unit_set}
 
@@ -12,7 +13,8 @@ five w a u =
 five-other : (w : List ℕ) (a : ℕ) (u : Unit) (i : ℕ) →
     (i ≡ a → ⊥) → (i ≡ a + 1 → ⊥) → (i ≡ a + 2 → ⊥) → (i ≡ a + 3 → ⊥) → (i ≡ a + 4 → ⊥) →
     get_or (five w a u) i 0 ≡ get_or w i 0
-five-other w a u i h h₁ h₂ h₃ h₄ = rw (get_or-set_other, get_or-set_other, get_or-set_other, get_or-set_other, get_or-set_other)
+five-other w a u i h h₁ h₂ h₃ h₄ =
+    rw (get_or-set_other, get_or-set_other, get_or-set_other, get_or-set_other, get_or-set_other)
 
 -- THE FRAME
 pub unit-other : (w : List ℕ) (u : Unit) (j k : ℕ) → (k ≡ j → ⊥) → unit_at (unit_set w j u) k ≡ unit_at w k

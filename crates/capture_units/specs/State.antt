@@ -1,5 +1,6 @@
 -- What the table and the state beside it stand for.
-use Rattle.std.specs.Prelude.{◌≡◌, ℕ, ◌+◌, ◌*◌, ◌%◌, ◌^◌, ◌<◌, ◌≤◌, List, map, length, set, slice_index, slice_index_or, slice_set}
+use Rattle.std.specs.Prelude.{◌≡◌, ℕ, ◌+◌, ◌*◌, ◌%◌, ◌^◌, ◌<◌, ◌≤◌, List, map, length, set, slice_index}
+use Rattle.std.specs.Prelude.{slice_index_or}
 use Rattle.rules.specs.declared.UnitRow.{UnitRow}
 use Rattle.rules.specs.Bytes.{total}
 use Rattle.capture_cells.specs.declared.Cell.{Cell}
@@ -20,8 +21,8 @@ unit_at w j =
 
 abbrev pub unit_set : List ℕ → ℕ → Unit → List ℕ
 unit_set w j u =
-    set (set (slice_set (slice_set (slice_set w (5 * j) u.least) (5 * j + 1) u.greatest) (5 * j + 2) u.packets) (5 * j + 3)
-    u.lost) (5 * j + 4) u.damaged
+    set (set (set (set (set w (5 * j) u.least) (5 * j + 1) u.greatest) (5 * j + 2) u.packets) (5 * j + 3) u.lost)
+    (5 * j + 4) u.damaged
 
 -- a row as words hold it: numbers modulo 2 ^ 64. The size is 184 for each cell and has no word
 abbrev pub held : UnitRow → Unit

@@ -35,7 +35,8 @@ some-outcome capture (ask_survey ∷ cs) e = cons-ne-nil _ _ e
 
 -- the outcome of the question at the end goes by the joined bytes
 asked-last : (capture : List ℕ) (cs : List SurveyCall) (os : List SurveyOutcome) (s : SurveyOutcome) →
-    os ++ s ∷ [] ≡ survey_expected capture (cs ++ ask_survey ∷ []) → s ≡ found (survey_answer (capture ++ survey_fed cs))
+    os ++ s ∷ [] ≡ survey_expected capture (cs ++ ask_survey ∷ []) →
+    s ≡ found (survey_answer (capture ++ survey_fed cs))
 unfolding survey_expected survey_fed
 asked-last capture [] [] s e = rw (append-nil capture) (head-eq_of_cons-eq e)
 asked-last capture [] (p ∷ []) s e = absurd (cons-ne-nil s [] (tail-eq_of_cons-eq e))

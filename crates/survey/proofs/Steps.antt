@@ -10,7 +10,8 @@ use borrow.Author.Tests.{ne_eqb}
 use Rattle.rules.specs.Bytes.{count}
 use Rattle.rules.specs.Refusals.{Fault, fault, listed}
 use Rattle.rules.specs.Seal.{capture_unfinished}
-use Rattle.rules.specs.Survey.{good_packets, identifiers, with_most, HasMost, survey_feed_answer, no_good, survey_fault}
+use Rattle.rules.specs.Survey.{good_packets, identifiers, with_most, HasMost, survey_feed_answer, no_good}
+use Rattle.rules.specs.Survey.{survey_fault}
 use Rattle.rules.specs.Survey.{survey_answer}
 use Rattle.rules.specs.declared.Answer.{Answer}
 use Rattle.rules.specs.declared.Answer.TheVariants.{Done, Refused as RefusedAnswer}

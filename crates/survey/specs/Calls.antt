@@ -35,4 +35,5 @@ abbrev pub CuttingsAlike : Type 0
 CuttingsAlike =
     (st st' end end' : State) (cs cs' : List SurveyCall) (os os' : List SurveyOutcome) (s s' : SurveyOutcome) →
     Opened st → Opened st' → survey_fed cs ≡ survey_fed cs' →
-    Runs st (cs ++ ask_survey ∷ []) (os ++ s ∷ []) end → Runs st' (cs' ++ ask_survey ∷ []) (os' ++ s' ∷ []) end' → s ≡ s'
+    Runs st (cs ++ ask_survey ∷ []) (os ++ s ∷ []) end →
+    Runs st' (cs' ++ ask_survey ∷ []) (os' ++ s' ∷ []) end' → s ≡ s'

@@ -1,5 +1,8 @@
 -- The table of counts: a cell more, a run of cells, and the rules' counts.
-use Rattle.std.proofs.Common.{◌≡◌, ℕ, zero, suc, ◌+◌, ◌*◌, ◌%◌, ◌^◌, ◌<◌, ◌≤◌, Bool, true, false, ◌&&◌, eqb, List, [], ◌∷◌, ◌++◌, map, length, get_or, drop, set, replicate, sym, refl, ap, ◌∙◌, append_assoc, append-nil, arith, length-append, length-set, get_or-set_other, get_or-set_same, drop-drop, eq-eqb, ne_eqb}
+use Rattle.std.proofs.Common.{◌≡◌, ℕ, zero, suc, ◌+◌, ◌*◌, ◌%◌, ◌^◌, ◌<◌, ◌≤◌, Bool, true, false, ◌&&◌, eqb}
+use Rattle.std.proofs.Common.{List, [], ◌∷◌, ◌++◌, map, length, get_or, drop, set, replicate, sym, refl, ap}
+use Rattle.std.proofs.Common.{◌∙◌, append_assoc, append-nil, arith, length-append, length-set, get_or-set_other}
+use Rattle.std.proofs.Common.{get_or-set_same, drop-drop, eq-eqb, ne_eqb}
 use native.Mathlib.Decide.{dec_le}
 use Rattle.rules.specs.Bytes.{pick, count}
 use Rattle.rules.specs.Packets.{Packet, packets, whole, is_good}
@@ -37,7 +40,8 @@ tally-few cs id = count-few (λ (x : Cell). is_good x.condition && eqb x.identif
 pub tallied-none : (t : List ℕ) → Tallied t [] t
 tallied-none t = record { size = refl; counts = λ xs l h b. rw append-nil b }
 
-pub tallied-on : {t t' t'' : List ℕ} {cs ds : List Cell} → Tallied t cs t' → Tallied t' ds t'' → Tallied t (cs ++ ds) t''
+pub tallied-on : {t t' t'' : List ℕ} {cs ds : List Cell} → Tallied t cs t' → Tallied t' ds t'' →
+    Tallied t (cs ++ ds) t''
 tallied-on {t} {t'} {t''} {cs} {ds} a b =
     record {
       size = b.size ∙ a.size;

@@ -7,8 +7,8 @@ use Rattle.capture.proofs.run.Given as goal
 abbrev pub invariant-loop-i : goal.invariant-loop-i
 invariant-loop-i l =
     (l.i ≤ length l.piece)
-    × Goes l.initial.kept l.initial.table (record { walk = l.initial.w; tally = l.initial.t }) (take l.i l.piece) l.kept l.table
-    (record { walk = l.w; tally = l.t })
+    × Goes l.initial.kept l.initial.table (record { walk = l.initial.w; tally = l.initial.t }) (take l.i l.piece) l.kept
+    l.table (record { walk = l.w; tally = l.t })
 
 abbrev pub decreases-loop-i : goal.decreases-loop-i
 decreases-loop-i l = length l.piece - l.i

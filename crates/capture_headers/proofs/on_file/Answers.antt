@@ -63,7 +63,8 @@ returns-then-end-eq24 c =
           file-bad-link u _ _ t _ _ (rw e k.1) (placed u.room k.4 c.carry.ensures)
           (λ h. rw e (k.2 h)) (rw e k.3) (rw e c.if-end-eq24.true)
           (λ z. c.if-link_of-eq1.false (c.link_of.ensures ∙ z))
-          (ap (λ (x : Walk). x.status) c.refused-t-then-end-eq24.ensures) (ap (λ (x : Walk). x.place) c.refused-t-then-end-eq24.ensures);
+          (ap (λ (x : Walk). x.status) c.refused-t-then-end-eq24.ensures)
+          (ap (λ (x : Walk). x.place) c.refused-t-then-end-eq24.ensures);
     }
 
 pub returns : goal.returns

@@ -10,7 +10,10 @@ pub loop-i-preserved : goal.loop-i-preserved
 loop-i-preserved c =
     let l = c.loop-i in
     elim c.if-counts-best.branch [
-      | then-counts-best w ↦ (omega arith, rw w.best-is (most-new _ _ _ (omega arith) l.invariant.1 w.if-counts-best.true))
+      | then-counts-best w ↦ (
+        omega arith,
+        rw w.best-is (most-new _ _ _ (omega arith) l.invariant.1 w.if-counts-best.true),
+      )
       | else-counts-best w ↦ (omega arith, rw w.best-is (most-old _ _ _ l.invariant.1 w.if-counts-best.false))
     ]
 
