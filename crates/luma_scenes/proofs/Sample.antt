@@ -7,7 +7,7 @@ use mathlib.Core.List.{List, map}
 use mathlib.Core.Bool.{Bool, false}
 use lib.ListN.{length, get_or}
 use Rattle.rules.specs.declared.Opening.{Opening}
-use Rattle.rules.specs.Bytes.{pick, All, and, Bytes}
+use Rattle.rules.specs.Bytes.{pick, All, and, empty, Bytes}
 use Rattle.rules.specs.Refusals.{none}
 use Rattle.rules.specs.Opening.{opening_fault}
 use Rattle.rules.specs.Pictures.{picture_count}
@@ -30,6 +30,7 @@ map-bits w n rs few e f = record { size = e; bit = at }
     at i h = rw (f (i / 64) (omega arith)) (word-bit rs i)
 
 all-at : (most : ℕ) {xs : List ℕ} → All (AtMost most) xs → (i : ℕ) → i < length xs → get_or xs i 0 ≤ most
+all-at most empty i g = elim g [ ]
 all-at most (and h hs) zero g = h
 all-at most (and h hs) (suc i) g = all-at most hs i (omega arith)
 

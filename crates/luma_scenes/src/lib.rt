@@ -1,5 +1,7 @@
 // Scene starts and scene rows from the luma words: cut scores, changes, the map of repeats.
 // Every call is safe and ends on any contents of the words; a cut score or change is taken below 2^32.
+#![tactic(auto)]
+
 ghost use Rattle.std.specs.Prelude.{◌≡◌, ◌*◌, ◌%◌, ◌^◌, ◌<◌, ◌≤◌, get_or};
 ghost use Rattle.rules.specs.Scenes.{starts_scene};
 ghost use Rattle.luma_scenes.specs.Words.{bit_at};
