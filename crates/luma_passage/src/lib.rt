@@ -1,5 +1,7 @@
 // R-12, repeats in a passage: counted in the map of repeats that the luma words have, by the ones of its words, each
 // under a mask.
+#![tactic(auto)]
+
 ghost use Rattle.std.specs.Prelude.{◌≡◌, ◌+◌, ◌/◌, ◌%◌, ◌^◌, ◌≤◌, ◌<◌};
 ghost use Rattle.std.specs.Int.Count.{ones};
 ghost use Rattle.luma_passage.specs.Contract.{BetweenPost, AnswerPost};
