@@ -12,7 +12,8 @@ use Rattle.rules.specs.Bytes.{word32}
 use Rattle.rules.specs.Refusals.{Fault, none, fault, unless, ◌or_else◌}
 use Rattle.rules.specs.Editions.{is_edition}
 use Rattle.rules.specs.Seal.{no_room}
-use Rattle.rules.specs.Reading.{allowed, reading_fault, row_fault, unit_fault, scene_fault, header_of, unit_at, scene_at}
+use Rattle.rules.specs.Reading.{allowed, reading_fault, row_fault, unit_fault, scene_fault, header_of, unit_at}
+use Rattle.rules.specs.Reading.{scene_at}
 use Rattle.rules.specs.Reading.{or_header, or_unit, or_scene, header_answer, unit_answer, scene_answer}
 use Rattle.rules.specs.Sheet.{sheet_length, sheet_answer}
 use Rattle.rules.proofs.Laws.Listed.{Numbered, of_either, reading, unit, scene, room}

@@ -1,5 +1,7 @@
 // Reading and verifying a record and printing its sheet, as C functions: each hands its memory to the call of the
 // crate below and splits the answer into numbers.
+#![tactic(auto)]
+
 mod rows;
 
 ghost use Rattle.std.specs.Prelude.{◌≡◌};
