@@ -14,7 +14,8 @@ use Rattle.rules.specs.Bytes.{within}
 use Rattle.rules.specs.declared.Answer.TheVariants.{Done}
 use Rattle.rules.proofs.Laws.Lists.{inside, both as ands}
 use Rattle.rules.specs.EffectiveLoss.{zero64, Lists, both, unit_losses, is_probability}
-use Rattle.rules.specs.EffectiveLoss.{are_probabilities, effective_loss, good_lengths, loss_fault, loss_answer, filled}
+use Rattle.rules.specs.EffectiveLoss.{are_probabilities, effective_loss, good_lengths, loss_fault, loss_answer}
+use Rattle.rules.specs.EffectiveLoss.{filled}
 
 pub zero_is : of_bits binary64 0 ≡ zero64
 unfolding of_bits of_int

@@ -24,7 +24,8 @@ use Rattle.rules.specs.declared.Loss.TheVariants.{KeyFrame, Plain}
 use Rattle.rules.specs.EffectiveLoss.{zero64, one64, hundredth, half, KeyFrameAt, key_frames, Part, shares, Lists}
 use Rattle.rules.specs.EffectiveLoss.{both, added_at, loss_of, put, spread_loss, unit_loss, unit_losses}
 use Rattle.rules.specs.EffectiveLoss.{is_probability}
-use Rattle.rules.specs.EffectiveLoss.{are_probabilities, effective_loss, good_lengths, loss_fault, loss_answer, filled}
+use Rattle.rules.specs.EffectiveLoss.{are_probabilities, effective_loss, good_lengths, loss_fault, loss_answer}
+use Rattle.rules.specs.EffectiveLoss.{filled}
 use Rattle.rules.specs.EffectiveLoss.{Sound, AlwaysSound, CallsSound, WithoutLoss, reaching, ToTheEnd}
 use Rattle.loss.proofs.Steps.{lengths-are}
 
@@ -208,7 +209,8 @@ units-both i (n ∷ ns) (p ∷ ps) l b c (and f few) short h room most u =
     let later = (ands (is_probability p) (are_probabilities ps) h).1 in
     let one : Both (b + 750 * 2 ^ 32) (unit_loss i n p ps l) =
     unit-both i n p ps l b (b + 750 * 2 ^ 32) f later (omega arith) (omega arith) u in
-    units-both (suc i) ns ps (unit_loss i n p ps l) (b + 750 * 2 ^ 32) c few (omega arith) later (omega arith) most one
+    units-both (suc i) ns ps (unit_loss i n p ps l) (b + 750 * 2 ^ 32) c few (omega arith) later
+    (omega arith) most one
 
 zeros : (n : ℕ) → Under 0 (replicate n zero64)
 unfolding of_int

@@ -1,5 +1,7 @@
 -- What the functions within promise makes what the calls promise. No code.
-use Rattle.std.proofs.Common.{◌≡◌, ℕ, zero, suc, ◌+◌, ◌*◌, ◌<◌, ◌≤◌, Bool, true, false, List, ◌++◌, length, get_or, sym, refl, ap, ◌∙◌, mul-le-mul_right, add-mul, lt_of_not-le, arith, length-append, le-ltb}
+use Rattle.std.proofs.Common.{◌≡◌, ℕ, zero, suc, ◌+◌, ◌*◌, ◌<◌, ◌≤◌, Bool, true, false, List, ◌++◌, length, get_or}
+use Rattle.std.proofs.Common.{sym, refl, ap, ◌∙◌, mul-le-mul_right, add-mul, lt_of_not-le, arith, length-append}
+use Rattle.std.proofs.Common.{le-ltb}
 use native.Mathlib.Decide.{dec_le}
 use Rattle.rules.specs.declared.Opening.{Opening}
 use Rattle.rules.specs.declared.Answer.{Answer}

@@ -1,5 +1,6 @@
 -- What a seal needs of the luma side: every figure is the rule's. No code.
-use Rattle.std.proofs.Common.{◌≡◌, ℕ, ◌+◌, ◌*◌, ◌%◌, ◌^◌, ◌<◌, ◌≤◌, not, eqb, List, [], length, get_or, sym, ap, ◌∙◌, mod-eq_of_lt, mul-pos, zero-mul, arith, length-append, eq-eqb, ne_eqb}
+use Rattle.std.proofs.Common.{◌≡◌, ℕ, ◌+◌, ◌*◌, ◌%◌, ◌^◌, ◌<◌, ◌≤◌, not, eqb, List, [], length, get_or, sym, ap, ◌∙◌}
+use Rattle.std.proofs.Common.{mod-eq_of_lt, mul-pos, zero-mul, arith, length-append, eq-eqb, ne_eqb}
 use native.Mathlib.Nat.{mul-add-mod_self_right}
 use native.Mathlib.Decide.{ℕ_discrete}
 use Rattle.rules.specs.declared.Opening.{Opening}

@@ -1,5 +1,6 @@
 -- What each function of the luma side promises. What the arrays stand for is `Means`, in the crate `luma_state`.
-use Rattle.std.specs.Prelude.{◌≡◌, ℕ, ◌+◌, ◌-◌, ◌*◌, ◌%◌, ◌^◌, ◌<◌, ◌≤◌, Bool, true, false, List, [], ◌++◌, length, take, ◌==◌, slice_index}
+use Rattle.std.specs.Prelude.{◌≡◌, ℕ, ◌+◌, ◌-◌, ◌*◌, ◌%◌, ◌^◌, ◌<◌, ◌≤◌, Bool, true, false, List, [], ◌++◌, length}
+use Rattle.std.specs.Prelude.{take, ◌==◌, slice_index}
 use Rattle.rules.specs.declared.Opening.{Opening}
 use Rattle.rules.specs.declared.Answer.{Answer}
 use Rattle.rules.specs.Bytes.{pick, Bytes}
@@ -54,7 +55,12 @@ SummaryPost luma r = (sums bins picture : List ℕ) (o : Opening) (joined : List
 -- `totals_in`
 abbrev pub totals_in : List ℕ → Totals
 totals_in luma =
-    record { number = slice_index luma 0; place = slice_index luma 1; pictures = slice_index luma 3; fresh = slice_index luma 4 }
+    record {
+      number = slice_index luma 0;
+      place = slice_index luma 1;
+      pictures = slice_index luma 3;
+      fresh = slice_index luma 4;
+    }
 
 -- the place is not a picture's start
 abbrev pub inside_of : Progress → Bool
@@ -87,7 +93,8 @@ pub record Stepped (g : Grid) (s : Progress) (luma sums bins picture rest : List
 abbrev pub Ran : Grid → Progress → List ℕ → List ℕ → List ℕ → List ℕ → List ℕ → Progress → List ℕ → List ℕ → List ℕ →
     List ℕ → Type 0
 Ran g s luma sums bins picture piece r luma' sums' bins' picture' =
-    (o : Opening) (joined : List ℕ) → opening_fault o ≡ none → g ≡ grid_of o → Live g o s luma sums bins picture joined →
+    (o : Opening) (joined : List ℕ) → opening_fault o ≡ none → g ≡ grid_of o →
+    Live g o s luma sums bins picture joined →
     Holding o r luma' sums' bins' picture' (joined ++ piece)
 
 -- what a feed of n bytes answers

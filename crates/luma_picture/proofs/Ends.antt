@@ -1,5 +1,7 @@
 -- The end of a picture. No code.
-use Rattle.std.proofs.Common.{◌≡◌, ℕ, ◌+◌, ◌-◌, ◌*◌, ◌%◌, ◌^◌, ◌<◌, ◌≤◌, Bool, true, false, not, eqb, ◌⊎◌, List, [], ◌∷◌, ◌++◌, map, length, get_or, take, sym, refl, ap, ◌∙◌, append-nil, mul_comm, add-mul, zero-mul, arith, length-append, get_or-take}
+use Rattle.std.proofs.Common.{◌≡◌, ℕ, ◌+◌, ◌-◌, ◌*◌, ◌%◌, ◌^◌, ◌<◌, ◌≤◌, Bool, true, false, not, eqb, ◌⊎◌, List, []}
+use Rattle.std.proofs.Common.{◌∷◌, ◌++◌, map, length, get_or, take, sym, refl, ap, ◌∙◌, append-nil, mul_comm, add-mul}
+use Rattle.std.proofs.Common.{zero-mul, arith, length-append, get_or-take}
 use native.Mathlib.Nat.{one-le-mul}
 use native.Mathlib.Decide.{ℕ_discrete}
 use Rattle.rules.specs.declared.Opening.{Opening}

@@ -1,5 +1,7 @@
 -- What the words hold of one picture more. No code.
-use Rattle.std.proofs.Common.{◌≡◌, ℕ, ◌+◌, ◌-◌, ◌*◌, ◌/◌, ◌%◌, ◌^◌, ◌<◌, ◌≤◌, Bool, List, [], ◌∷◌, ◌++◌, map, length, get_or, drop, set, sym, ap, ◌∙◌, mul_comm, lt_of_not-le, arith, length-append, length-set, get_or-set_other, get_or-set_same, eq-eqb, ne_eqb}
+use Rattle.std.proofs.Common.{◌≡◌, ℕ, ◌+◌, ◌-◌, ◌*◌, ◌/◌, ◌%◌, ◌^◌, ◌<◌, ◌≤◌, Bool, List, [], ◌∷◌, ◌++◌, map, length}
+use Rattle.std.proofs.Common.{get_or, drop, set, sym, ap, ◌∙◌, mul_comm, lt_of_not-le, arith, length-append}
+use Rattle.std.proofs.Common.{length-set, get_or-set_other, get_or-set_same, eq-eqb, ne_eqb}
 use native.Mathlib.Decide.{dec_le, ℕ_discrete}
 use lib.ListN.{length-map}
 use Rattle.rules.specs.declared.Opening.{Opening}
@@ -14,7 +16,8 @@ use Rattle.luma_laws.proofs.Pictures.{bytes_take, bytes_drop, pixels-small, pixe
 use Rattle.luma_laws.proofs.Tables.{get_or-mapped, parts-length, part_at}
 use Rattle.luma_laws.proofs.Moves.{squared-most}
 use Rattle.luma_laws.specs.Past.{previous, next_change, next_repeat, next_score, map_word}
-use Rattle.luma_laws.proofs.Past.{get_or-last, get_or-other, map-append, score-other, score-next, next-some, next-none}
+use Rattle.luma_laws.proofs.Past.{get_or-last, get_or-other, map-append, score-other, score-next, next-some}
+use Rattle.luma_laws.proofs.Past.{next-none}
 use Rattle.luma_laws.proofs.Past.{repeats-more, changes-more, length-repeats, length-changes, word_more, word-other}
 use Rattle.luma_laws.proofs.Past.{word_small}
 use Rattle.luma_changes.specs.Changes.{spread_of}
@@ -179,7 +182,8 @@ module _ (o : Opening) (pxs : List (List ℕ)) (px : List ℕ) {luma : List ℕ}
       ∙ get_or-set_other luma (850 + i) k q 0 a
 
   -- the word that is kept stands apart from all others
-  apart : (k : ℕ) → (k ≡ 17 → ⊥) → get_or (set (set two (98 + i) score) 17 kept) k 0 ≡ get_or (set two (98 + i) score) k 0
+  apart : (k : ℕ) → (k ≡ 17 → ⊥) →
+      get_or (set (set two (98 + i) score) 17 kept) k 0 ≡ get_or (set two (98 + i) score) k 0
   apart k h = get_or-set_other (set two (98 + i) score) 17 k kept 0 h
 
   scalar : (k : ℕ) → k < 17 → get_or (set (set two (98 + i) score) 17 kept) k 0 ≡ get_or luma k 0
@@ -209,7 +213,8 @@ module _ (o : Opening) (pxs : List (List ℕ)) (px : List ℕ) {luma : List ℕ}
   change-word k h = rw (changes-more rounded pxs px) (go (ℕ_discrete k i))
     where
       go : Dec (k ≡ i) →
-          get_or (set two (98 + i) score) (850 + k) 0 ≡ get_or (changes rounded pxs ++ next_change rounded pxs px ∷ []) k 0
+          get_or (set two (98 + i) score) (850 + k) 0
+          ≡ get_or (changes rounded pxs ++ next_change rounded pxs px ∷ []) k 0
       go (yes e) =
           let n : k ≡ length (changes rounded pxs) = omega (arith, length-changes rounded pxs) in
           let here : 850 + k ≡ 850 + i = omega arith in

@@ -1,5 +1,6 @@
 -- What the end of a picture promises. What the arrays stand for is `Live`, in the crate `luma_state`.
-use Rattle.std.specs.Prelude.{◌≡◌, ℕ, ◌+◌, ◌-◌, ◌*◌, ◌/◌, ◌%◌, ◌^◌, ◌<◌, ◌≤◌, Bool, List, [], ◌==◌, ◌≢◌, slice_index, slice_set}
+use Rattle.std.specs.Prelude.{◌≡◌, ℕ, ◌+◌, ◌-◌, ◌*◌, ◌/◌, ◌%◌, ◌^◌, ◌<◌, ◌≤◌, Bool, List, [], ◌==◌, ◌≢◌, slice_index}
+use Rattle.std.specs.Prelude.{slice_set}
 use Rattle.rules.specs.Bytes.{pick}
 use Rattle.luma_changes.specs.Changes.{Changed}
 use Rattle.luma_cuts.specs.Counts.{two_at, least_at}
@@ -34,10 +35,12 @@ abbrev pub bit_of : ℕ → ℕ → ℕ
 bit_of i again = again * 2 ^ (i % 64) % 2 ^ 64
 
 abbrev pub with_bit : List ℕ → ℕ → ℕ → List ℕ
-with_bit w i again = slice_set w (repeats_at + i / 64) ((slice_index w (repeats_at + i / 64) + bit_of i again) % 2 ^ 64)
+with_bit w i again = slice_set w (repeats_at + i / 64)
+    ((slice_index w (repeats_at + i / 64) + bit_of i again) % 2 ^ 64)
 
 abbrev pub noted : List ℕ → ℕ → ℕ → ℕ → ℕ → ℕ → List ℕ
-noted w i q again score kept = slice_set (slice_set (with_bit (slice_set w (changes_at + i) q) i again) (98 + i) score) kept_at kept
+noted w i q again score kept =
+    slice_set (slice_set (with_bit (slice_set w (changes_at + i) q) i again) (98 + i) score) kept_at kept
 
 -- the start of the next picture
 abbrev pub next_picture : Progress → ℕ → Progress

@@ -1,6 +1,11 @@
 -- Whole rows of blocks of one byte: their bytes are the pixels, and the sums stand for nothing before them and behind
 -- them. No code.
-use Rattle.std.proofs.Common.{◌≡◌, ℕ, ◌+◌, ◌-◌, ◌*◌, ◌/◌, ◌%◌, ◌^◌, ◌<◌, ◌≤◌, List, [], ◌++◌, length, get_or, take, drop, set, sym, refl, ap, ◌∙◌, append_assoc, append-nil, add-zero, mul-le-mul_right, add-mul, mul-pos, one-mul, lt_of_not-le, div-add-mod', zero-mul, mul-one, arith, length-append, length-drop, length-set, length-take-le, get_or-drop, drop-cons, get_or-set_other, get_or-take, get_or-set_same, drop-drop, get_or-append-add, ext_get_or, take-add, below_more, eq-eqb, ne_eqb}
+use Rattle.std.proofs.Common.{◌≡◌, ℕ, ◌+◌, ◌-◌, ◌*◌, ◌/◌, ◌%◌, ◌^◌, ◌<◌, ◌≤◌, List, [], ◌++◌, length, get_or, take}
+use Rattle.std.proofs.Common.{drop, set, sym, refl, ap, ◌∙◌, append_assoc, append-nil, add-zero, mul-le-mul_right}
+use Rattle.std.proofs.Common.{add-mul, mul-pos, one-mul, lt_of_not-le, div-add-mod', zero-mul, mul-one, arith}
+use Rattle.std.proofs.Common.{length-append, length-drop, length-set, length-take-le, get_or-drop, drop-cons}
+use Rattle.std.proofs.Common.{get_or-set_other, get_or-take, get_or-set_same, drop-drop, get_or-append-add}
+use Rattle.std.proofs.Common.{ext_get_or, take-add, below_more, eq-eqb, ne_eqb}
 use native.Mathlib.Decide.{dec_le, ℕ_discrete}
 use lib.ListN.{get_or-append}
 use Rattle.rules.specs.declared.Opening.{Opening}

@@ -1,5 +1,9 @@
 -- A block row of the current picture, and its end. No code.
-use Rattle.std.proofs.Common.{◌≡◌, ℕ, suc, ◌+◌, ◌*◌, ◌/◌, ◌%◌, ◌^◌, ◌<◌, ◌≤◌, ◌⊎◌, List, [], ◌∷◌, ◌++◌, length, get_or, take, drop, set, sym, refl, ap, ◌∙◌, inl, inr, append_assoc, append-nil, add-zero, mul-le-mul_right, mod-lt, div-lt_iff_lt-mul, add-mul, mul-pos, lt_of_not-le, div-add-mod', arith, length-append, length-set, length-take-le, get_or-set_other, get_or-take, get_or-set_same, ext_get_or, take-add, below_more}
+use Rattle.std.proofs.Common.{◌≡◌, ℕ, suc, ◌+◌, ◌*◌, ◌/◌, ◌%◌, ◌^◌, ◌<◌, ◌≤◌, ◌⊎◌, List, [], ◌∷◌, ◌++◌, length}
+use Rattle.std.proofs.Common.{get_or, take, drop, set, sym, refl, ap, ◌∙◌, inl, inr, append_assoc, append-nil}
+use Rattle.std.proofs.Common.{add-zero, mul-le-mul_right, mod-lt, div-lt_iff_lt-mul, add-mul, mul-pos, lt_of_not-le}
+use Rattle.std.proofs.Common.{div-add-mod', arith, length-append, length-set, length-take-le, get_or-set_other}
+use Rattle.std.proofs.Common.{get_or-take, get_or-set_same, ext_get_or, take-add, below_more}
 use native.Mathlib.Decide.{dec_le}
 use Rattle.rules.specs.declared.Opening.{Opening}
 use Rattle.rules.specs.Bytes.{empty, and, Bytes}
@@ -60,7 +64,8 @@ at-passing h (passing a b c d) = record { ends = b; some = c; clear = d }
 
 -- ---- the pixels that are done
 
-same-below : {W n w b e : ℕ} {p m out : List ℕ} → 0 < w → b ≤ e → RowsOf W n w b p m → RowsOf W n w e p out → (q : ℕ) →
+same-below : {W n w b e : ℕ} {p m out : List ℕ} → 0 < w → b ≤ e → RowsOf W n w b p m → RowsOf W n w e p out →
+    (q : ℕ) →
     q < b * w → get_or out q 0 ≡ get_or m q 0
 same-below {W} {n} {w} {b} {e} {p} {m} {out} hw h x y q l =
     let r : q / w < b = (div-lt_iff_lt-mul hw).1 l in

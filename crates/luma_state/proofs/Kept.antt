@@ -135,7 +135,13 @@ stands-kept : {o : Opening} {s : Progress} {w z sums bins picture joined : List 
     Stands o s w sums bins picture joined → Stands o s z sums bins picture joined
 stands-kept n k (refused e h f) =
     refused e h (λ g.
-    record { there = (f g).there; pictures = (f g).pictures; fresh = (f g).fresh; words = words-kept n k (f g).words })
+    record {
+      there = (f g).there;
+      pictures = (f g).pictures;
+      fresh = (f g).fresh;
+      words =
+          words-kept n k (f g).words;
+    })
 stands-kept n k (live e sane v) = live e sane (live-kept n k v)
 
 -- bytes behind 750 pictures

@@ -1,8 +1,10 @@
 -- What the lent arrays of the luma side stand for. The luma words' scalars are `Progress` and the opening; the other
--- words hold what is known of the whole pictures. `sums` are the block sums of the current block row, `bins` a ring of
+-- words hold what is known of the whole pictures. `sums` are the block sums of the current block row, `bins` a ring
+-- of
 -- five pictures' histograms, `picture` the pixels: those of the block rows that are done are the current picture's,
 -- the others the previous one's.
-use Rattle.std.specs.Prelude.{ℕ, ◌+◌, ◌-◌, ◌*◌, ◌/◌, ◌%◌, ◌^◌, ◌≤◌, ◌<◌, ◌≡◌, List, [], ◌++◌, map, not, length, get_or, take}
+use Rattle.std.specs.Prelude.{ℕ, ◌+◌, ◌-◌, ◌*◌, ◌/◌, ◌%◌, ◌^◌, ◌≤◌, ◌<◌, ◌≡◌, List, [], ◌++◌, map, not, length}
+use Rattle.std.specs.Prelude.{get_or, take}
 use Rattle.rules.specs.declared.Opening.{Opening}
 use Rattle.rules.specs.Bytes.{smaller, count, parts, Bytes}
 use Rattle.rules.specs.Refusals.{none, fault, ◌or_else◌}
@@ -102,13 +104,15 @@ kept_of hs =
     smaller (difference (at hs (length hs - 4)) (at hs (length hs - 2)))
     (difference (at hs (length hs - 4)) (at hs (length hs - 1)))
 
--- what the words hold: the opening, and of the pictures every cut score that is settled and every change, 0 elsewhere,
+-- what the words hold: the opening, and of the pictures every cut score that is settled and every change, 0
+-- elsewhere,
 -- the map of repeats, and from the fourth picture on what the next cut score needs of the earlier ones
 pub record Words (o : Opening) (pxs : List (List ℕ)) (luma : List ℕ) : Type 0 where
   pub size : length luma ≡ word_count
   pub opening : opening_in luma ≡ o
   pub scores : (i : ℕ) → i < 750 → get_or luma (scores_at + i) 0 ≡ cut_score (map (histograms o) pxs) i
-  pub changes : (i : ℕ) → i < 750 → get_or luma (changes_at + i) 0 ≡ get_or (changes (rounds_to_nearest o.edition) pxs) i 0
+  pub changes : (i : ℕ) → i < 750 →
+      get_or luma (changes_at + i) 0 ≡ get_or (changes (rounds_to_nearest o.edition) pxs) i 0
   pub repeats : (j : ℕ) → j < 12 → get_or luma (repeats_at + j) 0 ≡ map_word (repeats pxs) j
   pub kept : 4 ≤ length pxs → get_or luma kept_at 0 ≡ kept_of (map (histograms o) pxs)
 

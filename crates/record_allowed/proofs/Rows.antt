@@ -61,7 +61,8 @@ module _ (r : List ℕ) (p pictures n j from : ℕ) (h : j < n) where
     pub scenes-more : (w : ℕ) → w ≡ word32 (take (length r - (p + 32 * j)) (drop (p + 32 * j) r)) 4 → b ≡ true →
         all ≡ allowed_scenes pictures (n - (j + 1)) (from + w) (drop (p + 32 * (j + 1)) r)
     scenes-more w k t =
-        let x : word32 (drop (p + 32 * j) r) 4 ≡ w = sym (k ∙ ap (λ (l : List ℕ). word32 l 4) (part (p + 32 * j) r)) in
+        let x : word32 (drop (p + 32 * j) r) 4 ≡ w =
+        sym (k ∙ ap (λ (l : List ℕ). word32 l 4) (part (p + 32 * j) r)) in
         let y : allowed_scene from (drop (p + 32 * j) r) ≡ true =
         sym (ap (allowed_scene from) (part (p + 32 * j) r)) ∙ (sym e ∙ t) in
         rest ∙ (scenes-step ∙ rw (x, y))

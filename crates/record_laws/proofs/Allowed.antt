@@ -1,4 +1,5 @@
--- What the reader allows: of a record that was made of figures, exactly figures that meet the conditions; and a record
+-- What the reader allows: of a record that was made of figures, exactly figures that meet the conditions; and a
+-- record
 -- that is allowed is the record of the figures read from it.
 use Prim.Native.Nat.{ℕ, zero, suc, ◌+◌, ◌*◌, ◌^◌, ◌≤◌, ◌<◌}
 use native.Mathlib.Omega.{arith}
@@ -145,7 +146,8 @@ allowed-scenes pictures from (s ∷ ss) t f =
 rows-place : (h : Header) (us : List UnitRow) (ss : List SceneRow) →
     drop 64 (record_bytes h us ss) ≡ end_to_end (map unit_bytes us) ++ end_to_end (map scene_bytes ss)
 rows-place h us ss = rw (parts-of h us ss)
-    (drop_at (header_bytes h) (end_to_end (map unit_bytes us) ++ end_to_end (map scene_bytes ss)) 64 (length-header h))
+    (drop_at (header_bytes h) (end_to_end (map unit_bytes us) ++ end_to_end (map scene_bytes ss)) 64
+    (length-header h))
 
 scenes-place : (h : Header) (us : List UnitRow) (ss : List SceneRow) →
     drop (scene_offset (length us)) (record_bytes h us ss) ≡ end_to_end (map scene_bytes ss)

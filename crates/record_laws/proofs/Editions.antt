@@ -17,7 +17,8 @@ use Rattle.rules.specs.Changes.{spread, root, nearest, change_from, change, chan
 use Rattle.rules.specs.Units.{Arrival, gap_loss, loss_between, set_apart, arrivals_after, arrivals, groups, units_of}
 use Rattle.capture_laws.proofs.Damage.{plain_unit, plain-units}
 
--- document 01's arrivals and units, as they stood before there were editions: every gap counts, and so does every cell
+-- document 01's arrivals and units, as they stood before there were editions: every gap counts, and so does every
+-- cell
 first_after : Packet → List Packet → List Arrival
 first_after q [] = []
 first_after q (p ∷ ps) =

@@ -21,9 +21,11 @@ use Rattle.rules.specs.Editions.{is_edition, heeds_splices, knows_damage}
 use Rattle.rules.specs.Opening.{opening_fault}
 use Rattle.rules.specs.Frames.{seconds, microseconds, stored_length, frame_time, frame_size, frames, behind_header}
 use Rattle.rules.specs.Packets.{Packet, packets_from, packets_of, packets, is_wanted, wanted_of}
-use Rattle.rules.specs.Units.{Arrival, set_apart, arrivals_after, arrivals, before_units, into_first, groups, cells_of}
+use Rattle.rules.specs.Units.{Arrival, set_apart, arrivals_after, arrivals, before_units, into_first, groups}
+use Rattle.rules.specs.Units.{cells_of}
 use Rattle.rules.specs.Units.{least_time, unit_of, units_of}
-use Rattle.rules.specs.Capture.{whole_frames, unfinished, all_frames, whole_wanted, units, showing, wrong_frame_header}
+use Rattle.rules.specs.Capture.{whole_frames, unfinished, all_frames, whole_wanted, units, showing}
+use Rattle.rules.specs.Capture.{wrong_frame_header}
 use Rattle.rules.specs.Capture.{wrong_frame, capture_fault, capture_inside}
 use Rattle.rules.specs.Pictures.{picture_count, luma_fault}
 use Rattle.rules.specs.Scenes.{span, is_true, starts, scene_of, scenes_at, scenes_of}
@@ -429,7 +431,8 @@ module _ (o : Opening) (luma : List ℕ) (bytes : Bytes luma) where
       let pxs = reduced o luma in
       let rounds = rounds_to_nearest o.edition in
       rw (sample-scores o luma) at
-      (scene-each (cut_scores (map (histograms o) pxs)) (repeats pxs) (changes rounds pxs) (sample-scored o luma bytes)
+      (scene-each (cut_scores (map (histograms o) pxs)) (repeats pxs) (changes rounds pxs)
+      (sample-scored o luma bytes)
       (sample-changed o luma bytes rounds h) o.time)
 
 pub scene-fits : {n : ℕ} {s : SceneRow} → n ≤ 750 → SceneRange n s → SceneFits s

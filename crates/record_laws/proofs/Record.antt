@@ -144,7 +144,12 @@ module _ {A : Type 0} (f : A → List ℕ) (wide : (x : A) → length (f x) ≡ 
   drop-rows [] t (suc j) h = absurd (omega arith)
   drop-rows (x ∷ xs) t (suc j) h =
       let e : 32 * suc j ≡ length (f x) + 32 * j = omega (arith, wide x) in
-      rw (e, append_assoc (f x) (end_to_end (map f xs)) t, drop-append-add (f x) (end_to_end (map f xs) ++ t) (32 * j))
+      rw (
+        e,
+        append_assoc (f x) (end_to_end (map f xs)) t,
+        drop-append-add (f x) (end_to_end (map f xs) ++ t)
+            (32 * j),
+      )
       (drop-rows xs t j (omega arith))
 
   pub row_at : (xs : List A) (t : List ℕ) (j : ℕ) (z : A) → j < length xs →
@@ -197,7 +202,8 @@ pub scene-place : (h : Header) (us : List UnitRow) (ss : List SceneRow) (j : ℕ
 unfolding record_bytes scene_offset
 scene-place h us ss j z k =
     let p = header_bytes h ++ end_to_end (map unit_bytes us) in
-    let n : length p ≡ 64 + 32 * length us = simp (length-append, length-header, length-rows unit_bytes length-unit) in
+    let n : length p ≡ 64 + 32 * length us =
+    simp (length-append, length-header, length-rows unit_bytes length-unit) in
     let e : 64 + 32 * length us + 32 * j ≡ length p + 32 * j = omega arith in
     rw (e, drop-append-add p (end_to_end (map scene_bytes ss)) (32 * j))
     (rw (append-nil (end_to_end (map scene_bytes ss)), append-nil (end_to_end (map scene_bytes (drop (suc j) ss))))

@@ -38,7 +38,8 @@ abbrev pub if_done : Answer → List (List ℕ) → List (List ℕ) → List (Li
 if_done (Done n) new old = new
 if_done (Refused k p) new old = old
 
--- what a call promises of a record r that has n rows, of which row j is `row j`: the lent rows before, the answer, the
+-- what a call promises of a record r that has n rows, of which row j is `row j`: the lent rows before, the answer,
+-- the
 -- lent rows after
 pub record RowsRead (r : List ℕ) (n : ℕ) (row : ℕ → List ℕ) (before : List (List ℕ)) (a : Answer)
     (after : List (List ℕ)) : Type 0 where

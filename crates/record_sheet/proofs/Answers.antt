@@ -16,7 +16,8 @@ use Rattle.rules.specs.Seal.{no_room, over}
 use Rattle.record_reader.proofs.Answers.{AcceptedAs}
 use Rattle.words.proofs.Behind.{over-written}
 use Rattle.record_lines.specs.Put.{Put, lines_to}
-use Rattle.rules.specs.Sheet.{header_line, unit_line, scene_line, blank_line, record_lines, line_count, pages_for, blanks_for}
+use Rattle.rules.specs.Sheet.{header_line, unit_line, scene_line, blank_line, record_lines, line_count, pages_for}
+use Rattle.rules.specs.Sheet.{blanks_for}
 use Rattle.rules.specs.Sheet.{sheet_lines, sheet_of, sheet_length, sheet_answer, sheet_buffer}
 use Rattle.rules.proofs.Laws.Lists.{end_to_end-append}
 use Rattle.record_lines.proofs.Puts.{join, same-put}

@@ -19,7 +19,8 @@ use Rattle.rules.specs.Reading.{header_of, unit_at, scene_at, reading_fault}
 use Rattle.rules.specs.Seal.{over, if_done}
 use Rattle.rules.specs.Digits.{decimal, hex_in}
 use Rattle.rules.specs.Sheet.{aligned, columns, header_fields, unit_fields, scene_fields, ending, line}
-use Rattle.rules.specs.Sheet.{header_line, unit_line, scene_line, blank_line, record_lines, line_count, pages_for, blanks_for}
+use Rattle.rules.specs.Sheet.{header_line, unit_line, scene_line, blank_line, record_lines, line_count, pages_for}
+use Rattle.rules.specs.Sheet.{blanks_for}
 use Rattle.rules.specs.Sheet.{sheet_lines, sheet_of, sheet_length, sheet_answer, sheet_buffer}
 use Rattle.rules.proofs.Laws.Lists.{length-table}
 use Rattle.record_laws.proofs.Allowed.{record-allowed, unit-fits, scene-fits}

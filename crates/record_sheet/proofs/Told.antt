@@ -139,7 +139,8 @@ zero_row r e k j h =
     rw k at (record-allowed r (fault-allowed r e)).units in
     rw (drop-drop (32 * j) 64 r) at (zero-unit (word32 r 8) (drop 64 r) u j h)
 
-module _ (r t : List ℕ) (a : EachByte r) (b : EachByte t) (x : reading_fault r ≡ none) (y : reading_fault t ≡ none) where
+module _ (r t : List ℕ) (a : EachByte r) (b : EachByte t) (x : reading_fault r ≡ none)
+    (y : reading_fault t ≡ none) where
   -- two accepted records with one sheet, of which both know damage or neither does, have the same printed figures
   pub same-sheet : knows_damage (word32 r 0) ≡ knows_damage (word32 t 0) → sheet_of r ≡ sheet_of t → SamePrinted r t
   unfolding sheet_of
@@ -161,7 +162,8 @@ module _ (r t : List ℕ) (a : EachByte r) (b : EachByte t) (x : reading_fault r
             ∙ ap (λ (q : Bool). unit_line q j (unit_at t j)) (sym k));
         scene_rows =
             λ j h.
-            same-scene j (scene_at r j) (scene_at t j) (omega (arith, here r a 16)) (scene-fits r a j) (scene-fits t b j)
+            same-scene j (scene_at r j) (scene_at t j) (omega (arith, here r a 16)) (scene-fits r a j)
+            (scene-fits t b j)
             (same-entry (word32 r 16) (word32 t 16) (scene_of r) (scene_of t) m s j h);
       }
 

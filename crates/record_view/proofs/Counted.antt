@@ -146,7 +146,8 @@ module _ (r : List ℕ) where
       own (reading_fault r) refl (λ (u s : ℕ). HeaderSeen r u s a → a ≡ header_answer r)
       (λ e h. either (fits r (word32 r 8) (word32 r 16)) e h) (λ h. rw (← none-fits r) at h)
     where
-      either : (b : Bool) → reading_fault r ≡ none → a ≡ pick b (of-header.Given (header_of r)) (header_answer r) → a ≡
+      either : (b : Bool) → reading_fault r ≡ none → a ≡ pick b (of-header.Given (header_of r)) (header_answer r) →
+          a ≡
           header_answer r
       either true e h = rw e h
       either false e h = h

@@ -93,7 +93,8 @@ pub all-passed : (w h d n : ℕ) → busiest_fault w h d n ≡ none → (good_si
 unfolding busiest_fault
 all-passed w h d n e = go (good_size w h) refl e
   where
-    go : (b : Bool) → good_size w h ≡ b → (unless b 1 or_else most_fault d n) ≡ none → (good_size w h ≡ true) × (n ≤ 750)
+    go : (b : Bool) → good_size w h ≡ b → (unless b 1 or_else most_fault d n) ≡ none → (good_size w h ≡ true)
+        × (n ≤ 750)
     go true g f = (g, (most-passed d n f).1)
     go false g f = let z : ◌≡◌ {A = ℕ} 0 1 = cc in absurd (omega arith)
 

@@ -13,7 +13,8 @@ use Rattle.rules.specs.Bytes.{pick, total, tally, table}
 use Rattle.rules.specs.Opening.{side, columns, lines}
 use Rattle.rules.specs.Pictures.{picture_size, rows, band, block_sum, pixel_in, pixel_line, pixels}
 use Rattle.rules.specs.Histograms.{tile_at, bin, in_tile_from, in_tile, in_bin, histogram, histograms}
-use Rattle.rules.specs.Cuts.{bins_apart, per_million, tile_difference, tile_differences, insert, sorted, fifth, difference}
+use Rattle.rules.specs.Cuts.{bins_apart, per_million, tile_difference, tile_differences, insert, sorted, fifth}
+use Rattle.rules.specs.Cuts.{difference}
 use Rattle.luma_laws.proofs.Blocks.{side-some, area-side, line-inside, column-inside}
 use Rattle.luma_laws.proofs.Tables.{same-table}
 use Rattle.luma_laws.proofs.Thirds.{tile-some}

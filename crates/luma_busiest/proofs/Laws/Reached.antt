@@ -143,7 +143,8 @@ module _ (o : Opening) (n : ℕ) (opened : opening_fault o ≡ none) (few : n �
 -- ---- its scenes
 
 -- each scene's first picture is its start
-firsts : (ss : List ℕ) (rs : List Bool) (qs is : List ℕ) → map (λ (s : SceneRow). s.first) (scenes_at ss rs qs is) ≡ is
+firsts : (ss : List ℕ) (rs : List Bool) (qs is : List ℕ) →
+    map (λ (s : SceneRow). s.first) (scenes_at ss rs qs is) ≡ is
 unfolding scenes_at scene_of
 firsts ss rs qs [] = refl
 firsts ss rs qs (i ∷ []) = refl

@@ -88,7 +88,8 @@ module _ (d m : ℕ) (ss : List ℕ) (m-least : LeastReaching d m) (three : 3 �
             (t < q → i ≡ suc t * m → starts_from d ss n i (suc i) ≡ table (q - suc t) (suc (suc t)) (λ s. s * m)) →
             (i < suc t * m → starts_from d ss n (t * m) (suc i) ≡ table (q - t) (suc t) (λ s. s * m)) →
             ((t < q → ⊥) →
-            pick (is_start d ss (t * m) i) (i ∷ starts_from d ss n i (suc i)) (starts_from d ss n (t * m) (suc i)) ≡ []) →
+            pick (is_start d ss (t * m) i) (i ∷ starts_from d ss n i (suc i)) (starts_from d ss n (t * m) (suc i))
+            ≡ []) →
             pick b (i ∷ starts_from d ss n i (suc i)) (starts_from d ss n (t * m) (suc i)) ≡
             table (q - t) (suc t) (λ s. s * m)
         go true s (yes l) past on behind =

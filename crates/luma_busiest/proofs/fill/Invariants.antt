@@ -7,7 +7,8 @@ use Rattle.luma_busiest.proofs.fill.Given as goal
 
 abbrev pub invariant-loop-i : goal.invariant-loop-i
 invariant-loop-i l =
-    (l.from ≤ l.i) × (l.i ≤ l.to) × (length l.piece ≡ length l.initial.piece) × (l.piece ≡ written l.from (replicate (l.i - l.from) l.value) l.initial.piece)
+    (l.from ≤ l.i) × (l.i ≤ l.to) × (length l.piece ≡ length l.initial.piece)
+    × (l.piece ≡ written l.from (replicate (l.i - l.from) l.value) l.initial.piece)
 
 abbrev pub decreases-loop-i : goal.decreases-loop-i
 decreases-loop-i l = l.to - l.i

@@ -10,7 +10,8 @@ use Rattle.record_lines.proofs.put_scenes.Given as goal
 abbrev pub invariant-loop-j : goal.invariant-loop-j
 invariant-loop-j l =
     (l.j ≤ l.scenes) × (length l.buffer ≡ length l.initial.buffer)
-    × Put l.at (101 * l.j) (lines_to l.j (λ (i : ℕ). scene_line i (scene_at (l.bytes) i))) l.initial.buffer l.end l.buffer
+    × Put l.at (101 * l.j)
+    (lines_to l.j (λ (i : ℕ). scene_line i (scene_at (l.bytes) i))) l.initial.buffer l.end l.buffer
 
 abbrev pub decreases-loop-j : goal.decreases-loop-j
 decreases-loop-j l = l.scenes - l.j

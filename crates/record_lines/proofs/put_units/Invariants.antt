@@ -10,7 +10,8 @@ use Rattle.record_lines.proofs.put_units.Given as goal
 abbrev pub invariant-loop-j : goal.invariant-loop-j
 invariant-loop-j l =
     (l.j ≤ l.units) × (length l.buffer ≡ length l.initial.buffer)
-    × Put l.at (101 * l.j) (lines_to l.j (λ (i : ℕ). unit_line l.known i (unit_at l.bytes i))) l.initial.buffer l.end l.buffer
+    × Put l.at (101 * l.j)
+    (lines_to l.j (λ (i : ℕ). unit_line l.known i (unit_at l.bytes i))) l.initial.buffer l.end l.buffer
 
 abbrev pub decreases-loop-j : goal.decreases-loop-j
 decreases-loop-j l = l.units - l.j
