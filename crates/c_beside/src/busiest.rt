@@ -9,8 +9,8 @@ use c_numbers::{number_of, value_of};
 // a refusal: 2, then 14 or 10.
 #[unsafe(no_mangle)]
 pub extern "C" fn carolsedge_most_scenes(time: u32, pictures: u32, value: &mut u64) -> u32
-    ensures value { result ≡ number_of (most_answer time pictures) }
-    ensures value_after { value.new ≡ value_of (most_answer time pictures) }
+    ensures numbered { result ≡ number_of (most_answer time pictures) }
+    ensures valued { value.new ≡ value_of (most_answer time pictures) }
 {
     let a = luma_busiest::most_scenes(time, pictures);
     *value = value_of(a);
@@ -29,10 +29,10 @@ pub extern "C" fn carolsedge_busiest_luma(
     piece: &mut [u8],
     value: &mut u64,
 ) -> u32
-    ensures value { result ≡ number_of (busiest_answer width height time pictures at (length piece.old)) }
-    ensures value_after { value.new ≡
+    ensures numbered { result ≡ number_of (busiest_answer width height time pictures at (length piece.old)) }
+    ensures valued { value.new ≡
         value_of (busiest_answer width height time pictures at (length piece.old)) }
-    ensures piece_after { piece.new ≡ busiest_piece width height time pictures at piece.old }
+    ensures bytes { piece.new ≡ busiest_piece width height time pictures at piece.old }
 {
     let a = luma_busiest::luma_piece(width, height, time, pictures, at, piece);
     *value = value_of(a);

@@ -16,11 +16,11 @@ pub extern "C" fn carolsedge_rtp_units(
     buffer: &mut [u8],
     value: &mut u64,
 ) -> u32
-    ensures value { result ≡ number_of (rtp_answer sequence.now
+    ensures numbered { result ≡ number_of (rtp_answer sequence.now
         (rtp_lists marker.now time.now size.now) (length buffer.old)) }
-    ensures value_after { value.new ≡ value_of (rtp_answer sequence.now
+    ensures valued { value.new ≡ value_of (rtp_answer sequence.now
         (rtp_lists marker.now time.now size.now) (length buffer.old)) }
-    ensures buffer_after { buffer.new ≡ rtp_buffer sequence.now
+    ensures rows { buffer.new ≡ rtp_buffer sequence.now
         (rtp_lists marker.now time.now size.now) buffer.old }
 {
     let a = rtp::read(sequence, marker, time, size, buffer);
