@@ -21,7 +21,7 @@ use Rattle.rules.specs.Seal.{over}
 use Rattle.rules.proofs.Laws.Lists.{end_to_end-append}
 use Rattle.record_laws.proofs.Record.{length-header, length-unit, length-scene, length-rows, parts-of}
 use Rattle.words.specs.Written.{written}
-use Rattle.words.proofs.Laws.{written-append, length-written}
+use Rattle.words.proofs.Laws.{written-append}
 use Rattle.capture_units.specs.Units.{units_of}
 use Rattle.capture_units.specs.State.{no_unit}
 use Rattle.capture_units.specs.Contract.{Row}

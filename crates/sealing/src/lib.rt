@@ -1,4 +1,6 @@
 // The record of what was fed, written into a lent buffer from the table of units and the luma words.
+#![tactic(auto)]
+
 ghost use Rattle.std.specs.Prelude.{◌≤◌, ◌<◌, length};
 ghost use Rattle.rules.specs.Record.{record_length, scene_offset};
 ghost use Rattle.sealing.specs.Contract.{UnitsWritten, ScenesWritten, RecordWritten};
