@@ -14,7 +14,7 @@ use Rattle.rules.specs.Opening.{opening_fault}
 use Rattle.rules.specs.Pictures.{picture_count}
 use Rattle.rules.specs.Seal.{reduced}
 use Rattle.rules.specs.Passage.{passage_fault, repeats_answer}
-use Rattle.rules.specs.Calls.{repeats, counted}
+use Rattle.rules.specs.Calls.{counted}
 use Rattle.rules.proofs.Laws.Listed.{listed_in}
 use Rattle.rules.proofs.Laws.Passage.{opening-first, repeats-numbered}
 use Rattle.figures.specs.Opening.{OpeningFault}

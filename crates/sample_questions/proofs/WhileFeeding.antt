@@ -23,7 +23,7 @@ use Rattle.rules.specs.Pictures.{luma_fault}
 use Rattle.rules.specs.Seal as rule
 use Rattle.rules.specs.Seal.{no_packet, no_picture}
 use Rattle.rules.specs.WhileFeeding.{index_fault, index_answer}
-use Rattle.rules.specs.Calls.{index, indexed}
+use Rattle.rules.specs.Calls.{indexed}
 use Rattle.rules.proofs.Laws.Listed.{listed_in}
 use Rattle.capture_laws.proofs.UnitsMore.{all_packets, groups-end_to_end, rows-packets}
 use Rattle.rules.proofs.Laws.WhileFeeding.{index-numbered}

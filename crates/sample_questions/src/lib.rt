@@ -1,5 +1,7 @@
 // Questions that are asked of a sample while it is fed, the index and the repeats of a passage, and what they have in
 // common with a seal. A question changes no state.
+#![tactic(auto)]
+
 ghost use Rattle.std.specs.Prelude.{◌%◌, ◌^◌, ◌≡◌};
 ghost use Rattle.rules.specs.Refusals.{listed};
 ghost use Rattle.index.specs.Counts.{IndexFrom};
