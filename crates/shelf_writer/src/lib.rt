@@ -1,4 +1,6 @@
 // Writing a shelf (R-13): records that lie end to end in one slice are read, and put behind a head of offsets.
+#![tactic(auto)]
+
 ghost use Rattle.std.specs.Prelude.{◌≡◌, ◌≤◌, ◌<◌, ◌^◌, length};
 ghost use Rattle.rules.specs.Bytes.{total};
 ghost use Rattle.rules.specs.Refusals.{answer};
