@@ -9,12 +9,12 @@ returns-in-Nothing c o kept before chunk st te v = take-nothing v (rw c.in-Nothi
 pub returns-in-Shown : goal.returns-in-Shown
 returns-in-Shown c o kept before chunk st te v =
     let x = rw c.in-Shown.is at te in
-    take-shown v _ c.check.ensures (rw c.in-Shown.is at c.requires).1 x.0 x.1
+    take-shown v _ (search) (rw c.in-Shown.is at c.requires).1 x.0 x.1
 
 pub returns-in-Whole : goal.returns-in-Whole
 returns-in-Whole c o kept before chunk st te v =
     let x = rw c.in-Whole.is at te in
-    take_whole v _ c.account.ensures x.0 x.1
+    take_whole v _ (search) x.0 x.1
 
 pub add_run-requires : goal.add_run-requires
 add_run-requires c = rw c.in-Cells.is at c.requires
