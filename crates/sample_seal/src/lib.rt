@@ -1,4 +1,6 @@
 // The seal of a sample: the refusals in their order, the header's figures, and the record through `sealing`.
+#![tactic(auto)]
+
 ghost use Rattle.std.specs.Prelude.{◌≡◌, not, T};
 ghost use Rattle.std.specs.Float.Ieee.{is_nan};
 ghost use Rattle.rules.specs.Index.{index_bits};

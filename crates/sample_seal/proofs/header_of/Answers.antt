@@ -1,0 +1,5 @@
+-- `header_of` meets its contract: the bits are taken where the header is made. Assumes nothing.
+use Rattle.sample_seal.proofs.header_of.Goals as goal
+
+pub returns : goal.returns
+returns c = rw c.index_bits.ensures
