@@ -3,7 +3,8 @@ use Prim.Native.Nat.{ℕ}
 use mathlib.Core.Path.{◌≡◌, refl}
 use mathlib.Core.List.{List}
 use Rattle.rules.specs.Refusals.{Fault, none, fault}
-use Rattle.rules.specs.Shelf.{record_count, shelf_lost, shelf_fault, part_fault, or_shelf, or_part, shelf_answer, part_answer}
+use Rattle.rules.specs.Shelf.{record_count, shelf_lost, shelf_fault, part_fault, or_shelf, or_part, shelf_answer}
+use Rattle.rules.specs.Shelf.{part_answer}
 use Rattle.rules.proofs.Laws.Listed.{Numbered, shelf, part}
 use Rattle.shelf_writer.specs.Writing.{shelf_length, writing_fault, writing_answer}
 use Rattle.shelf_writer.proofs.Theorems.{writing-numbered}

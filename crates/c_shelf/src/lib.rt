@@ -1,5 +1,7 @@
 // A shelf (document 02, R-13) as C functions: each hands its memory to the call of `shelf` or `shelf_writer` and
 // splits the answer into numbers.
+#![tactic(auto)]
+
 ghost use Rattle.c_shelf.specs.Contract.{ShelfOpened, PartTaken, ShelfWritten};
 
 use c_numbers::{listed_number, number_of, value_of};
