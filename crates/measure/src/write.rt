@@ -1,6 +1,6 @@
 // Writing the record: to RECORD.part, which is renamed to RECORD once it is whole. So RECORD is missing or whole
 // wherever a run is interrupted. What exists already under one of the two names is left alone.
-ghost use Rattle.std.specs.Prelude.{◌≡◌, ◌<◌, ◌++◌, ◌⊎◌, length, codes, string_bytes, IfOk, MatchOption};
+ghost use Rattle.std.specs.Prelude.{◌≡◌, ◌<◌, ◌≤◌, ◌++◌, ◌⊎◌, length, codes, string_bytes, IfOk, MatchOption};
 
 use std::alloc::{AllocError, Global};
 use std::fs::{self, OpenFile, OpenOptions};
@@ -156,7 +156,7 @@ fn write_part<R: Files + Eprint + AllocGlobal>(
 fn part_name(alloc: Global, name: &str) -> Result<Option<String>, AllocError>
     ensures { IfOk result (λ part. MatchOption part
         ((length name.now ≡ 0) ⊎ (4090 < length name.now))
-        (λ text. string_bytes text ≡ name.now ++ codes ".part")) }
+        (λ text. (0 < length name.now) × (length name.now ≤ 4090) × (string_bytes text ≡ name.now ++ codes ".part"))) }
 {
     if name.len() == 0 {
         return Ok(None);
