@@ -92,7 +92,8 @@ asked-last o capture luma (feed_capture piece ∷ cs) (p ∷ os) s q e =
 asked-last o capture luma (feed_luma piece ∷ cs) [] s q e =
     absurd (some-outcome o capture (luma ++ piece) cs q (sym (tail-eq_of_cons-eq e)))
 asked-last o capture luma (feed_luma piece ∷ cs) (p ∷ os) s q e =
-    rw (← append_assoc luma piece (luma_fed cs)) (asked-last o capture (luma ++ piece) cs os s q (tail-eq_of_cons-eq e))
+    rw (← append_assoc luma piece (luma_fed cs))
+    (asked-last o capture (luma ++ piece) cs os s q (tail-eq_of_cons-eq e))
 asked-last o capture luma (ask p ∷ cs) [] s q e =
     absurd (some-outcome o capture luma cs q (sym (tail-eq_of_cons-eq e)))
 asked-last o capture luma (ask p ∷ cs) (x ∷ os) s q e = asked-last o capture luma cs os s q (tail-eq_of_cons-eq e)

@@ -1,6 +1,8 @@
 // A stream sample: opened, fed on two sides, sealed. Its state is memory that the caller lends, in arrays of fixed
 // sizes: the capture side's walk words, collected bytes, numbers and table of units, and the luma side's words, block
 // sums, bins and picture. Every call is safe and ends on any contents of them, and expects no checking by its caller.
+#![tactic(auto)]
+
 ghost use Rattle.capture.specs.State.{arrays_of};
 ghost use Rattle.sample_questions.specs.State.{sample_of};
 ghost use Rattle.capture.specs.Contract as side-capture;
