@@ -27,7 +27,8 @@ loop-end-preserved g c =
     let from = c.loop-end.end in
     let room = length c.loop-end.input - from in
     let within = c.loop-end.invariant.in_range in
-    let part = slice_range-put_mid from room c.in-Ok.n c.loop-end.input c.read.new.buf within c.in-Ok.ensures.bound.0 in
+    let part =
+    slice_range-put_mid from room c.in-Ok.n c.loop-end.input c.read.new.buf within c.in-Ok.ensures.bound.0 in
     let joined = take_split from (from + c.in-Ok.n) c.loop-end.input
     (put_mid from room c.loop-end.input c.read.new.buf) (omega arith)
     (take-put_mid_below _ _ _ _ _ (le_refl _) within) in

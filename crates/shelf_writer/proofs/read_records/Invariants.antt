@@ -11,7 +11,8 @@ use Rattle.shelf_writer.proofs.read_records.Given as goal
 abbrev pub invariant-loop-j : goal.invariant-loop-j
 invariant-loop-j l =
     (l.j ≤ length l.lengths) × (l.start ≡ total (take l.j l.lengths))
-    × (first_refused 0 (cut_up l.records l.lengths) ≡ first_refused l.j (cut_up (drop l.start l.records) (drop l.j l.lengths)))
+    × (first_refused 0 (cut_up l.records l.lengths)
+    ≡ first_refused l.j (cut_up (drop l.start l.records) (drop l.j l.lengths)))
 
 abbrev pub decreases-loop-j : goal.decreases-loop-j
 decreases-loop-j l = length l.lengths - l.j

@@ -41,7 +41,8 @@ returns-then-buffer-size c =
     let a = c.args in let s = a.records.now in
     let ls = a.lengths.now in let b = a.buffer.now in
     let is = size_is s ls (good s ls (sym c.good_lengths.ensures ∙ c.if-not-good_lengths.false)).1 in
-    let e = no_room_lem s ls _ c.read_records.ensures (sym c.good_lengths.ensures ∙ c.if-not-good_lengths.false) (length b) _ c.in-Done.is _ is
+    let passed = sym c.good_lengths.ensures ∙ c.if-not-good_lengths.false in
+    let e = no_room_lem s ls _ c.read_records.ensures passed (length b) _ c.in-Done.is _ is
     c.if-buffer-size.true in
     record { value = e; buffer_after = stands s ls b _ _ e }
 
@@ -58,12 +59,14 @@ returns-else-buffer-size c =
     let a = c.args in
     let s = a.records.now in let ls = a.lengths.now in let b = a.buffer.now in
     let is = size_is s ls (good s ls (sym c.good_lengths.ensures ∙ c.if-not-good_lengths.false)).1 in
-    let e = wrote s ls _ c.read_records.ensures (sym c.good_lengths.ensures ∙ c.if-not-good_lengths.false) (length b) _ c.in-Done.is _ is
+    let passed = sym c.good_lengths.ensures ∙ c.if-not-good_lengths.false in
+    let e = wrote s ls _ c.read_records.ensures passed (length b) _ c.in-Done.is _ is
     c.if-buffer-size.false in
     record { value = e; buffer_after = stored s ls b _ e c.put_shelf.ensures }
 
 pub returns-in-Refused : goal.returns-in-Refused
 returns-in-Refused c =
     let a = c.args in let s = a.records.now in let ls = a.lengths.now in let b = a.buffer.now in
-    let e = record-refused s ls _ c.read_records.ensures (sym c.good_lengths.ensures ∙ c.if-not-good_lengths.false) (length b) _ _ c.in-Refused.is in
+    let passed = sym c.good_lengths.ensures ∙ c.if-not-good_lengths.false in
+    let e = record-refused s ls _ c.read_records.ensures passed (length b) _ _ c.in-Refused.is in
     record { value = e; buffer_after = stands s ls b _ _ e }
