@@ -79,7 +79,8 @@ module _ (d : ℕ) (ss : List ℕ) where
 
     -- a scene ends before the next start, and the others follow it
     pub scenes-next : (b : ℕ) → b < length ss →
-        scenes_from d ss rs qs b ≡ scene_of ss rs qs b (next_start d ss b) ∷ scenes_from d ss rs qs (next_start d ss b)
+        scenes_from d ss rs qs b
+        ≡ scene_of ss rs qs b (next_start d ss b) ∷ scenes_from d ss rs qs (next_start d ss b)
     unfolding next_start scenes_at
     scenes-next b h = scenes-here b h ∙ go (starts_after d ss b) (after-follow b)
       where
@@ -90,7 +91,8 @@ module _ (d : ℕ) (ss : List ℕ) where
         go is (another j k l e) = rw (e, scenes-here j l)
 
 -- from 0 on they are the scenes
-pub scenes-first : (d : ℕ) (ss : List ℕ) (rs : List Bool) (qs : List ℕ) → scenes_of d ss rs qs ≡ scenes_from d ss rs qs 0
+pub scenes-first : (d : ℕ) (ss : List ℕ) (rs : List Bool) (qs : List ℕ) →
+    scenes_of d ss rs qs ≡ scenes_from d ss rs qs 0
 unfolding scenes_of starts scenes_at scenes_from starts_after
 scenes-first d [] rs qs = refl
 scenes-first d (s ∷ ss) rs qs =

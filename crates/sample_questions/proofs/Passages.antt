@@ -62,7 +62,8 @@ twenty-six n a b k p e = go (leb a b && leb b n) e
     go true x = absurd (let z : ◌≡◌ {A = ℕ} 0 1 = cc in omega arith)
     go false x = cc
 
-opening-some : (o : Opening) (number : ℕ) → OpeningFault o number → (number ≡ 0 → ⊥) → opening_fault o ≡ fault number 0
+opening-some : (o : Opening) (number : ℕ) → OpeningFault o number → (number ≡ 0 → ⊥) →
+    opening_fault o ≡ fault number 0
 opening-some o zero w h = absurd (h refl)
 opening-some o (suc k) w h = w.shown
 
@@ -73,7 +74,8 @@ opening-none o (suc k) w h = absurd (omega arith)
 module _ (luma : List ℕ) (a b : ℕ) (r : Answer) (p : Opening) (pe : p ≡ opening_in luma) (number : ℕ)
     (w : OpeningFault p number) where
   -- the opening in the words is the one that a state stands for
-  opened : (st : State) (o : Opening) (fed_capture fed_luma : List ℕ) → st.luma ≡ luma → Means st o fed_capture fed_luma →
+  opened : (st : State) (o : Opening) (fed_capture fed_luma : List ℕ) → st.luma ≡ luma →
+      Means st o fed_capture fed_luma →
       OpeningFault o number
   opened st o fc fl x m =
       subst (λ (q : Opening). OpeningFault q number) (pe ∙ ap opening_in (sym x) ∙ m.drawn.opening) w

@@ -14,7 +14,8 @@ use Rattle.rules.specs.Refusals.{none, fault, ◌or_else◌, listed}
 use Rattle.rules.specs.Opening.{opening_fault}
 use Rattle.rules.specs.Capture.{units, capture_fault}
 use Rattle.rules.specs.Pictures.{picture_count, luma_fault}
-use Rattle.rules.specs.Seal.{capture_unfinished, no_packet, luma_unfinished, no_picture, no_room, seal_fault, seal_answer}
+use Rattle.rules.specs.Seal.{capture_unfinished, no_packet, luma_unfinished, no_picture, no_room, seal_fault}
+use Rattle.rules.specs.Seal.{seal_answer}
 use Rattle.rules.specs.Seal.{sealed_length, sealed_buffer}
 use Rattle.rules.specs.Calls.{seal, sealed_into, answer_to}
 use Rattle.rules.proofs.Laws.Listed.{listed_in, seal as in-the-table}
@@ -134,7 +135,8 @@ refused-leaves before a k p e =
     number : (k p l q : ℕ) → fault k p ≡ fault l q → k ≡ l
     number k p l q e = cc
 
-pub done-leaves : (before after : List ℕ) (a : Answer) (n : ℕ) → a ≡ Done n → Leaves (seal before) (sealed_into a after)
+pub done-leaves : (before after : List ℕ) (a : Answer) (n : ℕ) → a ≡ Done n →
+    Leaves (seal before) (sealed_into a after)
 done-leaves before after a n e =
     record { kept = λ l q f. absurd (never l q (rw e at f)); listed = λ l q f. absurd (never l q (rw e at f)) }
   where
@@ -168,7 +170,8 @@ module _ (w : Words) (before : List ℕ) (c : Summary) (l : of-luma.Summary)
   pub post-capture : a ≡ Refused (listed c.number) c.place → (c.number ≡ 0 → ⊥) → SealPost w before a before
   post-capture e h =
       refuse-post w before a _ _ e
-      (λ st o fc fl x m. of-capture st o fc fl m c l (cp-of (words_of st) x) (lp-of (words_of st) x) (length before) h)
+      (λ st o fc fl x m. of-capture st o fc fl m c l (cp-of (words_of st) x) (lp-of (words_of st) x)
+      (length before) h)
 
   module _ (h₁ : c.number ≡ 0) where
     pub post-luma : a ≡ Refused (listed l.status) l.place → (l.status ≡ 0 → ⊥) → SealPost w before a before
@@ -195,14 +198,16 @@ module _ (w : Words) (before : List ℕ) (c : Summary) (l : of-luma.Summary)
           pub post-inside-luma : a ≡ Refused 13 l.fed → l.inside ≡ true → SealPost w before a before
           post-inside-luma e h =
               refuse-post w before a _ _ e
-              (λ st o fc fl x m. inside-luma st o fc fl m c l (cp-of (words_of st) x) (lp-of (words_of st) x) h₁ h₂ h₃ h₄
+              (λ st o fc fl x m. inside-luma st o fc fl m c l (cp-of (words_of st) x)
+              (lp-of (words_of st) x) h₁ h₂ h₃ h₄
               (length before) h)
 
           module _ (h₅ : l.inside ≡ false) where
             pub post-no-picture : a ≡ Refused 14 0 → l.pictures ≡ 0 → SealPost w before a before
             post-no-picture e h =
                 refuse-post w before a _ _ e
-                (λ st o fc fl x m. no-picture st o fc fl m c l (cp-of (words_of st) x) (lp-of (words_of st) x) h₁ h₂ h₃
+                (λ st o fc fl x m. no-picture st o fc fl m c l (cp-of (words_of st) x)
+                (lp-of (words_of st) x) h₁ h₂ h₃
                 h₄ h₅ (length before) h)
 
             pub post-written : (after : List ℕ) (o : Opening) → o ≡ opening_in w.luma → (l.pictures ≡ 0 → ⊥) →

@@ -73,7 +73,8 @@ module _ (table luma : List ℕ) (o : Opening) (fed_capture fed_luma : List ℕ)
       (sample-holds (rounds_to_nearest o.edition) o fed_luma luma r.known.opened r.known.bytes
       w.scores w.changes w.repeats)
 
-  scenes-are : scenes o fed_luma ≡ scenes_of o.time (scores_of o fed_luma) (repeats_of o fed_luma) (changes_of o fed_luma)
+  scenes-are : scenes o fed_luma
+      ≡ scenes_of o.time (scores_of o fed_luma) (repeats_of o fed_luma) (changes_of o fed_luma)
   unfolding scenes scenes_in
   scenes-are = refl
 
@@ -122,13 +123,15 @@ module _ (table luma : List ℕ) (o : Opening) (fed_capture fed_luma : List ℕ)
         after ≡ over (record_bytes (header o fed_capture fed_luma) (units o fed_capture) (scenes o fed_luma)) before
     unfolding header
     record_is before after w =
-        let there = subst (λ (x : ℕ). Holds luma x (scores_of o fed_luma) (repeats_of o fed_luma) (changes_of o fed_luma))
+        let there = subst (λ (x : ℕ). Holds luma x (scores_of o fed_luma) (repeats_of o fed_luma)
+        (changes_of o fed_luma))
         pictures-are holds in
         let hd = header o fed_capture fed_luma in
         w r.figures.beside cells (scores_of o fed_luma) (repeats_of o fed_luma) (changes_of o fed_luma)
         r.figures.table r.figures.few there opened-well (ap length units-are) (ap length scenes-are)
         ∙ ap (λ (us : List UnitRow). over (record_bytes hd us
-        (scenes_of o.time (scores_of o fed_luma) (repeats_of o fed_luma) (changes_of o fed_luma))) before) (sym units-are)
+        (scenes_of o.time (scores_of o fed_luma) (repeats_of o fed_luma) (changes_of o fed_luma))) before)
+        (sym units-are)
         ∙ ap (λ (xs : List SceneRow). over (record_bytes hd (units o fed_capture) xs) before) (sym scenes-are)
 
     pub written-post : (before after : List ℕ) (h : Header) (i : Index) (a : Answer) → IndexIn c l i →
