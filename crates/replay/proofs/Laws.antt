@@ -164,5 +164,6 @@ pub kept-promise : (script out out' : List ℕ) (b : Bool) → b ≡ leb (room_f
 kept-promise script out out' b e f w =
     record { answer = sym f ∙ e; buffer = w (leb-true (room_for script) (length out) (sym e ∙ f)) }
 
-pub answer-fits : (script out : List ℕ) (b : Bool) → b ≡ leb (room_for script) (length out) → b ≡ true → 17 ≤ length out
+pub answer-fits : (script out : List ℕ) (b : Bool) → b ≡ leb (room_for script) (length out) → b ≡ true →
+    17 ≤ length out
 answer-fits script out b e f = let h = leb-true (room_for script) (length out) (sym e ∙ f) in omega arith

@@ -48,7 +48,8 @@ sealed-law v out filled buffer out' a m h f z p w lo hi =
     record {
       reply = sealed_into a buffer;
       post = rw same at p;
-      wrote = w ∙ ap (λ (l : List ℕ). code a ++ l) (part-back (put_mid 17 (length out - 17) out filled) buffer m lo hi);
+      wrote = w ∙ ap (λ (l : List ℕ). code a ++ l)
+          (part-back (put_mid 17 (length out - 17) out filled) buffer m lo hi);
     }
 
 -- ---- feeds and questions

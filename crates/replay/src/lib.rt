@@ -1,5 +1,7 @@
 // Runs a whole list of calls that a script of bytes holds (`replay_script`), all after one opening, and writes what
 // they come to (`replay_outcomes`).
+#![tactic(auto)]
+
 ghost use Rattle.std.specs.Prelude.{◌≡◌, ◌-◌, ◌≤◌, length, replicate};
 ghost use Rattle.rules.specs.Calls.{seal};
 ghost use Rattle.capture.specs.State.{arrays_of};

@@ -1,0 +1,14 @@
+-- The index is asked for, and its answer's 25 bytes are all of out.
+use Rattle.rules.specs.Calls.{indexed}
+use Rattle.replay.proofs.call_index.Goals as goal
+
+pub put_index-requires : goal.put_index-requires
+put_index-requires c = (c.requires, c.index-a.ensures.given)
+
+pub returns : goal.returns
+returns c walk kept table =
+    record {
+      reply = indexed c.index-a.result;
+      post = c.index-a.ensures.asked walk kept table;
+      wrote = c.put_index.ensures;
+    }
