@@ -29,7 +29,7 @@ use Rattle.record_laws.proofs.Record.{Figures, Each, header_read}
 use Rattle.record_laws.proofs.Ranges.{Sealable, sealable, UnitRange, unit-ranges, figures-fit, between, capture-most}
 use Rattle.record_laws.proofs.Sealed.{sealed-read}
 use Rattle.index.specs.Counts.{Counts}
-use Rattle.index.proofs.Bound.{at_least_one, at-most-five, no_nan}
+use Rattle.index.proofs.Bound.{at_least_one, at-most-five, exact-counts, no_nan}
 use Rattle.sample.proofs.ReadBack.{sealed-well, in-front, sealed-last}
 use Rattle.reader_facts.specs.Facts.{unit_words, index_in}
 use Rattle.reader_facts.specs.Facts.{AllCounted, OneToFive, SameUnits, SealedBy}
@@ -104,9 +104,9 @@ module _ (o : Opening) (capture luma : List ℕ) (w : Sealable o capture luma) (
   one-to-five : OneToFive r
   one-to-five =
       record {
-        number = rw index_back (no_nan counts).value;
-        least = rw index_back (at_least_one counts);
-        most = rw index_back (at-most-five counts);
+        number = rw index_back (no_nan (exact-counts counts)).value;
+        least = rw index_back (at_least_one (exact-counts counts));
+        most = rw index_back (at-most-five (exact-counts counts));
       }
 
 -- the unit rows' bytes go by the capture alone
