@@ -70,7 +70,8 @@ module _ (o : Opening) (capture luma : List ℕ) (w : Sealable o capture luma) (
   some-packet [] h k = absurd (omega arith)
   some-packet (u ∷ us) h k = let g = h.0.some in omega arith
 
-  counts : Counts (unrepeated o luma) (picture_count o luma) (all_packets (units o capture)) (all_lost (units o capture))
+  counts : Counts (unrepeated o luma) (picture_count o luma) (all_packets (units o capture))
+      (all_lost (units o capture))
   unfolding unrepeated units
   counts =
       let ps = whole_wanted o capture in

@@ -75,7 +75,8 @@ module _ (h : Header) (us : List UnitRow) (ss : List SceneRow) (f : Figures h us
       rw (
         units-told,
         parts-of h us ss,
-        drop_at (header_bytes h) (end_to_end (map unit_bytes us) ++ end_to_end (map scene_bytes ss)) 64 (length-header h),
+        drop_at (header_bytes h) (end_to_end (map unit_bytes us) ++ end_to_end (map scene_bytes ss)) 64
+            (length-header h),
         ← length-rows unit_bytes length-unit us,
       )
       (take-front (end_to_end (map unit_bytes us)) (end_to_end (map scene_bytes ss)))

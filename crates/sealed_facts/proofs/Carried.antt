@@ -1,4 +1,5 @@
--- What a capture holds: a frame carries at most 348 packets, since its U is a 16-bit number, and every frame and every
+-- What a capture holds: a frame carries at most 348 packets, since its U is a 16-bit number, and every frame and
+-- every
 -- packet of it has its bytes.
 use Prim.Native.Nat.{ℕ, zero, suc, ◌+◌, ◌-◌, ◌*◌, ◌/◌, ◌%◌, ◌≤◌, ◌<◌}
 use native.Mathlib.Omega.{arith}
@@ -96,9 +97,11 @@ frames-held =
         Held (frames (drop (frame_size x) x)) (length (drop (frame_size x) x)) →
         Held (take (frame_size x) x ∷ frames (drop (frame_size x) x)) (length x)
     one x h ih =
-        let n : frame_size x + length (drop (frame_size x) x) ≡ length x = omega (arith, length-drop (frame_size x) x) in
+        let n : frame_size x + length (drop (frame_size x) x) ≡ length x =
+        omega (arith, length-drop (frame_size x) x) in
         rw (← n)
-        (held_more (take (frame_size x) x) (frames (drop (frame_size x) x)) (length (drop (frame_size x) x)) (frame_size x)
+        (held_more (take (frame_size x) x) (frames (drop (frame_size x) x)) (length (drop (frame_size x) x))
+        (frame_size x)
         (own-size x h) ih)
 
 -- the capture's header is there

@@ -28,7 +28,8 @@ use Rattle.record_verify.specs.declared.Finding.TheVariants.{Holds}
 use Rattle.record_verify.specs.Totals.{repeated_total, packets_total, lost_total, damaged_total, unrepeated_total}
 use Rattle.record_verify.specs.Totals.{index_of_rows}
 use Rattle.record_verify.specs.Marks.{Check, counted_in, header_checks, unit_checks, repeat_checks, sum_checks}
-use Rattle.record_verify.specs.Marks.{start_checks, length_checks, scene_checks, units_checks, scenes_checks, index_checks}
+use Rattle.record_verify.specs.Marks.{start_checks, length_checks, scene_checks, units_checks, scenes_checks}
+use Rattle.record_verify.specs.Marks.{index_checks}
 use Rattle.record_verify.specs.Marks.{checks, first_failing, verdict_of}
 use Rattle.reader_facts.specs.Facts.{carrying, carried_cells}
 use Rattle.reader_facts.proofs.Cells.{records-counted, cells-counted}
@@ -139,7 +140,8 @@ module _ (o : Opening) (capture luma : List ℕ) (w : Sealable o capture luma) (
 
   carrying-are : word32 r 44 - word32 r 48 ≡ length (carrying capture)
   carrying-are =
-      let f : word32 r 44 ≡ frame_count capture = unfold header_of header in ap (λ (x : Header). x.frames) header_is in
+      let f : word32 r 44 ≡ frame_count capture = unfold header_of header in
+      ap (λ (x : Header). x.frames) header_is in
       let s : word32 r 48 ≡ skipped_count capture =
       unfold header_of header in ap (λ (x : Header). x.skipped) header_is in
       omega (arith, records-counted capture)

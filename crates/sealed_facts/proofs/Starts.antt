@@ -8,7 +8,8 @@ use mathlib.Core.Bool.{Bool, true, false, ◌&&◌, false≢true}
 use lib.ListN.{length, get_or, length-map}
 use lib.Dec.{leb, ltb}
 use Rattle.rules.specs.Bytes.{pick, smaller, total, table, All, and, empty}
-use Rattle.rules.specs.Cuts.{bins_apart, per_million, tile_difference, tile_differences, insert, sorted, fifth, difference}
+use Rattle.rules.specs.Cuts.{bins_apart, per_million, tile_difference, tile_differences, insert, sorted, fifth}
+use Rattle.rules.specs.Cuts.{difference}
 use Rattle.rules.specs.Cuts.{least_of_six, at, cut_score, cut_scores}
 use Rattle.rules.specs.Changes.{repeats_after, repeats}
 use Rattle.rules.specs.Scenes.{is_start, starts_from}

@@ -32,7 +32,8 @@ unit_row-row-requires c = row_inside c.args.bytes.now c.requires.0 _ (omega arit
 pub overflow_add-lost : goal.overflow_add-lost
 overflow_add-lost c =
     let r = c.args.bytes.now in
-    let more = added r c.args.units c.loop-i.i c.loop-i.lost _ c.requires.0 c.requires.1 c.loop-i.invariant.1 c.loop-i-test.true
+    let more = added r c.args.units c.loop-i.i c.loop-i.lost _ c.requires.0 c.requires.1
+    c.loop-i.invariant.1 c.loop-i-test.true
     c.unit_row-row.ensures in
     let most = record-fits r (λ k. (c.type_inv.bytes k).fits) in
     record { fits = omega arith }
