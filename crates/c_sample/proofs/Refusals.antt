@@ -42,7 +42,8 @@ luma-number o l n =
     of-answer (opening_fault o or_else luma_fault o l) n
     (of_either (opening_fault o) (luma_fault o l) (opening o) (luma o l))
 
-pub seal-number : (o : Opening) (c l : List ℕ) (n : ℕ) → number_of (seal_answer o c l n) ≡ number_in (seal_fault o c l n)
+pub seal-number : (o : Opening) (c l : List ℕ) (n : ℕ) →
+    number_of (seal_answer o c l n) ≡ number_in (seal_fault o c l n)
 unfolding seal_answer
 seal-number o c l n = of-answer (seal_fault o c l n) (sealed_length o c l) (seal o c l n)
 

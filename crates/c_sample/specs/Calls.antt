@@ -24,7 +24,8 @@ pub record Left : Type 0 where
 
 abbrev pub left_of : Outcome → Left
 left_of (fed a) = record { number = number_of a; value = value_of a; lent = []; three = [] }
-left_of (replied r) = record { number = reply_number r; value = reply_value r; lent = lent_after r; three = three_of r }
+left_of (replied r) =
+    record { number = reply_number r; value = reply_value r; lent = lent_after r; three = three_of r }
 
 -- one call of a C function on a state, which leaves another: no more and no less than the function's own contract
 pub data Made : State → Call → Left → State → Type 0 where

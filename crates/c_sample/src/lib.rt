@@ -1,5 +1,7 @@
 // A sample's calls as C functions. A slice goes as a pointer and a length, an array as a pointer. Each function is
 // thin: it hands its memory to the call of the crate below and splits the answer into numbers (`c_numbers`).
+#![tactic(auto)]
+
 ghost use Rattle.std.specs.Prelude.{◌≡◌};
 ghost use Rattle.rules.specs.Calls.{seal};
 ghost use Rattle.capture.specs.State.{arrays_of};
