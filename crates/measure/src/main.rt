@@ -39,7 +39,7 @@ fn hint<R: Eprint>(rt: &R, number: u64) -> io::Result<()> {
 
 // Seals, and writes the record or says why there is none. No record is longer than the buffer: 64 bytes, and 32 for
 // each of 750 units and 250 scenes.
-fn seal<R: Files + Print + Eprint + AllocGlobal>(
+fn seal<R: Files + Print + Eprint>(
     rt: &R,
     walk: &WalkWords,
     kept: &Collected,
@@ -69,7 +69,7 @@ fn seal<R: Files + Print + Eprint + AllocGlobal>(
 }
 
 // Opens a sample, feeds both sides and seals, if the record has a place to go to.
-fn measure<R: Files + Input + Print + Eprint + AllocGlobal>(
+fn measure<R: Files + Input + Print + Eprint>(
     rt: &R,
     o: Opening,
     capture_name: &str,
@@ -125,7 +125,7 @@ fn measure<R: Files + Input + Print + Eprint + AllocGlobal>(
 }
 
 // Measures where the names are text, as the library's paths are.
-fn measure_named<R: Files + Input + Print + Eprint + AllocGlobal>(
+fn measure_named<R: Files + Input + Print + Eprint>(
     rt: &R,
     o: Opening,
     capture: &[u8],

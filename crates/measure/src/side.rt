@@ -18,12 +18,11 @@ fn may_follow(a: Answer) -> bool {
 }
 
 // Says on standard error that a side cannot be read, and why.
-fn fail<R: Eprint + AllocGlobal>(rt: &R, name: &str, error: &io::Error) -> io::Result<()> {
+fn fail<R: Eprint>(rt: &R, name: &str, error: &io::Error) -> io::Result<()> {
     if is_dash(name.as_bytes()) {
         return record_input::fail(rt, "cannot read standard input", error);
     }
-    let what = format!(in rt.alloc(); "cannot read {name}")?;
-    record_input::fail(rt, what.as_str(), error)
+    record_input::fail_of(rt, "cannot read ", name, error)
 }
 
 // One piece of the capture, and whether more may come; what is read goes to the lent piece, so that no turn has to
@@ -129,7 +128,7 @@ fn feed_named_luma<R: Files + Input>(
 }
 
 // Feeds the whole capture; answers whether it could be read.
-pub fn feed_capture<R: Files + Input + Eprint + AllocGlobal>(
+pub fn feed_capture<R: Files + Input + Eprint>(
     rt: &R,
     name: &str,
     piece: &mut [u8],
@@ -148,7 +147,7 @@ pub fn feed_capture<R: Files + Input + Eprint + AllocGlobal>(
 }
 
 // Feeds the whole luma; answers whether it could be read.
-pub fn feed_luma<R: Files + Input + Eprint + AllocGlobal>(
+pub fn feed_luma<R: Files + Input + Eprint>(
     rt: &R,
     name: &str,
     piece: &mut [u8],

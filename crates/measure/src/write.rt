@@ -1,8 +1,8 @@
 // Writing the record: to RECORD.part, which is renamed to RECORD once it is whole. So RECORD is missing or whole
 // wherever a run is interrupted. What exists already under one of the two names is left alone.
-ghost use Rattle.std.specs.Prelude.{◌≡◌, ◌<◌, ◌≤◌, ◌++◌, ◌⊎◌, length, codes, string_bytes, IfOk, MatchOption};
+ghost use Rattle.std.specs.Prelude.{◌≡◌, ◌<◌, ◌≤◌, ◌++◌, ◌⊎◌, length, codes, MatchOption};
 
-use std::alloc::{AllocError, Global};
+use arrayvec::ArrayString;
 use std::fs::{self, OpenFile, OpenOptions};
 use std::io::{self, ErrorKind, Write};
 use std::rt::Files;
@@ -18,18 +18,8 @@ enum Outcome {
     Failed(io::Error),
 }
 
-fn fail<R: Eprint + AllocGlobal>(
-    rt: &R,
-    what: &str,
-    name: &str,
-    error: &io::Error,
-) -> io::Result<()> {
-    let text = format!(in rt.alloc(); "{what} {name}")?;
-    record_input::fail(rt, text.as_str(), error)
-}
-
 // Whether the step is done; otherwise standard error says why RECORD is not written.
-fn is_done<R: Eprint + AllocGlobal>(rt: &R, outcome: Outcome, name: &str) -> io::Result<bool> {
+fn is_done<R: Eprint>(rt: &R, outcome: Outcome, name: &str) -> io::Result<bool> {
     match outcome {
         Outcome::Done => Ok(true),
         Outcome::Taken => {
@@ -39,7 +29,7 @@ fn is_done<R: Eprint + AllocGlobal>(rt: &R, outcome: Outcome, name: &str) -> io:
             Ok(false)
         }
         Outcome::Failed(error) => {
-            fail(rt, "cannot write", name, &error)?;
+            record_input::fail_of(rt, "cannot write ", name, &error)?;
             Ok(false)
         }
     }
@@ -61,7 +51,7 @@ fn find_free<R: Files>(rt: &R, name: &str) -> Outcome {
 
 // Creates RECORD.part, and answers its file, or none after a message on standard error. Its mode is what the umask
 // leaves of a file's. While it exists, no other run writes this RECORD.
-fn create_part<R: Files + Eprint + AllocGlobal>(rt: &R, part: &str) -> io::Result<Option<R::File>> {
+fn create_part<R: Files + Eprint>(rt: &R, part: &str) -> io::Result<Option<R::File>> {
     match OpenOptions::new()
         .write(true)
         .create_new(true)
@@ -76,9 +66,9 @@ fn create_part<R: Files + Eprint + AllocGlobal>(rt: &R, part: &str) -> io::Resul
 }
 
 // Says on standard error why RECORD.part is not created.
-fn refuse_part<R: Eprint + AllocGlobal>(rt: &R, part: &str, error: &io::Error) -> io::Result<()> {
+fn refuse_part<R: Eprint>(rt: &R, part: &str, error: &io::Error) -> io::Result<()> {
     if error.kind() != ErrorKind::AlreadyExists {
-        return fail(rt, "cannot create", part, error);
+        return record_input::fail_of(rt, "cannot create ", part, error);
     }
     eprintln!(rt; "{part}: exists already, and the record is written there first")?;
     eprintln!(rt;
@@ -86,18 +76,18 @@ fn refuse_part<R: Eprint + AllocGlobal>(rt: &R, part: &str, error: &io::Error) -
     )
 }
 
-fn remove_part<R: Files + Eprint + AllocGlobal>(rt: &R, part: &str) -> io::Result<bool> {
+fn remove_part<R: Files + Eprint>(rt: &R, part: &str) -> io::Result<bool> {
     match fs::remove_file(rt, part) {
         Ok(()) => Ok(true),
         Err(error) => {
-            fail(rt, "cannot remove", part, &error)?;
+            record_input::fail_of(rt, "cannot remove ", part, &error)?;
             Ok(false)
         }
     }
 }
 
 // Whether RECORD.part can be created. It is removed at once: a run that is interrupted while it reads leaves no file.
-fn try_part<R: Files + Eprint + AllocGlobal>(rt: &R, part: &str) -> io::Result<bool> {
+fn try_part<R: Files + Eprint>(rt: &R, part: &str) -> io::Result<bool> {
     match create_part(rt, part)? {
         Some(_file) => remove_part(rt, part),
         None => Ok(false),
@@ -134,7 +124,7 @@ fn finish_part<R: Files>(rt: &R, file: R::File, part: &str, name: &str, record: 
 
 // Writes the part and renames it to RECORD. If that fails, it removes the part and then says why: a message into a
 // closed pipe ends the run.
-fn write_part<R: Files + Eprint + AllocGlobal>(
+fn write_part<R: Files + Eprint>(
     rt: &R,
     part: &str,
     name: &str,
@@ -153,19 +143,21 @@ fn write_part<R: Files + Eprint + AllocGlobal>(
 }
 
 // The part's name; none where RECORD is empty or too long.
-fn part_name(alloc: Global, name: &str) -> Result<Option<String>, AllocError>
-    ensures { IfOk result (λ part. MatchOption part
+fn part_name(name: &str) -> Option<ArrayString<4096>>
+    ensures { MatchOption result
         ((length name.now ≡ 0) ⊎ (4090 < length name.now))
-        (λ text. (0 < length name.now) × (length name.now ≤ 4090) × (string_bytes text ≡ name.now ++ codes ".part"))) }
+        (λ part. (0 < length name.now) × (length name.now ≤ 4090) × (part.bytes ≡ name.now ++ codes ".part")) }
 {
     if name.len() == 0 {
-        return Ok(None);
+        return None;
     }
     if LONGEST_NAME < name.len() {
-        return Ok(None);
+        return None;
     }
-    let text = format!(in alloc; "{name}.part")?;
-    Ok(Some(text))
+    let mut part = ArrayString::new();
+    part.push_str(name);
+    part.push_str(".part");
+    Some(part)
 }
 
 fn refuse_name<R: Eprint>(rt: &R) -> io::Result<()> {
@@ -173,8 +165,8 @@ fn refuse_name<R: Eprint>(rt: &R) -> io::Result<()> {
 }
 
 // Whether RECORD can be written, as far as can be known before any input is read; otherwise standard error says why.
-pub fn can_write<R: Files + Eprint + AllocGlobal>(rt: &R, name: &str) -> io::Result<bool> {
-    match part_name(rt.alloc(), name)? {
+pub fn can_write<R: Files + Eprint>(rt: &R, name: &str) -> io::Result<bool> {
+    match part_name(name) {
         Some(part) => {
             Ok(is_done(rt, find_free(rt, name), name)? && try_part(rt, part.as_str())?)
         }
@@ -186,12 +178,8 @@ pub fn can_write<R: Files + Eprint + AllocGlobal>(rt: &R, name: &str) -> io::Res
 }
 
 // Writes the record under its name; answers whether it is there, and otherwise standard error says why.
-pub fn write_record<R: Files + Eprint + AllocGlobal>(
-    rt: &R,
-    name: &str,
-    record: &[u8],
-) -> io::Result<bool> {
-    match part_name(rt.alloc(), name)? {
+pub fn write_record<R: Files + Eprint>(rt: &R, name: &str, record: &[u8]) -> io::Result<bool> {
+    match part_name(name) {
         Some(part) => write_part(rt, part.as_str(), name, record),
         None => {
             refuse_name(rt)?;

@@ -4,6 +4,8 @@
 ghost use Rattle.std.specs.Prelude.{◌<◌, ◌≤◌, length, take, IfOk};
 ghost use Rattle.std.specs.Io.KnownBytes.{Consumes, IsAtEnd};
 
+use arrayvec::ArrayString;
+use std::fmt::Write;
 use std::io::{self, Read};
 
 // Reads until the input ends or the buffer is full, and answers how many bytes it read: those that the input had next,
@@ -40,9 +42,17 @@ fn reason(text: &str) -> &str {
     }
 }
 
-// Writes a line to standard error: what failed, a colon and the reason.
-pub fn fail<R: Eprint + AllocGlobal>(rt: &R, what: &str, error: &io::Error) -> io::Result<()> {
-    let text = format!(in rt.alloc(); "{error}")?;
-    let why = reason(text.as_str());
-    eprintln!(rt; "{what}: {why}")
+// Writes a line to standard error: what failed, the name that it is about, a colon and the reason. The library's text
+// of an error has at most 256 bytes beside the number, so it fits; one that did not would be written with its number.
+pub fn fail_of<R: Eprint>(rt: &R, what: &str, name: &str, error: &io::Error) -> io::Result<()> {
+    let mut text = ArrayString::<512>::new();
+    match write!(text, "{error}") {
+        Ok(()) => eprintln!(rt; "{what}{name}: {}", reason(text.as_str())),
+        Err(_) => eprintln!(rt; "{what}{name}: {error}"),
+    }
+}
+
+// The same where what failed has no name.
+pub fn fail<R: Eprint>(rt: &R, what: &str, error: &io::Error) -> io::Result<()> {
+    fail_of(rt, what, "", error)
 }
