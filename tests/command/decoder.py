@@ -71,15 +71,16 @@ def hangs():
     )
 
     def late(case):
-        number, cap, (name, script) = case
-        how = ffmpeg_is(script, "stand-in-%d" % number)
+        cap, name, how = case
         begun = time.monotonic()
         expect("it hangs " + name, 2, b"", ["%s: %s" % (cap, LATE % 1)], "measure", cap, *within, **how)
         check(time.monotonic() - begun < 10, "it hangs %s: ended after %.1f s" % (name, time.monotonic() - begun))
 
-    cases = [(cap, case) for cap in ("capture.pcap", "large.pcap") for case in scripts]
+    # A script that is still open for writing anywhere cannot be run, so all are written before the first run begins.
+    cases = [(cap, name, ffmpeg_is(script, "stand-in-%s-%d" % (cap, number)))
+             for cap in ("capture.pcap", "large.pcap") for number, (name, script) in enumerate(scripts)]
     with concurrent.futures.ThreadPoolExecutor(len(cases)) as pool:
-        list(pool.map(late, [(number, *case) for number, case in enumerate(cases)]))
+        list(pool.map(late, cases))
     check(not os.path.lexists("record"), "it hangs: a record")
     for word in ("0", "-1", "x", "", "4294967296"):
         wrong = ["measure", "capture.pcap", *OUT, "--decoder-timeout=" + word]
