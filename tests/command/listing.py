@@ -3,18 +3,8 @@
 import os
 import struct
 import subprocess
-import sys
 from common import PROGRAMS, check
 
-# A process is charged with the memory of the one that it was forked from, and this one may hold long shelves of other
-# cases: so a small one runs the command, and prints its status, its processor time and its memory.
-USED = """
-import os, subprocess, sys
-with open("lines", "wb") as lines:
-    listed = subprocess.Popen(sys.argv[1:], stdout=lines)
-    _, status, used = os.wait4(listed.pid, 0)
-print(status, used.ru_utime + used.ru_stime, used.ru_maxrss)
-"""
 RECORDS, UNITS, SCENES = 4096, 750, 250
 SECONDS, BYTES = 1.0, 200 * 2**20
 
@@ -36,16 +26,17 @@ def test():
         file.write(struct.pack("<%dI" % RECORDS, *range(head, head + RECORDS * len(record), len(record))))
         for _ in range(RECORDS):
             file.write(record)
-    words = [PROGRAMS["carolsedge"], "shelf", "list", "longest"]
-    status, seconds, memory = subprocess.check_output([sys.executable, "-c", USED, *words]).split()
-    status, seconds, memory = int(status), float(seconds), int(memory)
+    with open("lines", "wb") as lines:
+        listed = subprocess.Popen([PROGRAMS["carolsedge"], "shelf", "list", "longest"], stdout=lines)
+        _, status, used = os.wait4(listed.pid, 0)
     with open("lines") as file:
         rows = [line.split() for line in file]
     check(status == 0 and len(rows) == 1 + RECORDS, "the longest shelf: status %d, %d lines" % (status, len(rows)))
     figures = [str(UNITS), str(SCENES), str(sum(range(UNITS))), "3.0", "256", "1970-01-01", "00:00:00.000001"]
     for j, row in enumerate(rows[1:]):
         check(row[0] == str(j) and row[7:] == figures, "the longest shelf: %s" % " ".join(row))
+    seconds = used.ru_utime + used.ru_stime
     check(seconds < SECONDS, "the longest shelf is listed in %.2f s of processor time" % seconds)
-    check(memory * 1024 < BYTES, "the longest shelf is listed in %d KB" % memory)
+    check(used.ru_maxrss * 1024 < BYTES, "the longest shelf is listed in %d KB" % used.ru_maxrss)
     os.remove("longest")
     return "the longest shelf is listed in less than %.0f s of processor time and %d MiB" % (SECONDS, BYTES >> 20)
