@@ -4,7 +4,6 @@
 
 ghost use Rattle.std.specs.Prelude.{◌<◌};
 
-use rules::Answer;
 use std::env::Env;
 use std::io;
 
@@ -22,7 +21,8 @@ fn print_refusal<P: Print>(rt: &P, number: u64) -> io::Result<()> {
     rt.write_all(&text[..n])
 }
 
-// Writes piece i, of 65,536 bytes or what is left of the luma, or the refusal; whether more may follow.
+// Writes piece i, of 65,536 bytes or what is left of the luma, or the refusal; whether more may follow. The four
+// figures come one by one, as `luma_piece` takes them.
 fn write_piece<P: Print>(
     rt: &P,
     width: u32,
@@ -35,13 +35,13 @@ fn write_piece<P: Print>(
 {
     let mut piece = [0u8; 65536];
     match luma_busiest::luma_piece(width, height, time, pictures, i * 65536, &mut piece) {
-        Answer::Done(n) => {
+        Ok(n) => {
             let end = n as usize;
             rt.write_all(&piece[..end])?;
             Ok(n == 65536)
         }
-        Answer::Refused { number, place: _ } => {
-            print_refusal(rt, number)?;
+        Err(e) => {
+            print_refusal(rt, e.number)?;
             Ok(false)
         }
     }
@@ -53,12 +53,10 @@ fn main(rt: HostRuntime) -> io::Result<()> {
     let height = number_at(&rt, 2);
     let time = number_at(&rt, 3);
     let pictures = number_at(&rt, 4);
-    let mut i: u64 = 0;
-    while i < 23907 {
+    for i in 0..23907 {
         if !write_piece(&rt, width, height, time, pictures, i)? {
             return Ok(());
         }
-        i += 1;
     }
     Ok(())
 }

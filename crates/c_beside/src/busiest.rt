@@ -5,8 +5,8 @@ ghost use Rattle.c_numbers.specs.Numbers.{number_of, value_of};
 
 use c_numbers::{number_of, value_of};
 
-// The greatest number of scenes that so many pictures of this display time can have. The value is that number, or 0 on
-// a refusal: 2, then 14 or 10.
+// The greatest number of scenes that so many pictures of this display time can have. The value is that number, or 0
+// on a refusal: 2, then 14 or 10.
 #[unsafe(no_mangle)]
 pub extern "C" fn carolsedge_most_scenes(time: u32, pictures: u32, value: &mut u64) -> u32
     ensures numbered { result ≡ number_of (most_answer time pictures) }
@@ -17,8 +17,8 @@ pub extern "C" fn carolsedge_most_scenes(time: u32, pictures: u32, value: &mut u
     number_of(a)
 }
 
-// Fills a piece with the bytes, from byte `at` on, of luma that has that many scenes. The value is how many bytes were
-// written, or 0 on a refusal: 1, then as above.
+// Fills a piece with the bytes, from byte `at` on, of luma that has that many scenes. The value is how many bytes
+// were written, or 0 on a refusal: 1, then as above.
 #[unsafe(no_mangle)]
 pub extern "C" fn carolsedge_busiest_luma(
     width: u32,

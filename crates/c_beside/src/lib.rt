@@ -1,4 +1,4 @@
-// The calls of document 02 that stand beside the sample, as C functions, a file a request: each hands its memory to
+// The calls of document 02 that are beside the sample, as C functions, a file a request: each hands its memory to
 // the call of the crate below and splits the answer into numbers.
 #![tactic(auto)]
 

@@ -11,9 +11,9 @@ abbrev pub number_in : Fault → ℕ
 number_in none = 0
 number_in (fault k p) = k
 
-pub of-answer : (f : Fault) (n : ℕ) → Numbered f → number_of (answer f n) ≡ number_in f
-of-answer none n x = refl
-of-answer (fault k p) n x = x
+pub of-answer : {X : Type 0} (f : Fault) (x : X) → Numbered f → number_of (answer f x) ≡ number_in f
+of-answer none x n = refl
+of-answer (fault k p) x n = n
 
 abbrev pub Unplaced : Fault → Type 0
 Unplaced none = Unit {0}

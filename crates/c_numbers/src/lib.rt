@@ -5,7 +5,7 @@ ghost use Rattle.std.specs.Prelude.{◌≡◌};
 ghost use Rattle.rules.specs.Refusals.{listed};
 ghost use Rattle.c_numbers.specs.Numbers.{number_of, value_of};
 
-use rules::Answer;
+use rules::Refusal;
 
 // A refusal's number.
 pub fn listed_number(number: u64) -> u32
@@ -15,21 +15,21 @@ pub fn listed_number(number: u64) -> u32
 }
 
 // 0 where the call is done, and otherwise the number of the rules' table.
-pub fn number_of(a: Answer) -> u32
+pub fn number_of<T: Copy>(a: Result<T, Refusal>) -> u32
     ensures { result ≡ number_of a }
 {
     match a {
-        Answer::Done(_) => 0,
-        Answer::Refused { number, place: _ } => listed_number(number),
+        Ok(_) => 0,
+        Err(e) => listed_number(e.number),
     }
 }
 
 // What the call answers, or the refusal's place.
-pub fn value_of(a: Answer) -> u64
+pub fn value_of(a: Result<u64, Refusal>) -> u64
     ensures { result ≡ value_of a }
 {
     match a {
-        Answer::Done(n) => n,
-        Answer::Refused { number: _, place } => place,
+        Ok(n) => n,
+        Err(e) => e.place,
     }
 }

@@ -1,53 +1,38 @@
 -- The refusals of reading a record, of all its rows, of verifying it and of its sheet: none of them is renumbered; and
 -- those of reading, which gives no place, stand at 0.
 use Prim.Native.Nat.{ℕ}
-use mathlib.Core.Path.{◌≡◌, refl}
+use mathlib.Core.Path.{◌≡◌}
 use mathlib.Core.List.{List}
 use lib.ListN.{length}
 use lib.Dec.{leb, ltb}
-use Rattle.rules.specs.declared.Header.{Header}
-use Rattle.rules.specs.declared.UnitRow.{UnitRow}
-use Rattle.rules.specs.declared.SceneRow.{SceneRow}
 use Rattle.rules.specs.Bytes.{word32}
-use Rattle.rules.specs.Refusals.{Fault, none, fault, unless, ◌or_else◌}
+use Rattle.rules.specs.Refusals.{fault, unless, ◌or_else◌}
 use Rattle.rules.specs.Editions.{is_edition}
 use Rattle.rules.specs.Seal.{no_room}
 use Rattle.rules.specs.Reading.{allowed, reading_fault, row_fault, unit_fault, scene_fault, header_of, unit_at}
 use Rattle.rules.specs.Reading.{scene_at}
-use Rattle.rules.specs.Reading.{or_header, or_unit, or_scene, header_answer, unit_answer, scene_answer}
+use Rattle.rules.specs.Reading.{header_answer, unit_answer, scene_answer}
 use Rattle.rules.specs.Sheet.{sheet_length, sheet_answer}
 use Rattle.rules.proofs.Laws.Listed.{Numbered, of_either, reading, unit, scene, room}
 use Rattle.record_rows.specs.Rows.{rows_answer}
 use Rattle.c_numbers.specs.Numbers.{number_of}
 use Rattle.c_numbers.proofs.Refusals.{number_in, of-answer, Unplaced, unplaced-either, unplaced-unless}
 use Rattle.record_verify.specs.Marks.{verdict_of}
-use Rattle.c_record.specs.Figures.{header_number, unit_number, scene_number, verdict_number}
+use Rattle.c_record.specs.Figures.{verdict_number}
 
 -- ---- the number of an answer of the rules is the refusal's own
 
-of-header-answer : (f : Fault) (h : Header) → Numbered f → header_number (or_header f h) ≡ number_in f
-of-header-answer none h x = refl
-of-header-answer (fault k p) h x = x
-
-of-unit-answer : (f : Fault) (u : UnitRow) → Numbered f → unit_number (or_unit f u) ≡ number_in f
-of-unit-answer none u x = refl
-of-unit-answer (fault k p) u x = x
-
-of-scene-answer : (f : Fault) (s : SceneRow) → Numbered f → scene_number (or_scene f s) ≡ number_in f
-of-scene-answer none s x = refl
-of-scene-answer (fault k p) s x = x
-
-pub header-number : (r : List ℕ) → header_number (header_answer r) ≡ number_in (reading_fault r)
+pub header-number : (r : List ℕ) → number_of (header_answer r) ≡ number_in (reading_fault r)
 unfolding header_answer
-header-number r = of-header-answer (reading_fault r) (header_of r) (reading r)
+header-number r = of-answer (reading_fault r) (header_of r) (reading r)
 
-pub unit-number : (r : List ℕ) (j : ℕ) → unit_number (unit_answer r j) ≡ number_in (unit_fault r j)
+pub unit-number : (r : List ℕ) (j : ℕ) → number_of (unit_answer r j) ≡ number_in (unit_fault r j)
 unfolding unit_answer
-unit-number r j = of-unit-answer (unit_fault r j) (unit_at r j) (unit r j)
+unit-number r j = of-answer (unit_fault r j) (unit_at r j) (unit r j)
 
-pub scene-number : (r : List ℕ) (j : ℕ) → scene_number (scene_answer r j) ≡ number_in (scene_fault r j)
+pub scene-number : (r : List ℕ) (j : ℕ) → number_of (scene_answer r j) ≡ number_in (scene_fault r j)
 unfolding scene_answer
-scene-number r j = of-scene-answer (scene_fault r j) (scene_at r j) (scene r j)
+scene-number r j = of-answer (scene_fault r j) (scene_at r j) (scene r j)
 
 -- a verdict's refusals are reading's
 pub verdict-number : (r : List ℕ) (k p : ℕ) → reading_fault r ≡ fault k p → verdict_number (verdict_of r) ≡ k

@@ -4,21 +4,21 @@ use Rattle.rules.specs.Reading.{header_answer, unit_answer, scene_answer}
 use Rattle.rules.specs.Sheet.{sheet_answer, sheet_buffer}
 use Rattle.c_numbers.specs.Numbers.{number_of, value_of}
 use Rattle.record_verify.specs.Marks.{verdict_of}
-use Rattle.c_record.specs.Figures.{header_number, header_into, unit_number, unit_into, scene_number, scene_into}
+use Rattle.c_record.specs.Figures.{header_into, unit_into, scene_into}
 use Rattle.c_record.specs.Figures.{verdict_number, verdict_into}
 
 -- the record's bytes, the lent array before, the number, the lent array after
 pub record HeaderRead (bytes before : List ℕ) (number : ℕ) (after : List ℕ) : Type 0 where
-  pub numbered : number ≡ header_number (header_answer bytes)
+  pub numbered : number ≡ number_of (header_answer bytes)
   pub given : after ≡ header_into (header_answer bytes) before
 
 -- the record's bytes, the row's number j, the lent row before, the number, the lent row after
 pub record UnitRead (bytes : List ℕ) (j : ℕ) (before : List ℕ) (number : ℕ) (after : List ℕ) : Type 0 where
-  pub numbered : number ≡ unit_number (unit_answer bytes j)
+  pub numbered : number ≡ number_of (unit_answer bytes j)
   pub given : after ≡ unit_into (unit_answer bytes j) before
 
 pub record SceneRead (bytes : List ℕ) (j : ℕ) (before : List ℕ) (number : ℕ) (after : List ℕ) : Type 0 where
-  pub numbered : number ≡ scene_number (scene_answer bytes j)
+  pub numbered : number ≡ number_of (scene_answer bytes j)
   pub given : after ≡ scene_into (scene_answer bytes j) before
 
 -- the record's bytes, the lent verdict before, the number, the lent verdict after

@@ -1,7 +1,8 @@
 -- What the C functions that read all rows of a record promise.
 use Rattle.std.specs.Prelude.{ℕ, ◌≡◌, List, length}
 use Rattle.rules.specs.Bytes.{word32}
-use Rattle.record_rows.specs.Rows.{unit_row, scene_row, rows_over, rows_answer, if_done}
+use Rattle.record_rows.specs.Rows.{unit_row, scene_row, rows_over, rows_answer}
+use Rattle.rules.specs.Seal.{if_done}
 use Rattle.c_numbers.specs.Numbers.{number_of, value_of}
 
 -- the record's bytes, how many rows it has, which they are, the lent rows before, the number, the count, the lent rows

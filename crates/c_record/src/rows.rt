@@ -4,8 +4,8 @@ ghost use Rattle.c_record.specs.Rows.{UnitsGiven, ScenesGiven};
 use c_numbers::{number_of, value_of};
 use record_rows::{SCENE_FIGURES, UNIT_FIGURES};
 
-// Tests the record once, and gives all its unit rows. The count is their number, or the refusal's place; of 15 that is
-// the number of rows needed. Rows past the record's are as they were, and after a refusal all are.
+// Tests the record once, and gives all its unit rows. The count is their number, or the refusal's place; of 15 that
+// is the number of rows needed. Rows past the record's are as they were, and after a refusal all are.
 #[unsafe(no_mangle)]
 pub extern "C" fn carolsedge_read_units(
     bytes: &[u8],

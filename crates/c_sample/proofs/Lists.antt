@@ -7,9 +7,9 @@ use mathlib.Core.List.{List, [], ◌∷◌, map}
 use lib.Dec.{eqb}
 use lib.Ieee.{Float}
 use borrow.Author.Tests.{ne_eqb}
-use Rattle.rules.specs.declared.Answer.{Answer}
-use Rattle.rules.specs.declared.IndexAnswer.{IndexAnswer}
-use Rattle.rules.specs.declared.IndexAnswer.TheVariants.{Given, Refused}
+use Rattle.std.specs.Prelude.{Ok, Err}
+use Rattle.rules.specs.declared.Index.{Index}
+use Rattle.rules.specs.Refusals.{Answer}
 use Rattle.rules.specs.Bytes.{pick}
 use Rattle.rules.specs.Calls.{Reply, indexed, counted, lent_after, Call, Outcome, fed, replied}
 use Rattle.rules.proofs.Laws.Listed.{listed_in}
@@ -17,9 +17,9 @@ use Rattle.sample_questions.specs.State.{State}
 use Rattle.sample.specs.Calls as of-sample
 use Rattle.sample.proofs.Lists.{every-list}
 use Rattle.c_numbers.specs.Numbers.{number_of, value_of}
-use Rattle.c_sample.specs.Replies.{index_number, index_into, reply_number, reply_value, three_of}
-use Rattle.c_sample.specs.Calls.{Left, left_of, feeds_capture, feeds_luma, asks, asks_index, asks_repeats}
-use Rattle.c_sample.specs.Calls.{MadeAll, done, next, EveryList}
+use Rattle.c_sample.specs.Replies.{index_into, reply_number, reply_value, three_of}
+use Rattle.c_sample.specs.Calls.{Left, left_of, feeds_capture, feeds_luma, asks, asks_index, asks_repeats, MadeAll}
+use Rattle.c_sample.specs.Calls.{done, next, EveryList}
 
 record Under (st : State) (cs : List Call) (ls : List Left) (end : State) : Type 0 where
   outcomes : List Outcome
@@ -27,7 +27,7 @@ record Under (st : State) (cs : List Call) (ls : List Left) (end : State) : Type
   left : ls ≡ map left_of outcomes
 
 -- one call more, of an answer a with these numbers
-fed-more : (n v : ℕ) (a : Answer) (ls : List Left) (os : List Outcome) → n ≡ number_of a → v ≡ value_of a →
+fed-more : (n v : ℕ) (a : Answer ℕ) (ls : List Left) (os : List Outcome) → n ≡ number_of a → v ≡ value_of a →
     ls ≡ map left_of os →
     record { number = n; value = v; lent = []; three = [] } ∷ ls ≡ map left_of (fed a ∷ os)
 fed-more n v a ls os k x l = rw (k, x, l)
@@ -38,11 +38,11 @@ told_more : (n v : ℕ) (b : List ℕ) (f : List Float) (r : Reply) (ls : List L
 told_more n v b f r ls os k x y z l = rw (k, x, y, z, l)
 
 -- the three that an index call leaves where its number is 0
-three-left : (a : IndexAnswer) (n : ℕ) (before after : List Float) → n ≡ index_number a → after ≡ index_into a before →
+three-left : (a : Answer Index) (n : ℕ) (before after : List Float) → n ≡ number_of a → after ≡ index_into a before →
     pick (eqb n 0) after [] ≡ index_into a []
-three-left (Given i) n before after e g = rw (e, g)
-three-left (Refused k p) n before after e g =
-    rw (ne_eqb n 0 (λ z. omega (arith, e, (listed_in k).0)))
+three-left (Ok i) n before after e g = rw (e, g)
+three-left (Err d) n before after e g =
+    rw (ne_eqb n 0 (λ z. omega (arith, e, (listed_in d.number).0)))
 
 under : {st : State} {cs : List Call} {ls : List Left} {end : State} → MadeAll st cs ls end → Under st cs ls end
 under done = record { outcomes = []; runs = of-sample.done; left = refl }

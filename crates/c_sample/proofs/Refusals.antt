@@ -1,26 +1,24 @@
 -- The refusals of a sample's calls: none of them is renumbered; and those of opening, which gives no place, stand at
 -- 0.
 use Prim.Native.Nat.{ℕ}
-use mathlib.Core.Path.{◌≡◌, refl}
+use mathlib.Core.Path.{◌≡◌}
 use mathlib.Core.Bool.{Bool}
 use mathlib.Core.List.{List}
 use Rattle.rules.specs.declared.Opening.{Opening}
-use Rattle.rules.specs.declared.Index.{Index}
-use Rattle.rules.specs.Refusals.{Fault, none, fault, unless, ◌or_else◌}
+use Rattle.rules.specs.Refusals.{Fault, unless, ◌or_else◌}
 use Rattle.rules.specs.Editions.{is_edition}
 use Rattle.rules.specs.Opening.{good_size, good_time, good_pid, opening_fault, open_answer}
 use Rattle.rules.specs.Capture.{capture_fault}
 use Rattle.rules.specs.Pictures.{luma_fault}
 use Rattle.rules.specs.Changes.{repeats}
 use Rattle.rules.specs.Seal.{reduced, index, sealed_length, seal_fault, capture_answer, luma_answer, seal_answer}
-use Rattle.rules.specs.WhileFeeding.{index_fault, or_index, index_answer}
+use Rattle.rules.specs.WhileFeeding.{index_fault, index_answer}
 use Rattle.rules.specs.Passage.{repeated_in, repeats_fault, repeats_answer}
-use Rattle.rules.proofs.Laws.Listed.{Numbered, of_either, opening, capture, luma, seal}
+use Rattle.rules.proofs.Laws.Listed.{of_either, opening, capture, luma, seal}
 use Rattle.rules.proofs.Laws.WhileFeeding.{index-numbered}
 use Rattle.rules.proofs.Laws.Passage.{repeats-numbered}
 use Rattle.c_numbers.specs.Numbers.{number_of}
 use Rattle.c_numbers.proofs.Refusals.{number_in, of-answer, Unplaced, unplaced-either, unplaced-unless}
-use Rattle.c_sample.specs.Replies.{index_number}
 
 -- ---- the number of an answer of the rules is the refusal's own
 
@@ -47,13 +45,9 @@ pub seal-number : (o : Opening) (c l : List ℕ) (n : ℕ) →
 unfolding seal_answer
 seal-number o c l n = of-answer (seal_fault o c l n) (sealed_length o c l) (seal o c l n)
 
-of-index-answer : (f : Fault) (i : Index) → Numbered f → index_number (or_index f i) ≡ number_in f
-of-index-answer none i x = refl
-of-index-answer (fault k p) i x = x
-
-pub index_number_lem : (o : Opening) (c l : List ℕ) → index_number (index_answer o c l) ≡ number_in (index_fault o c l)
+pub index_number_lem : (o : Opening) (c l : List ℕ) → number_of (index_answer o c l) ≡ number_in (index_fault o c l)
 unfolding index_answer
-index_number_lem o c l = of-index-answer (index_fault o c l) (index o c l) (index-numbered o c l)
+index_number_lem o c l = of-answer (index_fault o c l) (index o c l) (index-numbered o c l)
 
 pub repeats-number : (o : Opening) (l : List ℕ) (a b : ℕ) →
     number_of (repeats_answer o l a b) ≡ number_in (repeats_fault o l a b)

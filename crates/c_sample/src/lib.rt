@@ -14,7 +14,7 @@ use c_numbers::{listed_number, number_of, value_of};
 use capture::Numbers;
 use capture_units::Table;
 use capture_walk::{Collected, WalkWords};
-use rules::{Index, IndexAnswer, Opening};
+use rules::{Index, Opening, Refusal};
 
 // Opens a sample. The place of 1, 2, 3 and 20 is 0.
 #[unsafe(no_mangle)]
@@ -38,11 +38,11 @@ pub extern "C" fn carolsedge_open(
         luma.new sums.new bins.new picture.new) }
 {
     let o = Opening {
-        width: width,
-        height: height,
-        time: time,
-        pid: pid,
-        edition: edition,
+        width,
+        height,
+        time,
+        pid,
+        edition,
     };
     let a = sample::open(walk, kept, numbers, table, luma, sums, bins, picture, o);
     number_of(a)
@@ -116,7 +116,7 @@ fn put_three(three: &mut [f64; 3], i: Index)
 }
 
 // The index of what was fed so far: Ic, Ip and the index. The place is the refusal's, or 0; on a refusal the lent
-// three stand as they were.
+// three are as they were.
 #[unsafe(no_mangle)]
 pub extern "C" fn carolsedge_index(
     numbers: &Numbers,
@@ -128,14 +128,14 @@ pub extern "C" fn carolsedge_index(
         three.new }
 {
     match sample::index(numbers, luma) {
-        IndexAnswer::Given(i) => {
+        Ok(i) => {
             put_three(three, i);
             *place = 0;
             0
         }
-        IndexAnswer::Refused { number, place: at } => {
-            *place = at;
-            listed_number(number)
+        Err(e) => {
+            *place = e.place;
+            listed_number(e.number)
         }
     }
 }
@@ -151,7 +151,7 @@ pub extern "C" fn carolsedge_repeats(luma: &luma::Words, a: u32, b: u32, value: 
 }
 
 // Opens as a script says (include/carolsedge.h has its form), makes its calls, and writes what every one comes to.
-// False, and out stands as it was, where there is no room for it all.
+// False, and out is as it was, where there is no room for it all.
 #[unsafe(no_mangle)]
 pub extern "C" fn carolsedge_replay(script: &[u8], out: &mut [u8]) -> bool
     ensures { Replayed script.now out.old result out.new }

@@ -3,30 +3,21 @@ use Prim.Native.Nat.{ℕ}
 use mathlib.Core.Path.{◌≡◌, refl}
 use mathlib.Core.List.{List}
 use Rattle.rules.specs.Refusals.{Fault, none, fault}
-use Rattle.rules.specs.Shelf.{record_count, shelf_lost, shelf_fault, part_fault, or_shelf, or_part, shelf_answer}
+use Rattle.rules.specs.Shelf.{record_count, shelf_lost, shelf_fault, part_fault, shelf_answer}
 use Rattle.rules.specs.Shelf.{part_answer}
 use Rattle.rules.proofs.Laws.Listed.{Numbered, shelf, part}
 use Rattle.shelf_writer.specs.Writing.{shelf_length, writing_fault, writing_answer}
 use Rattle.shelf_writer.proofs.Theorems.{writing-numbered}
 use Rattle.c_numbers.specs.Numbers.{number_of}
 use Rattle.c_numbers.proofs.Refusals.{number_in, of-answer}
-use Rattle.c_shelf.specs.Contract.{shelf_number, part_number}
 
-of-shelf-answer : (f : Fault) (n lost : ℕ) → Numbered f → shelf_number (or_shelf f n lost) ≡ number_in f
-of-shelf-answer none n lost x = refl
-of-shelf-answer (fault k p) n lost x = x
-
-of-part-answer : (f : Fault) (start end : ℕ) → Numbered f → part_number (or_part f start end) ≡ number_in f
-of-part-answer none start end x = refl
-of-part-answer (fault k p) start end x = x
-
-pub shelf-number : (s : List ℕ) → shelf_number (shelf_answer s) ≡ number_in (shelf_fault s)
+pub shelf-number : (s : List ℕ) → number_of (shelf_answer s) ≡ number_in (shelf_fault s)
 unfolding shelf_answer
-shelf-number s = of-shelf-answer (shelf_fault s) (record_count s) (shelf_lost s) (shelf s)
+shelf-number s = of-answer (shelf_fault s) _ (shelf s)
 
-pub part-number : (s : List ℕ) (j : ℕ) → part_number (part_answer s j) ≡ number_in (part_fault s j)
+pub part-number : (s : List ℕ) (j : ℕ) → number_of (part_answer s j) ≡ number_in (part_fault s j)
 unfolding part_answer
-part-number s j = of-part-answer (part_fault s j) _ _ (part s j)
+part-number s j = of-answer (part_fault s j) _ (part s j)
 
 pub writing-number : (s ls : List ℕ) (m : ℕ) → number_of (writing_answer s ls m) ≡ number_in (writing_fault s ls m)
 unfolding writing_answer

@@ -5,27 +5,23 @@
 ghost use Rattle.c_shelf.specs.Contract.{ShelfOpened, PartTaken, ShelfWritten};
 
 use c_numbers::{listed_number, number_of, value_of};
-use rules::{PartAnswer, ShelfAnswer};
 
-// Tests a whole shelf, and gives how many records it holds and how many cells they lost. The place of 28 is the number
-// of the first record that the reader refuses; on a refusal the lent array stands as it was.
+// Tests a whole shelf, and gives how many records it holds and how many cells they lost. The place of 28 is the
+// number of the first record that the reader refuses; on a refusal the lent array is as it was.
 #[unsafe(no_mangle)]
 pub extern "C" fn carolsedge_shelf_open(bytes: &[u8], totals: &mut [u64; 2], place: &mut u64) -> u32
     ensures { ShelfOpened bytes.now totals.old result place.new
         totals.new }
 {
     match shelf::open(bytes) {
-        ShelfAnswer::Given { records, lost } => {
-            *totals = [records as u64, lost];
+        Ok(shelf) => {
+            *totals = [shelf.records as u64, shelf.lost];
             *place = 0;
             0
         }
-        ShelfAnswer::Refused {
-            number,
-            place: first,
-        } => {
-            *place = first;
-            listed_number(number)
+        Err(e) => {
+            *place = e.place;
+            listed_number(e.number)
         }
     }
 }
@@ -42,14 +38,14 @@ pub extern "C" fn carolsedge_shelf_part(
         part.new }
 {
     match shelf::part(bytes, j) {
-        PartAnswer::Given { start, end } => {
-            *part = [start as u64, end as u64];
+        Ok(taken) => {
+            *part = [taken.start as u64, taken.end as u64];
             *place = 0;
             0
         }
-        PartAnswer::Refused { number, place: at } => {
-            *place = at;
-            listed_number(number)
+        Err(e) => {
+            *place = e.place;
+            listed_number(e.number)
         }
     }
 }

@@ -3,14 +3,14 @@
 use Prim.Native.Nat.{ℕ}
 use mathlib.Core.Path.{◌≡◌, refl, ap, ◌∙◌}
 use mathlib.Core.List.{List, [], ◌∷◌, map}
-use Rattle.rules.specs.declared.Answer.{Answer}
-use Rattle.rules.specs.declared.SurveyAnswer.{SurveyAnswer}
+use Rattle.rules.specs.declared.Most.{Most}
+use Rattle.rules.specs.Refusals.{Answer}
 use Rattle.rules.specs.Survey.{SurveyCall, SurveyOutcome, fed_survey, found}
 use Rattle.survey.specs.State.{State}
 use Rattle.survey.specs.Calls as of-survey
 use Rattle.survey.proofs.Lists.{every-survey}
 use Rattle.c_numbers.specs.Numbers.{number_of, value_of}
-use Rattle.c_survey.specs.Contract.{most_number, most_value, most_count}
+use Rattle.c_survey.specs.Contract.{most_value, most_count}
 use Rattle.c_survey.specs.Calls.{SurveyLeft, survey_left, feeds, asks, SurveyMadeAll, done, next, EverySurvey}
 
 record Under (st : State) (cs : List SurveyCall) (ls : List SurveyLeft) (end : State) : Type 0 where
@@ -18,11 +18,11 @@ record Under (st : State) (cs : List SurveyCall) (ls : List SurveyLeft) (end : S
   runs : of-survey.Runs st cs outcomes end
   left : ls ≡ map survey_left outcomes
 
-fed-more : (n v : ℕ) (a : Answer) (ls : List SurveyLeft) (os : List SurveyOutcome) → n ≡ number_of a → v ≡ value_of a →
+fed-more : (n v : ℕ) (a : Answer ℕ) (ls : List SurveyLeft) (os : List SurveyOutcome) → n ≡ number_of a → v ≡ value_of a →
     ls ≡ map survey_left os → record { number = n; value = v; count = 0 } ∷ ls ≡ map survey_left (fed_survey a ∷ os)
 fed-more n v a ls os k x l = rw (k, x, l)
 
-found-more : (n v c : ℕ) (a : SurveyAnswer) (ls : List SurveyLeft) (os : List SurveyOutcome) → n ≡ most_number a →
+found-more : (n v c : ℕ) (a : Answer Most) (ls : List SurveyLeft) (os : List SurveyOutcome) → n ≡ number_of a →
     v ≡ most_value a → c ≡ most_count a → ls ≡ map survey_left os →
     record { number = n; value = v; count = c } ∷ ls ≡ map survey_left (found a ∷ os)
 found-more n v c a ls os k x y l = rw (k, x, y, l)

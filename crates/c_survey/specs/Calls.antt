@@ -5,7 +5,7 @@ use Rattle.rules.specs.Survey.{SurveyCall, feed_survey, ask_survey, SurveyOutcom
 use Rattle.survey.specs.State.{State}
 use Rattle.survey.specs.Contract.{Opened}
 use Rattle.c_numbers.specs.Numbers.{number_of, value_of}
-use Rattle.c_survey.specs.Contract.{most_number, most_value, most_count, SurveyFed, SurveyTold}
+use Rattle.c_survey.specs.Contract.{most_value, most_count, SurveyFed, SurveyTold}
 
 -- what a call leaves: its number, its value and, of a question, the count
 pub record SurveyLeft : Type 0 where
@@ -15,7 +15,7 @@ pub record SurveyLeft : Type 0 where
 
 abbrev pub survey_left : SurveyOutcome → SurveyLeft
 survey_left (fed_survey a) = record { number = number_of a; value = value_of a; count = 0 }
-survey_left (found a) = record { number = most_number a; value = most_value a; count = most_count a }
+survey_left (found a) = record { number = number_of a; value = most_value a; count = most_count a }
 
 -- one call of a C function on a state, which leaves another: no more and no less than the function's own contract
 pub data SurveyMade : State → SurveyCall → SurveyLeft → State → Type 0 where

@@ -5,49 +5,28 @@
 ghost use Rattle.std.specs.Prelude.{◌≡◌};
 ghost use Rattle.survey.specs.State.{state_of};
 ghost use Rattle.survey.specs.Contract.{Opened};
-ghost use Rattle.c_survey.specs.Contract.{most_number, most_value, most_count, SurveyFed, SurveyTold};
+ghost use Rattle.c_survey.specs.Contract.{most_value, most_count, SurveyFed, SurveyTold};
 
-use c_numbers::{listed_number, number_of, value_of};
+use c_numbers::{number_of, value_of};
 use capture_walk::{Collected, WalkWords};
-use rules::SurveyAnswer;
+use rules::{Most, Refusal};
 use survey::Counts;
 
-fn most_number(a: SurveyAnswer) -> u32
-    ensures { result ≡ most_number a }
-{
-    match a {
-        SurveyAnswer::Most {
-            identifier: _,
-            count: _,
-        } => 0,
-        SurveyAnswer::Refused { number, place: _ } => listed_number(number),
-    }
-}
-
-fn most_value(a: SurveyAnswer) -> u64
+fn most_value(a: Result<Most, Refusal>) -> u64
     ensures { result ≡ most_value a }
 {
     match a {
-        SurveyAnswer::Most {
-            identifier,
-            count: _,
-        } => identifier,
-        SurveyAnswer::Refused { number: _, place } => place,
+        Ok(most) => most.identifier,
+        Err(e) => e.place,
     }
 }
 
-fn most_count(a: SurveyAnswer) -> u64
+fn most_count(a: Result<Most, Refusal>) -> u64
     ensures { result ≡ most_count a }
 {
     match a {
-        SurveyAnswer::Most {
-            identifier: _,
-            count,
-        } => count,
-        SurveyAnswer::Refused {
-            number: _,
-            place: _,
-        } => 0,
+        Ok(most) => most.count,
+        Err(_) => 0,
     }
 }
 
@@ -92,8 +71,8 @@ pub extern "C" fn carolsedge_ask_survey(
 ) -> u32
     ensures { SurveyTold walk.now counts.now result value.new count.new }
 {
-    let a = survey::ask(walk, counts);
-    *value = most_value(a);
-    *count = most_count(a);
-    most_number(a)
+    let most = survey::ask(walk, counts);
+    *value = most_value(most);
+    *count = most_count(most);
+    number_of(most)
 }

@@ -6,9 +6,8 @@ use mathlib.Core.List.{List, [], ◌∷◌, ◌++◌, append-nil, append_assoc}
 use lib.ListN.{length, take, drop, take-append-drop}
 use lib.Seq.{take-add, take_all, sets, sets-eq}
 use Rattle.rules.specs.declared.Opening.{Opening}
-use Rattle.rules.specs.declared.Answer.{Answer}
-use Rattle.rules.specs.declared.Answer.TheVariants.{Done, Refused}
-use Rattle.rules.specs.Refusals.{Fault, none, fault, ◌or_else◌}
+use Rattle.std.specs.Prelude.{Ok}
+use Rattle.rules.specs.Refusals.{Answer, refused, Fault, none, fault, ◌or_else◌}
 use Rattle.rules.specs.Opening.{opening_fault}
 use Rattle.rules.specs.Capture.{capture_fault}
 use Rattle.rules.specs.Seal.{capture_answer}
@@ -91,16 +90,16 @@ module _ {k k' b b' : List ℕ} {s : Meter} {w : Walk} {t : Tally} (piece : List
 
 -- ---- the calls
 
-pub reply-stopped : {t : Tally} (n : ℕ) → (t.status ≡ 0 → ⊥) → Replies t n (Refused t.status t.place)
+pub reply-stopped : {t : Tally} (n : ℕ) → (t.status ≡ 0 → ⊥) → Replies t n (refused t.status t.place)
 unfolding capture_answer
 reply-stopped n h table o joined (stopped e k) = rw e
 reply-stopped n h table o joined (live v) = absurd (h v.counts.status)
 
-pub reply-done : {t : Tally} (n : ℕ) → t.status ≡ 0 → Replies t n (Done n)
+pub reply-done : {t : Tally} (n : ℕ) → t.status ≡ 0 → Replies t n (Ok n)
 unfolding capture_answer
 reply-done n h table o joined c = let v = is_live h c in rw (v.good, v.clear)
 
-pub feed-post : (before : Arrays) (piece : List ℕ) (a : Answer) (after : Arrays) (w : Walk) (t : Tally) (r : Meter) →
+pub feed-post : (before : Arrays) (piece : List ℕ) (a : Answer ℕ) (after : Arrays) (w : Walk) (t : Tally) (r : Meter) →
     w ≡ walk.loaded before.walk → t ≡ loaded before.numbers →
     Goes before.kept before.table (record { walk = w; tally = t }) piece after.kept after.table r →
     walking.Stored before.walk r.walk after.walk →
@@ -148,6 +147,13 @@ fresh number pid edition =
       units = record { count = 0; previous = 0; packets = 0; lost = 0 };
       edition = edition;
     }
+
+-- what the library gives by default, but for these three
+pub fresh-is : {number pid edition : ℕ} {d : Tally} →
+    (d.status ≡ 0) × ((d.place ≡ 0) × ((d.pid ≡ 0) × ((d.bad ≡ 0) × (((d.units.count ≡ 0) × ((d.units.previous ≡ 0)
+    × ((d.units.packets ≡ 0) × (d.units.lost ≡ 0)))) × (d.edition ≡ 0))))) →
+    record d { status = number; pid = pid; edition = edition } ≡ fresh number pid edition
+fresh-is {d = d} (a, (b, (c, (e, ((f, (g, (h, i))), j))))) = rw (b, e, f, g, h, i)
 
 pub opens : (a : Arrays) (number pid edition : ℕ) → walk.Means a.walk a.kept [] → length a.numbers ≡ 16 →
     length a.table ≡ 3750 → loaded a.numbers ≡ fresh number pid edition →

@@ -1,9 +1,8 @@
 -- What each call promises, in terms of the rules and of what the arrays stand for.
 use Rattle.std.specs.Prelude.{ℕ, ◌%◌, ◌^◌, ◌≤◌, ◌<◌, ◌≡◌, List, [], ◌++◌, map, Bool, length, get_or, eqb}
 use Rattle.rules.specs.declared.Opening.{Opening}
-use Rattle.rules.specs.declared.Answer.{Answer}
+use Rattle.rules.specs.Refusals.{Answer, Fault, none, fault, ◌or_else◌}
 use Rattle.rules.specs.Bytes.{pick, total}
-use Rattle.rules.specs.Refusals.{Fault, none, fault, ◌or_else◌}
 use Rattle.rules.specs.Opening.{opening_fault}
 use Rattle.rules.specs.Capture as rule
 use Rattle.rules.specs.Capture.{frame_count, skipped_count, bad_count, capture_fault, capture_inside}
@@ -30,7 +29,7 @@ Opened number pid edition a =
     Means a o []
 
 -- `feed`: the arrays before, the piece, the answer, the arrays after
-pub record FeedPost (before : Arrays) (piece : List ℕ) (a : Answer) (after : Arrays) : Type 0 where
+pub record FeedPost (before : Arrays) (piece : List ℕ) (a : Answer ℕ) (after : Arrays) : Type 0 where
   pub means : (o : Opening) (joined : List ℕ) → Means before o joined → Means after o (joined ++ piece)
   pub answer : (o : Opening) (joined : List ℕ) → Means before o joined →
       a ≡ capture_answer o (joined ++ piece) (length piece)
@@ -97,7 +96,7 @@ Goes kept table s chunk kept' table' r =
     Stands kept' table' r.walk r.tally o (joined ++ chunk)
 
 -- what a feed of n bytes answers, from the numbers after it
-abbrev pub Replies : Tally → ℕ → Answer → Type 0
+abbrev pub Replies : Tally → ℕ → Answer ℕ → Type 0
 Replies t n a =
     (table : List ℕ) (o : Opening) (joined : List ℕ) → Counting table t o joined → a ≡ capture_answer o joined n
 

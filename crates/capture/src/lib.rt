@@ -15,7 +15,7 @@ use capture_counts::Tally;
 use capture_units::Table;
 use capture_walk::{Collected, Event, Walk, WalkWords};
 pub use numbers::{NUMBERS, Numbers};
-use rules::Answer;
+use rules::Refusal;
 
 // What is kept of the walk and of the counts while a piece is taken in.
 #[derive(Clone, Copy)]
@@ -24,9 +24,9 @@ pub struct Meter {
     pub tally: Tally,
 }
 
-// What a seal needs. The refusal that stands (number 0: none) and its place; if none stands: the bytes fed,
+// What a seal needs. The refusal that there is (number 0: none) and its place; if there is none: the bytes fed,
 // whether they end inside the file header or a frame, the frames, skipped frames, bad cells, units, and over all
-// units the cells and those lost.
+// units the cells and those lost. No Option: `summary_of` says number and place as the words hold them.
 #[derive(Clone, Copy)]
 pub struct Summary {
     pub number: u64,
@@ -41,8 +41,8 @@ pub struct Summary {
     pub lost: u64,
 }
 
-// What an index call reads (document 02, R-7): the refusal that stands (number 0: none) and its place; over all units
-// the cells and those lost.
+// What an index call reads (document 02, R-7): the refusal that there is (number 0: none) and its place; over all
+// units the cells and those lost. No Option: `totals_in` says number and place as the words hold them.
 #[derive(Clone, Copy)]
 pub struct Totals {
     pub number: u64,
@@ -51,7 +51,8 @@ pub struct Totals {
     pub lost: u64,
 }
 
-// Opens the arrays: with the number that the opening is refused with, or 0, its PID and its edition.
+// Opens the arrays: with the number that the opening is refused with, or 0, its PID and its edition. C lends them one
+// by one, and `sum_up` reads but two of them, `totals_in` one: they go as four parameters, and in no struct.
 pub fn open(
     walk: &mut WalkWords,
     kept: &mut Collected,
@@ -65,37 +66,32 @@ pub fn open(
         (arrays_of walk.new kept.new numbers.new table.new) }
 {
     capture_walk::open(walk, kept);
-    *numbers = [0u64; NUMBERS];
-    *table = [0u64; capture_units::TABLE_WORDS];
-    numbers[0] = number;
-    numbers[2] = pid;
-    numbers[8] = edition;
+    *table = [0; capture_units::TABLE_WORDS];
+    *numbers = [0; NUMBERS];
+    let fresh = Tally {
+        status: number,
+        pid,
+        edition,
+        ..Tally::default()
+    };
+    store(numbers, fresh);
 }
 
-// What the next bytes of a piece brought: the event, and the walk behind them.
+// What the next bytes of a piece brought: the event, and the walk after them.
 fn take(table: &mut Table, t: Tally, piece: &[u8], w: Walk, e: Event) -> Tally
     requires { Fits e piece.now }
     ensures { Takes table.old t piece.now w e table.new result }
 {
     match e {
-        Event::Nothing => {
-            return t;
-        }
-        Event::Shown(c) => {
-            return capture_counts::check(t, c);
-        }
-        Event::Whole(c) => {
-            return capture_counts::account(table, t, c);
-        }
-        Event::Cells(r) => {
-            return capture_counts::add_run(table, t, piece, r);
-        }
-        Event::Refused => {
-            let mut r = t;
-            r.status = w.status;
-            r.place = w.place;
-            return r;
-        }
+        Event::Nothing => t,
+        Event::Shown(c) => capture_counts::check(t, c),
+        Event::Whole(c) => capture_counts::account(table, t, c),
+        Event::Cells(r) => capture_counts::add_run(table, t, piece, r),
+        Event::Refused => Tally {
+            status: w.status,
+            place: w.place,
+            ..t
+        },
     }
 }
 
@@ -104,34 +100,32 @@ fn run(kept: &mut Collected, table: &mut Table, start: Meter, piece: &[u8]) -> M
     ensures { Goes kept.old table.old start piece.now kept.new
         table.new result }
 {
-    let mut w = start.walk;
-    let mut t = start.tally;
-    let mut i: usize = 0;
-    while i < piece.len() {
-        if t.status != 0 {
-            return Meter { walk: w, tally: t };
-        }
-        let r = capture_walk::next(kept, w, piece, i);
-        let e = r.event;
-        let v = r.walk;
-        t = take(table, t, piece, v, e);
-        w = v;
+    let mut m = start;
+    let mut i = 0;
+    // no `for`: each step says how many bytes it took
+    while i < piece.len() && m.tally.status == 0 {
+        let r = capture_walk::next(kept, m.walk, piece, i);
+        m = Meter {
+            walk: r.walk,
+            tally: take(table, m.tally, piece, r.walk, r.event),
+        };
         i += r.taken;
     }
-    Meter { walk: w, tally: t }
+    m
 }
 
-// What a feed of n bytes answers, when it has been taken in.
-fn reply(t: Tally, n: u64) -> Answer
+// What a feed of n bytes answers, when it has been taken in: a refusal's number as the word holds it, which a seal or
+// an index call (`standing` of `sample_questions`) first puts into the table.
+fn reply(t: Tally, n: u64) -> Result<u64, Refusal>
     ensures { Replies t n result }
 {
     if t.status != 0 {
-        return Answer::Refused {
+        return Err(Refusal {
             number: t.status,
             place: t.place,
-        };
+        });
     }
-    Answer::Done(n)
+    Ok(n)
 }
 
 // Feeds a piece.
@@ -141,37 +135,36 @@ pub fn feed(
     numbers: &mut Numbers,
     table: &mut Table,
     piece: &[u8],
-) -> Answer
+) -> Result<u64, Refusal>
     ensures { FeedPost
         (arrays_of walk.old kept.old numbers.old table.old)
         piece.now result
         (arrays_of walk.new kept.new numbers.new table.new) }
 {
-    let w = capture_walk::load(walk);
-    let t = load(numbers);
-    let m = run(kept, table, Meter { walk: w, tally: t }, piece);
-    let v = m.walk;
-    let u = m.tally;
-    capture_walk::store(walk, v);
-    store(numbers, u);
-    reply(u, piece.len() as u64)
+    let start = Meter {
+        walk: capture_walk::load(walk),
+        tally: load(numbers),
+    };
+    let m = run(kept, table, start, piece);
+    capture_walk::store(walk, m.walk);
+    store(numbers, m.tally);
+    reply(m.tally, piece.len() as u64)
 }
 
 fn summary_of(w: Walk, t: Tally, inside: bool) -> Summary
     ensures { result ≡ summary_of w t inside }
 {
-    let u = t.units;
     Summary {
         number: t.status,
         place: t.place,
         fed: w.fed,
-        inside: inside,
+        inside,
         frames: figures::low(w.frames),
         skipped: figures::low(w.skipped),
         bad: figures::low(t.bad),
-        units: figures::low(u.count),
-        packets: u.packets,
-        lost: u.lost,
+        units: figures::low(t.units.count),
+        packets: t.units.packets,
+        lost: t.units.lost,
     }
 }
 

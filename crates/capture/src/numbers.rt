@@ -13,18 +13,17 @@ pub type Numbers = [u64; NUMBERS];
 pub fn load(numbers: &Numbers) -> Tally
     ensures { result ≡ loaded numbers.now }
 {
-    let units = Units {
-        count: numbers[4],
-        previous: numbers[5],
-        packets: numbers[6],
-        lost: numbers[7],
-    };
     Tally {
         status: numbers[0],
         place: numbers[1],
         pid: numbers[2],
         bad: numbers[3],
-        units: units,
+        units: Units {
+            count: numbers[4],
+            previous: numbers[5],
+            packets: numbers[6],
+            lost: numbers[7],
+        },
         edition: numbers[8],
     }
 }
@@ -32,14 +31,13 @@ pub fn load(numbers: &Numbers) -> Tally
 pub fn store(numbers: &mut Numbers, t: Tally)
     ensures { Stored numbers.old t numbers.new }
 {
-    let u = t.units;
     numbers[0] = t.status;
     numbers[1] = t.place;
     numbers[2] = t.pid;
     numbers[3] = t.bad;
-    numbers[4] = u.count;
-    numbers[5] = u.previous;
-    numbers[6] = u.packets;
-    numbers[7] = u.lost;
+    numbers[4] = t.units.count;
+    numbers[5] = t.units.previous;
+    numbers[6] = t.units.packets;
+    numbers[7] = t.units.lost;
     numbers[8] = t.edition;
 }

@@ -2,7 +2,7 @@
 use Rattle.std.proofs.Common.{◌≡◌, ℕ, zero, suc, ◌+◌, ◌-◌, ◌*◌, ◌%◌, ◌^◌, ◌<◌, ◌≤◌, Bool, true, false, not}
 use Rattle.std.proofs.Common.{◌&&◌, eqb, ltb, List, [], ◌∷◌, ◌++◌, map, length, drop, sym, refl, ap, ◌∙◌, subst}
 use Rattle.std.proofs.Common.{true≢false, append_assoc, append-nil, arith, length-append, length-drop}
-use Rattle.std.proofs.Common.{drop-drop, eq-eqb, eqb-true}
+use Rattle.std.proofs.Common.{eq-eqb, eqb-true}
 use mathlib.Core.Bool.{false≢true}
 use Rattle.rules.specs.Bytes.{pick, count, only}
 use Rattle.rules.specs.Refusals.{none, fault}
@@ -354,62 +354,58 @@ pub going-all : {w w' : List ℕ} {t r : Tally} (k n time place : ℕ) (s : List
     Going w t (cells_from k time place s) w' r → Runs w t (cells_from n time place s) w' r
 going-all k n time place s y g e pid cs l c = going (rw y at (g.goes e pid cs (rw y l) c))
 
-module _ {w w' w'' : List ℕ} {t d r : Tally} (k time place₀ at₀ : ℕ) (piece : List ℕ) (at place : ℕ) (c : Cell)
-    (g : Going w t (cells_from k time place₀ (drop at₀ piece)) w' d) (ae : at ≡ at₀ + 188 * k)
-    (pe : place ≡ place₀ + 188 * k) (small : place ≤ 268435456) (ce : c ≡ cell_in time place (drop at piece))
-    (ta : Takes w' d c w'' r) where
+module _ {w w' w'' : List ℕ} {t d r : Tally} (k time place : ℕ) (s : List ℕ) (c : Cell)
+    (g : Going w t (cells_from k time place s) w' d) (small : place + 188 * k ≤ 268435456)
+    (ce : c ≡ cell_in time (place + 188 * k) (drop (188 * k) s)) (ta : Takes w' d c w'' r) where
   abbrev ds : List Cell
-  ds = cells_from k time place₀ (drop at₀ piece)
+  ds = cells_from k time place s
 
   here : c.place + 3 < 18446744073709551616
-  here = let p : c.place ≡ place = rw ce (unfold cell_in in refl) in omega arith
+  here = let p : c.place ≡ place + 188 * k = rw ce (unfold cell_in in refl) in omega arith
 
-  one_more : cells_from (k + 1) time place₀ (drop at₀ piece) ≡ ds ++ c ∷ []
-  one_more =
-      let e : c ≡ cell_in time (place₀ + 188 * k) (drop (188 * k) (drop at₀ piece)) =
-      ce ∙ rw (pe, ae, drop-drop (188 * k) at₀ piece) in
-      cells-more k time place₀ (drop at₀ piece) ∙ rw (← e)
+  one_more : cells_from (k + 1) time place s ≡ ds ++ c ∷ []
+  one_more = cells-more k time place s ∙ rw (← ce)
 
   -- one cell more is in, or shows 9
   more : (n : ℕ) → k < n → (e pid : ℕ) (cs : List Cell) →
-      length cs + length (cells_from n time place₀ (drop at₀ piece)) < 4294967296 → Counts w t e pid cs →
+      length cs + length (cells_from n time place s) < 4294967296 → Counts w t e pid cs →
       Counted w'' r e pid (cs ++ ds ++ c ∷ [])
   more n h e pid cs l q =
-      let a = length-cells n time place₀ (drop at₀ piece) in
-      let b = length-cells k time place₀ (drop at₀ piece) in
+      let a = length-cells n time place s in
+      let b = length-cells k time place s in
       let f = length-append cs ds in
       ta e pid (cs ++ ds) here (omega arith) (g.goes e pid cs (omega arith) q)
 
   -- a cell that shows 9 ends it
-  pub going-stops : (n : ℕ) → k < n → (r.status ≡ 0 → ⊥) → Runs w t (cells_from n time place₀ (drop at₀ piece)) w'' r
+  pub going-stops : (n : ℕ) → k < n → (r.status ≡ 0 → ⊥) → Runs w t (cells_from n time place s) w'' r
   going-stops n h z e pid cs l q = go (more n h e pid cs l q)
     where
       rest : List Cell
-      rest = cells_from (n - (k + 1)) time (place₀ + 188 * (k + 1)) (drop (188 * (k + 1)) (drop at₀ piece))
+      rest = cells_from (n - (k + 1)) time (place + 188 * (k + 1)) (drop (188 * (k + 1)) s)
 
-      all : cells_from n time place₀ (drop at₀ piece) ≡ ds ++ c ∷ [] ++ rest
+      all : cells_from n time place s ≡ ds ++ c ∷ [] ++ rest
       all =
           let y : n ≡ k + 1 + (n - (k + 1)) = omega arith in
-          ap (λ (x : ℕ). cells_from x time place₀ (drop at₀ piece)) y
-          ∙ cells-split (k + 1) (n - (k + 1)) time place₀ (drop at₀ piece)
+          ap (λ (x : ℕ). cells_from x time place s) y
+          ∙ cells-split (k + 1) (n - (k + 1)) time place s
           ∙ ap (λ (x : List Cell). x ++ rest) one_more
 
       go : Counted w'' r e pid (cs ++ ds ++ c ∷ []) →
-          Counted w'' r e pid (cs ++ cells_from n time place₀ (drop at₀ piece))
+          Counted w'' r e pid (cs ++ cells_from n time place s)
       go (going x) = absurd (z x.status)
-      go (stopped s) =
-          let y : cs ++ cells_from n time place₀ (drop at₀ piece) ≡ cs ++ ds ++ c ∷ [] ++ rest =
+      go (stopped st) =
+          let y : cs ++ cells_from n time place s ≡ cs ++ ds ++ c ∷ [] ++ rest =
           ap (λ (x : List Cell). cs ++ x) all ∙ simp append_assoc in
           stopped (record {
-            some = s.some;
-            nine = rw y (nine-kept e pid (cs ++ ds ++ c ∷ []) rest r.status r.place s.nine);
+            some = st.some;
+            nine = rw y (nine-kept e pid (cs ++ ds ++ c ∷ []) rest r.status r.place st.nine);
           })
 
   -- one that does not is counted
-  pub going_more : r.status ≡ 0 → Going w t (cells_from (k + 1) time place₀ (drop at₀ piece)) w'' r
+  pub going_more : r.status ≡ 0 → Going w t (cells_from (k + 1) time place s) w'' r
   going_more z = record { goes = λ e pid cs l q. go e pid cs (more (k + 1) (omega arith) e pid cs l q) }
     where
       go : (e pid : ℕ) (cs : List Cell) → Counted w'' r e pid (cs ++ ds ++ c ∷ []) →
-          Counts w'' r e pid (cs ++ cells_from (k + 1) time place₀ (drop at₀ piece))
+          Counts w'' r e pid (cs ++ cells_from (k + 1) time place s)
       go e pid cs (going x) = rw (one_more, ← append_assoc cs ds (c ∷ [])) x
-      go e pid cs (stopped s) = let y = s.some in absurd (omega arith)
+      go e pid cs (stopped st) = let y = st.some in absurd (omega arith)

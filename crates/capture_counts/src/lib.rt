@@ -1,11 +1,11 @@
-// Counts of one identifier, cell by cell: the table of units, bad cells, and refusal 9. The edition decides how a cell
-// is seen.
+// Counts of one identifier, cell by cell: the table of units, bad cells, and refusal 9. The edition decides how a
+// cell is seen.
 #![tactic(auto)]
 
-ghost use Rattle.std.specs.Prelude.{◌≡◌, ◌+◌, ◌*◌, ◌≤◌, ◌&&◌, length, ◌==◌};
+ghost use Rattle.std.specs.Prelude.{◌≡◌, ◌&&◌, ◌==◌};
 ghost use Rattle.rules.specs.Packets.{is_damaged};
 ghost use Rattle.capture_units.specs.Units.{as_known, is_of, seen as seen_by};
-ghost use Rattle.capture_steps.specs.Contract.{cells_of};
+ghost use Rattle.capture_steps.specs.Contract.{Lies, cells_of};
 ghost use Rattle.capture_counts.specs.Counts.{Checks, Accounts, Takes, Runs};
 ghost use Rattle.capture_counts.specs.Counts.{with_bad, with_nine, Included, passed_by};
 
@@ -14,9 +14,10 @@ use capture_steps::Run;
 use capture_units::{Table, Units};
 use rules::Condition;
 
-// status, place: refusal 9, or 0. pid: the identifier. bad: bad cells. units: the state of the table. edition: of
-// the rules that the cells are counted by.
-#[derive(Clone, Copy)]
+// status, place: refusal 9, or 0; pid: the identifier; bad: bad cells; units: the state of the table; edition: of the
+// rules that the cells are counted by. No Option for the refusal: C lends these as words that may hold anything, and
+// what is stored loads again (`Stored` of `capture`).
+#[derive(Clone, Copy, Default)]
 pub struct Tally {
     pub status: u64,
     pub place: u64,
@@ -30,24 +31,16 @@ pub struct Tally {
 fn wanted(c: Cell, pid: u64) -> bool
     ensures { result ≡ is_of pid c }
 {
-    let k = c.condition;
-    if is_bad(k) {
-        return false;
-    }
-    c.identifier == pid
+    !is_bad(c.condition) && c.identifier == pid
 }
 
 // A condition where damage is known, or is not: then a damaged cell is taken as a good one is.
 fn as_known(known: bool, k: Condition) -> Condition
     ensures { result ≡ as_known known k }
 {
-    if known {
-        return k;
-    }
     match k {
-        Condition::Good => Condition::Good,
-        Condition::Damaged => Condition::Good,
-        Condition::Bad => Condition::Bad,
+        Condition::Damaged if !known => Condition::Good,
+        _ => k,
     }
 }
 
@@ -55,17 +48,10 @@ fn as_known(known: bool, k: Condition) -> Condition
 fn seen(c: Cell, edition: u64) -> Cell
     ensures { result ≡ seen_by edition c }
 {
-    let k = c.condition;
-    let condition = as_known(figures::knows_damage(edition), k);
-    let splice = figures::heeds_splices(edition) & c.splice;
     Cell {
-        time: c.time,
-        place: c.place,
-        condition: condition,
-        identifier: c.identifier,
-        start: c.start,
-        counter: c.counter,
-        splice: splice,
+        condition: as_known(figures::knows_damage(edition), c.condition),
+        splice: figures::heeds_splices(edition) && c.splice,
+        ..c
     }
 }
 
@@ -73,68 +59,56 @@ fn seen(c: Cell, edition: u64) -> Cell
 fn is_early(s: Units, c: Cell) -> bool
     ensures { result ≡ (s.count == 0) && is_damaged c.condition }
 {
-    if s.count == 0 {
-        let k = c.condition;
-        return is_damaged(k);
-    }
-    false
+    s.count == 0 && is_damaged(c.condition)
 }
 
 // One bad cell more.
 fn with_bad(t: Tally) -> Tally
     ensures { result ≡ with_bad t }
 {
-    let mut r = t;
-    r.bad = std::num::wrapping_add_u64(t.bad, 1);
-    r
+    Tally {
+        bad: t.bad.wrapping_add(1),
+        ..t
+    }
 }
 
 // Refusal 9, at byte 3 of the cell that starts at `place`.
 fn nine(t: Tally, place: u64) -> Tally
     ensures { result ≡ with_nine t place }
 {
-    let mut r = t;
-    r.status = 9;
-    r.place = std::num::wrapping_add_u64(place, 3);
-    r
+    Tally {
+        status: 9,
+        place: place.wrapping_add(3),
+        ..t
+    }
 }
 
 // A cell of the identifier, as the edition sees it, is whole.
 fn include(table: &mut Table, t: Tally, d: Cell) -> Tally
     ensures { Included table.old t d table.new result }
 {
-    let u = t.units;
-    if is_early(u, d) {
+    if is_early(t.units, d) {
         return with_bad(t);
     }
-    let v = capture_units::add_cell(table, u, d);
-    let mut r = t;
-    r.units = v;
-    r
+    Tally {
+        units: capture_units::add_cell(table, t.units, d),
+        ..t
+    }
 }
 
 // One that is not of the identifier is whole.
 fn pass(t: Tally, c: Cell) -> Tally
     ensures { result ≡ passed_by t c }
 {
-    let k = c.condition;
-    if is_bad(k) {
-        return with_bad(t);
-    }
-    t
+    if is_bad(c.condition) { with_bad(t) } else { t }
 }
 
 // A cell is shown: refusal 9, if it would begin a 751st unit.
 pub fn check(t: Tally, c: Cell) -> Tally
     ensures { Checks t c result }
 {
-    if wanted(c, t.pid) {
-        let u = t.units;
-        let d = seen(c, t.edition);
-        if capture_units::is_full(u, d) {
-            return nine(t, c.place);
-        }
-        return t;
+    if wanted(c, t.pid) && capture_units::is_full(t.units, seen(c, t.edition)) {
+        return nine(t, c.place);
     }
     t
 }
@@ -154,9 +128,8 @@ fn take_cell(table: &mut Table, t: Tally, c: Cell) -> Tally
     ensures { Takes table.old t c table.new result }
 {
     if wanted(c, t.pid) {
-        let u = t.units;
         let d = seen(c, t.edition);
-        if capture_units::is_full(u, d) {
+        if capture_units::is_full(t.units, d) {
             return nine(t, c.place);
         }
         return include(table, t, d);
@@ -166,24 +139,15 @@ fn take_cell(table: &mut Table, t: Tally, c: Cell) -> Tally
 
 // A run of cells, up to the first that shows refusal 9.
 pub fn add_run(table: &mut Table, start: Tally, piece: &[u8], r: Run) -> Tally
-    requires { (r.at + 188 * r.many ≤ length piece.now) × (r.place + 188 * r.many ≤ 268435456) }
+    requires { Lies r piece.now }
     ensures { Runs table.old start (cells_of r piece.now) table.new result }
 {
-    let time = r.time;
-    let many = r.many;
-    let mut at = r.at;
-    let mut place = r.place;
     let mut t = start;
-    let mut k: u64 = 0;
-    while k < many {
-        let c = capture_cells::cell_at(piece, at, time, place);
-        t = take_cell(table, t, c);
+    for k in 0..r.many {
+        t = take_cell(table, t, r.cell(piece, k));
         if t.status != 0 {
             return t;
         }
-        at += 188;
-        place += 188;
-        k += 1;
     }
     t
 }

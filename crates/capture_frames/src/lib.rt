@@ -2,96 +2,77 @@
 // frame end.
 #![tactic(auto)]
 
-ghost use Rattle.std.specs.Prelude.{◌≡◌, ℕ, ◌<◌, ◌≤◌, List, length, drop};
+ghost use Rattle.std.specs.Prelude.{◌≡◌, ℕ, ◌<◌, ◌≤◌, IfSome, List, length, drop};
 ghost use Rattle.capture_steps.specs.Contract.{Goes, Settles, Ahead};
 
-use capture_steps::{Collected, Event, Run, Step, Walk};
+use capture_steps::{Collected, Event, Run, Step, Walk, step};
 
-// How many bytes the frame has that f begins with, if it is next, all there, and shows no refusal; otherwise 0.
-pub fn whole_size(s: Walk, f: &[u8]) -> u64
+// How many bytes the frame has that f begins with, if it is next, all there, and shows no refusal.
+pub fn whole_size(s: Walk, f: &[u8]) -> Option<u64>
     requires { s.fed < 268435456 }
-    ensures { 0 < result → Ahead s f.now result }
+    ensures { IfSome result (λ n. Ahead s f.now n) }
 {
-    if s.at != 0 {
-        return 0;
-    }
-    if s.fed < 24 {
-        return 0;
-    }
-    if f.len() < 58 {
-        return 0;
-    }
-    if 999999 < capture_cells::micro_of(f) {
-        return 0;
+    if s.at != 0 || s.fed < 24 || f.len() < 58 {
+        return None;
     }
     let size = capture_cells::stored_of(f);
-    if size < 42 {
-        return 0;
-    }
-    if 65535 < size {
-        return 0;
-    }
     let n = 16 + size;
-    if (f.len() as u64) < n {
-        return 0;
+    let fine = capture_cells::micro_of(f) <= 999999 && (42..=65535).contains(&size);
+    if fine && n <= f.len() as u64 && n <= 268435456 - s.fed && read_ahead::fetch(f, n) {
+        Some(n)
+    } else {
+        None
     }
-    if 268435456 - s.fed < n {
-        return 0;
-    }
-    if read_ahead::fetch(f, n) {
-        return n;
-    }
-    0
 }
 
-// A frame of n bytes that lies whole in the piece from byte i on. Nothing is collected.
+// A frame of n bytes that lies whole in the piece from byte i on. Nothing is collected. It takes the piece and not a
+// part of it, since its event names a place of the piece.
 pub fn on_frame(s: Walk, piece: &[u8], i: usize, n: u64) -> Step
-    requires { (s.status ≡ 0) × (i ≤ length piece.now) × Ahead s (drop i piece.now) n }
+    requires clear { s.status ≡ 0 }
+    requires place { i ≤ length piece.now }
+    requires ahead { Ahead s (drop i piece.now) n }
     ensures { (k : List ℕ) → Goes k s piece.now i n k result }
 {
-    let many = capture_cells::count_of(&piece[i..]);
-    let mut r = s;
-    r.fed = s.fed + n;
-    r.frames = std::num::wrapping_add_u64(s.frames, 1);
+    let f = &piece[i..];
+    let many = capture_cells::count_of(f);
+    let walk = Walk {
+        fed: s.fed + n,
+        frames: s.frames.wrapping_add(1),
+        ..s
+    };
     if many == 0 {
-        r.skipped = std::num::wrapping_add_u64(s.skipped, 1);
-        return Step {
-            taken: n as usize,
-            walk: r,
-            event: Event::Nothing,
+        let walk = Walk {
+            skipped: s.skipped.wrapping_add(1),
+            ..walk
         };
+        return step(n as usize, walk, Event::Nothing);
     }
-    let time = capture_cells::time_of(&piece[i..]);
     let run = Run {
         at: i + 58,
-        many: many,
-        time: time,
+        many,
+        time: capture_cells::time_of(f),
         place: s.fed + 58,
     };
-    Step {
-        taken: n as usize,
-        walk: r,
-        event: Event::Cells(run),
-    }
+    step(n as usize, walk, Event::Cells(run))
 }
 
 // After its bytes are in, a frame is whole, or goes on.
 pub fn settle(kept: &Collected, s: Walk) -> Walk
     ensures { Settles kept.now s result }
 {
-    if s.at < 16 {
+    if s.at < 16 || s.at < s.size.wrapping_add(16) {
         return s;
     }
-    let end = std::num::wrapping_add_u64(16, s.size);
-    if s.at < end {
-        return s;
-    }
-    let mut r = s;
-    r.at = 0;
-    r.frames = std::num::wrapping_add_u64(s.frames, 1);
+    let whole = Walk {
+        at: 0,
+        frames: s.frames.wrapping_add(1),
+        ..s
+    };
     if capture_cells::carries_of(kept) {
-        return r;
+        return whole;
     }
-    r.skipped = std::num::wrapping_add_u64(r.skipped, 1);
-    r
+    Walk {
+        skipped: whole.skipped.wrapping_add(1),
+        ..whole
+    }
 }

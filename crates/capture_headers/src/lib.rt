@@ -1,120 +1,81 @@
-// What a run of bytes does in the file header, in a frame's header, or in the first 42 bytes behind that.
+// What a run of bytes does in the file header, in a frame's header, or in the first 42 bytes after that.
 #![tactic(auto)]
 
 ghost use Rattle.std.specs.Prelude.{◌≡◌, ◌+◌, ◌<◌, ◌≤◌, length};
-ghost use Rattle.capture_steps.specs.Contract.{Goes, Within};
+ghost use Rattle.capture_steps.specs.Contract.{Going, Moves, Within};
 
 use capture_frames::settle;
 use capture_steps::{Collected, Event, Step, Walk, carry, refused, step};
 
-// Bytes of the file header: n of them, from byte i of the piece on, up to the magic's end or the header's end at most.
-pub fn on_file(kept: &mut Collected, s: Walk, piece: &[u8], i: usize, n: u64) -> Step
-    requires { (s.status ≡ 0) × (0 < n) × (s.fed < 4 → s.fed + n ≤ 4) × (s.fed + n ≤ 24)
-        × (i + n ≤ length piece.now) }
-    ensures { Goes kept.old s piece.now i n kept.new result }
+// A part of the file header, up to the magic's end or the header's end at most.
+pub fn on_file(kept: &mut Collected, s: Walk, part: &[u8]) -> Step
+    requires clear { s.status ≡ 0 }
+    requires some { 0 < length part.now }
+    requires magic { s.fed < 4 → s.fed + length part.now ≤ 4 }
+    requires header { s.fed + length part.now ≤ 24 }
+    ensures { Moves kept.old s part.now kept.new result }
 {
-    let fed = s.fed;
-    carry(kept, fed, piece, i, n);
-    let end = fed + n;
-    let mut r = s;
-    r.fed = end;
-    if end == 4 {
-        if capture_cells::is_magic(kept) {
-            return Step {
-                taken: n as usize,
-                walk: r,
-                event: Event::Nothing,
-            };
-        }
-        let t = refused(s, 5, 3);
-        return Step {
-            taken: n as usize,
-            walk: t,
-            event: Event::Refused,
-        };
+    carry(kept, s.fed, part);
+    let taken = part.len();
+    let walk = Walk {
+        fed: s.fed + taken as u64,
+        ..s
+    };
+    if walk.fed == 4 && !capture_cells::is_magic(kept) {
+        return step(taken, refused(s, 5, 3), Event::Refused);
     }
-    if end == 24 {
-        if capture_cells::link_of(kept) == 1 {
-            return Step {
-                taken: n as usize,
-                walk: r,
-                event: Event::Nothing,
-            };
-        }
-        let t = refused(s, 6, 23);
-        return Step {
-            taken: n as usize,
-            walk: t,
-            event: Event::Refused,
-        };
+    if walk.fed == 24 && capture_cells::link_of(kept) != 1 {
+        return step(taken, refused(s, 6, 23), Event::Refused);
     }
-    Step {
-        taken: n as usize,
-        walk: r,
-        event: Event::Nothing,
-    }
+    step(taken, walk, Event::Nothing)
 }
 
-// Bytes of a frame's header: n of them, from byte i of the piece on, up to its end at most.
-pub fn on_header(kept: &mut Collected, s: Walk, piece: &[u8], i: usize, n: u64) -> Step
-    requires { (s.status ≡ 0) × (24 ≤ s.fed) × (s.fed + n ≤ 268435456) × (s.at + n ≤ 16)
-        × (i + n ≤ length piece.now) }
-    ensures { Goes kept.old s piece.now i n kept.new result }
+// A part of a frame's header, up to its end at most.
+pub fn on_header(kept: &mut Collected, s: Walk, part: &[u8]) -> Step
+    requires going { Going s (length part.now) }
+    requires header { s.at + length part.now ≤ 16 }
+    ensures { Moves kept.old s part.now kept.new result }
 {
-    let at = s.at;
-    carry(kept, at, piece, i, n);
-    let end = at + n;
-    let taken = n as usize;
-    let mut r = s;
-    r.fed = s.fed + n;
-    r.at = end;
-    if end < 8 {
-        return step(taken, r, Event::Nothing);
+    carry(kept, s.at, part);
+    let taken = part.len();
+    let walk = Walk {
+        fed: s.fed + taken as u64,
+        at: s.at + taken as u64,
+        ..s
+    };
+    if walk.at < 8 {
+        return step(taken, walk, Event::Nothing);
     }
     if 999999 < capture_cells::micro_of(kept) {
-        let t = refused(s, 7, s.fed + 7 - at);
-        return step(taken, t, Event::Refused);
+        return step(taken, refused(s, 7, s.fed + 7 - s.at), Event::Refused);
     }
-    if end < 12 {
-        return step(taken, r, Event::Nothing);
+    if walk.at < 12 {
+        return step(taken, walk, Event::Nothing);
     }
     let size = capture_cells::stored_of(kept);
     if 65535 < size {
-        let t = refused(s, 8, s.fed + 11 - at);
-        return step(taken, t, Event::Refused);
+        return step(taken, refused(s, 8, s.fed + 11 - s.at), Event::Refused);
     }
-    r.size = size;
-    let t = settle(kept, r);
-    step(taken, t, Event::Nothing)
+    step(taken, settle(kept, Walk { size, ..walk }), Event::Nothing)
 }
 
-// Bytes of a frame's first 42 behind its header: n of them, from byte i of the piece on, up to their end or the
-// frame's at most.
-pub fn on_front(kept: &mut Collected, s: Walk, piece: &[u8], i: usize, n: u64) -> Step
-    requires { (s.status ≡ 0) × (24 ≤ s.fed) × (s.fed + n ≤ 268435456) × (16 ≤ s.at) × Within s.at s.size n
-        × (i + n ≤ length piece.now) }
-    ensures { Goes kept.old s piece.now i n kept.new result }
+// A part of a frame's first 42 bytes after its header, up to their end or the frame's at most.
+pub fn on_front(kept: &mut Collected, s: Walk, part: &[u8]) -> Step
+    requires going { Going s (length part.now) }
+    requires body { 16 ≤ s.at }
+    requires front { Within s.at s.size (length part.now) }
+    ensures { Moves kept.old s part.now kept.new result }
 {
-    let at = s.at;
-    carry(kept, at, piece, i, n);
-    let end = at + n;
-    let mut r = s;
-    r.fed = s.fed + n;
-    r.at = end;
-    if end == 58 {
-        r.left = capture_cells::count_of(kept);
-        r.got = 0;
-        let t = settle(kept, r);
-        return Step {
-            taken: n as usize,
-            walk: t,
-            event: Event::Nothing,
-        };
+    carry(kept, s.at, part);
+    let taken = part.len();
+    let mut walk = Walk {
+        fed: s.fed + taken as u64,
+        at: s.at + taken as u64,
+        ..s
+    };
+    if walk.at == 58 {
+        walk.left = capture_cells::count_of(kept);
+        walk.got = 0;
     }
-    let t = settle(kept, r);
-    Step {
-        taken: n as usize,
-        walk: t,
-        event: Event::Nothing,
-    }
+    step(taken, settle(kept, walk), Event::Nothing)
 }

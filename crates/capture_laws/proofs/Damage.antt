@@ -1,6 +1,5 @@
 -- The laws of damage (document 02, R-6): editions that know none have document 01's rows, with word 28 zero; and
--- every
--- cell is accounted for.
+-- every cell is accounted for.
 use Prim.Native.Nat.{ℕ, suc, ◌+◌, ◌*◌}
 use native.Mathlib.Omega.{arith}
 use mathlib.Core.Path.{◌≡◌, refl, sym, ap, ◌∙◌}
@@ -103,8 +102,7 @@ zero-units edition ps h =
     rw (plain-units edition ps h) (zero-rows (groups (arrivals (heeds_splices edition) false ps)))
 
 -- ---- every cell is bad, of another identifier, or of PID; and one of PID stands before the first unit, or in a
--- unit,
--- where it is a cell or damaged
+-- unit, where it is a cell or damaged
 
 all_kinds : (o : Opening) (ps : List Packet) → length ps ≡ bad_of ps + other_of o ps + length (wanted_of o ps)
 unfolding bad_of other_of count wanted_of only is_wanted

@@ -9,12 +9,13 @@ use mathlib.Core.List.{List}
 use lib.Dec.{ltb, eqb}
 use borrow.Author.Tests.{ltb-true, ltb-false, eqb-false}
 use Rattle.rules.proofs.Laws.Lists.{by-test}
-use Rattle.rules.specs.declared.SurveyAnswer.TheVariants.{Most, Refused}
+use Rattle.std.specs.Prelude.{Ok}
+use Rattle.rules.specs.declared.Most.{Most}
+use Rattle.rules.specs.Refusals.{refused, Answer, answer, Fault, none, fault, ◌or_else◌}
 use Rattle.rules.specs.Bytes.{pick}
-use Rattle.rules.specs.Refusals.{Fault, none, fault, ◌or_else◌}
 use Rattle.rules.specs.Capture.{format_fault}
 use Rattle.rules.specs.Seal.{capture_unfinished}
-use Rattle.rules.specs.Survey.{good_packets, identifiers, with_most, HasMost, no_good, survey_fault, or_most}
+use Rattle.rules.specs.Survey.{good_packets, identifiers, with_most, HasMost, no_good, survey_fault}
 use Rattle.rules.specs.Survey.{survey_answer, MostIn}
 
 -- ---- one identifier more
@@ -83,15 +84,18 @@ most-alike f g id e m =
 
 -- ---- an identifier that a survey answers
 
-refused-most : {k p id n : ℕ} → Refused k p ≡ Most id n → ⊥
+ok-same : {X : Type 0} {x y : X} → ◌≡◌ {A = Answer X} (Ok x) (Ok y) → x ≡ y
+ok-same e = cc
+
+refused-most : {k p : ℕ} {m : Most} → refused k p ≡ Ok m → ⊥
 refused-most e = let z : ◌≡◌ {A = ℕ} 0 1 = cc in omega arith
 
-most-inj : {a b c d : ℕ} → Most a b ≡ Most c d → (a ≡ c) × (b ≡ d)
-most-inj e = (cc, cc)
+most-same : {m o : Most} → ◌≡◌ {A = Answer Most} (Ok m) (Ok o) → (m.identifier ≡ o.identifier) × (m.count ≡ o.count)
+most-same e = let m = ok-same e in (ap (λ (o : Most). o.identifier) m, ap (λ (o : Most). o.count) m)
 
-pub most-found : (capture : List ℕ) (id n : ℕ) → survey_answer capture ≡ Most id n → MostIn capture id n
+pub most-found : (capture : List ℕ) (m : Most) → survey_answer capture ≡ Ok m → MostIn capture m.identifier m.count
 unfolding survey_answer survey_fault no_good
-most-found capture id n = go (format_fault capture) (capture_unfinished capture) (eqb (f best) 0) refl
+most-found capture m = go (format_fault capture) (capture_unfinished capture) (eqb (f best) 0) refl
   where
     f : ℕ → ℕ
     f = good_packets capture
@@ -99,11 +103,15 @@ most-found capture id n = go (format_fault capture) (capture_unfinished capture)
     best : ℕ
     best = with_most f identifiers
 
+    found : Most
+    found = record { identifier = best; count = f best }
+
     go : (x y : Fault) (b : Bool) → eqb (f best) 0 ≡ b →
-        or_most (x or_else y or_else pick b (fault 21 0) none) best (f best) ≡ Most id n → MostIn capture id n
+        answer (x or_else y or_else pick b (fault 21 0) none) found ≡ Ok m →
+        MostIn capture m.identifier m.count
     go none none false e a =
-        let i = (most-inj a).0 in
-        let c = (most-inj a).1 in
+        let i = (most-same a).0 in
+        let c = (most-same a).1 in
         let z = eqb-false (f best) 0 e in
         record {
           counted = sym c ∙ ap f i;

@@ -3,7 +3,7 @@
 use Prim.{tt}
 use Rattle.std.proofs.Common.{◌≡◌, ℕ, suc, ◌+◌, ◌-◌, ◌*◌, ◌%◌, ◌^◌, ◌<◌, ◌≤◌, leb, List, [], ◌∷◌, ◌++◌, map, length}
 use Rattle.std.proofs.Common.{get_or, take, drop, sym, refl, ap, ◌∙◌, append_assoc, append-nil, arith, length-append}
-use Rattle.std.proofs.Common.{length-drop, drop_of_length-le, length-take-le, get_or-drop, get_or-take}
+use Rattle.std.proofs.Common.{length-drop, drop_of_length-le, get_or-drop}
 use Rattle.std.proofs.Common.{get_or-append-add}
 use native.Mathlib.Decide.{dec_lt}
 use lib.ListN.{get_or-append}
@@ -45,17 +45,8 @@ pub record Gathered (k : List ℕ) (got : ℕ) (t k' : List ℕ) : Type 0 where
   pub new : (i : ℕ) → i < length t → got + i < 6 → get_or k' (58 + (got + i)) 0 ≡ byte t i
   pub below : (j : ℕ) → j < 58 + got → get_or k' j 0 ≡ get_or k j 0
 
-pub gathered : {k k' piece : List ℕ} {got from n : ℕ} → length k ≡ 64 → from + n ≤ length piece →
-    Collects k got piece from n k' → Gathered k got (take n (drop from piece)) k'
-gathered {k} {k'} {piece} {got} {from} {n} l h c =
-    let e : length (take n (drop from piece)) ≡ n =
-    length-take-le n (drop from piece) (simp length-drop (omega arith)) in
-    record {
-      size = c.size;
-      new = λ i g f. rw (get_or-take n (drop from piece) i 0 (omega arith), get_or-drop from piece i 0)
-          (c.new l i (omega arith) f);
-      below = c.below;
-    }
+pub gathered : {k k' t : List ℕ} {got : ℕ} → length k ≡ 64 → Collects k got t k' → Gathered k got t k'
+gathered l c = record { size = c.size; new = c.new l; below = c.below }
 
 -- ---- m cells that are there at once, behind k others
 

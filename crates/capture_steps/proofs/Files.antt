@@ -2,7 +2,7 @@
 use Prim.{tt}
 use Rattle.std.proofs.Common.{◌≡◌, ℕ, ◌+◌, ◌<◌, ◌≤◌, Bool, true, false, List, [], ◌++◌, length, sym, refl, ◌∙◌, arith}
 use Rattle.std.proofs.Common.{length-append, eq-eqb, ne_eqb}
-use native.Mathlib.Decide.{dec_lt}
+use native.Mathlib.Decide.{dec_lt, ℕ_discrete}
 use Rattle.rules.specs.Bytes.{word32, count}
 use Rattle.rules.specs.Refusals.{none}
 use Rattle.rules.specs.Packets.{skipped}
@@ -106,7 +106,7 @@ module _ {k : List ℕ} {s : Walk} {joined : List ℕ} (u : Head k s joined) (k'
           calm = tt;
         }
 
-    pub file-plain : (s.fed + length t ≡ 4 → ⊥) → (s.fed + length t ≡ 24 → ⊥) →
+    file-plain : (s.fed + length t ≡ 4 → ⊥) → (s.fed + length t ≡ 24 → ⊥) →
         Passed k' (record { taken = n; walk = r; event = Nothing }) piece joined (joined ++ t)
     unfolding a
     file-plain x y = go (dec_lt s.fed 4)
@@ -118,15 +118,15 @@ module _ {k : List ℕ} {s : Walk} {joined : List ℕ} (u : Head k s joined) (k'
         go (yes d) = let f = upto d in head-on (shows ∙ rw (magic-early a (omega (arith, size, x)), no-link l)) l
         go (no d) = head-on (shows ∙ rw (magic-kept (omega arith), no-link l)) l
 
-    pub file-magic : {b : Bool} → s.fed + length t ≡ 4 → b ≡ is_magic k' → b ≡ true →
+    file-magic : s.fed + length t ≡ 4 → is_magic k' ≡ true →
         Passed k' (record { taken = n; walk = r; event = Nothing }) piece joined (joined ++ t)
     unfolding a
-    file-magic l e f =
+    file-magic l e =
         let m : is_magic a ≡ true =
-        sym (magic-agree (held-agree 4 held (omega (arith, size)) (omega arith)) (omega arith)) ∙ sym e ∙ f in
+        sym (magic-agree (held-agree 4 held (omega (arith, size)) (omega arith)) (omega arith)) ∙ e in
         head-on (shows ∙ rw (magic-shown a (omega (arith, size)), m, no-link (omega arith))) (omega arith)
 
-    pub file-link : s.fed + length t ≡ 24 → word32 k' 20 ≡ 1 →
+    file-link : s.fed + length t ≡ 24 → word32 k' 20 ≡ 1 →
         Passed k' (record { taken = n; walk = r; event = Nothing }) piece joined (joined ++ t)
     unfolding a
     file-link l e =
@@ -139,6 +139,17 @@ module _ {k : List ℕ} {s : Walk} {joined : List ℕ} (u : Head k s joined) (k'
           | yes d ↦ let f = upto d in absurd (omega arith)
           | no d ↦ omega arith
         ]
+
+    -- the magic is right where it ends here, and so is the link type
+    pub file-on : (s.fed + length t ≡ 4 → is_magic k' ≡ true) → (s.fed + length t ≡ 24 → word32 k' 20 ≡ 1) →
+        Passed k' (record { taken = n; walk = r; event = Nothing }) piece joined (joined ++ t)
+    file-on m l = elim (ℕ_discrete (s.fed + length t) 4) [
+      | yes e ↦ file-magic e (m e)
+      | no x ↦ elim (ℕ_discrete (s.fed + length t) 24) [
+        | yes e ↦ file-link e (l e)
+        | no y ↦ file-plain x y
+      ]
+    ]
 
   pub file-bad-magic : {b : Bool} → s.fed + length t ≡ 4 → b ≡ is_magic k' → b ≡ false → r.status ≡ 5 → r.place ≡ 3 →
       Passed k' (record { taken = n; walk = r; event = Refused }) piece joined (joined ++ t)

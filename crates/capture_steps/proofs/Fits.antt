@@ -71,15 +71,6 @@ module _ (r t : List ℕ) (size : ℕ) (f : Fine r) (v : Within (length r) size 
 pub within-header : {at size n : ℕ} → at + n ≤ 16 → Within at size n
 within-header h = record { header = λ k. h; front = omega arith; frame = λ a b c. omega arith }
 
--- fewer bytes end no later
-pub within-less : {at size n m : ℕ} → Within at size n → m ≤ n → Within at size m
-within-less v h =
-    record {
-      header = λ k. let e = v.header k in omega arith;
-      front = let e = v.front in omega arith;
-      frame = λ a b c. let e = v.frame a b c in omega arith;
-    }
-
 -- of a value that another equals
 pub lt_of : {x y : ℕ} (n : ℕ) → x ≡ y → n < x → n < y
 lt_of n e h = omega arith

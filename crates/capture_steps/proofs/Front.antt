@@ -1,7 +1,7 @@
 -- Bytes of a frame's header or of the first 42 behind it: what the walk stands for behind them.
 use Prim.{tt}
-use Rattle.std.proofs.Common.{◌≡◌, ℕ, ◌+◌, ◌-◌, ◌<◌, ◌≤◌, List, ◌++◌, length, get_or, take, drop, sym, ◌∙◌, arith}
-use Rattle.std.proofs.Common.{length-append, length-drop, length-take-le, get_or-drop, get_or-take, get_or-append-add}
+use Rattle.std.proofs.Common.{◌≡◌, ℕ, ◌+◌, ◌-◌, ◌<◌, ◌≤◌, List, ◌++◌, length, get_or, sym, ◌∙◌, arith}
+use Rattle.std.proofs.Common.{length-append, get_or-append-add}
 use native.Mathlib.Decide.{dec_lt}
 use lib.ListN.{get_or-append}
 use Rattle.rules.specs.Bytes.{byte}
@@ -29,17 +29,8 @@ pub record Placed (k : List ℕ) (at : ℕ) (t k' : List ℕ) : Type 0 where
   pub new : (i : ℕ) → i < length t → get_or k' (at + i) 0 ≡ byte t i
   pub below : (j : ℕ) → j < at → get_or k' j 0 ≡ get_or k j 0
 
-pub placed : {k k' piece : List ℕ} {at from n : ℕ} → length k ≡ 64 → from + n ≤ length piece →
-    Carried k at piece from n k' → Placed k at (take n (drop from piece)) k'
-placed {k} {k'} {piece} {at} {from} {n} l h c =
-    let e : length (take n (drop from piece)) ≡ n =
-    length-take-le n (drop from piece) (simp length-drop (omega arith)) in
-    record {
-      size = c.size;
-      new = λ i g. rw (get_or-take n (drop from piece) i 0 (omega arith), get_or-drop from piece i 0)
-          (c.new l i (omega arith));
-      below = c.below;
-    }
+pub placed : {k k' t : List ℕ} {at : ℕ} → length k ≡ 64 → Carried k at t k' → Placed k at t k'
+placed l c = record { size = c.size; new = c.new l; below = c.below }
 
 -- the bytes of r, as far as they go and the first 58 at most
 pub record Held (k r : List ℕ) : Type 0 where

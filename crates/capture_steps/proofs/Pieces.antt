@@ -1,14 +1,15 @@
 -- The state in the words, a refusal that bytes show, and the bytes of a step.
-use Rattle.std.proofs.Common.{◌≡◌, ℕ, ◌+◌, ◌<◌, ◌≤◌, List, [], ◌∷◌, length, take, drop, ap, arith, length-drop}
+use Rattle.std.proofs.Common.{◌≡◌, ℕ, ◌+◌, ◌<◌, ◌≤◌, List, [], ◌∷◌, length, take, drop, ap, ◌∙◌, arith, length-drop}
 use Rattle.std.proofs.Common.{length-take-le, take_all}
 use lib.Seq.{sets, sets-eq}
 use Rattle.rules.specs.Refusals.{fault}
 use Rattle.rules.specs.Capture.{whole_frames, unfinished}
 use Rattle.capture_steps.specs.declared.types.Walk.{Walk}
+use Rattle.capture_steps.specs.declared.types.Step.{Step}
 use Rattle.capture_steps.specs.declared.types.Event.TheVariants.{Refused}
 use Rattle.capture_steps.specs.Format.{format_fault, shown_cells}
 use Rattle.capture_steps.specs.State.{loaded, Core, Head, Stands, refused, head, live}
-use Rattle.capture_steps.specs.Contract.{silent, Passed}
+use Rattle.capture_steps.specs.Contract.{silent, Passed, Goes, Moves}
 
 -- ---- a state that has refused nothing
 
@@ -35,6 +36,15 @@ refuse-now n k p l e h a b g =
 
 pub many-taken : (piece : List ℕ) (i n : ℕ) → i + n ≤ length piece → length (take n (drop i piece)) ≡ n
 many-taken piece i n h = length-take-le n (drop i piece) (simp length-drop (omega arith))
+
+-- a part of n bytes, of m as the code writes it
+pub part-long : (piece : List ℕ) (i n m : ℕ) → i + n ≤ length piece → m ≡ n → length (take m (drop i piece)) ≡ n
+part-long piece i n m h e = rw e (many-taken piece i n h)
+
+pub moved : {kept kept' : List ℕ} {s : Walk} {r : Step} (piece : List ℕ) (i n m : ℕ) → i + n ≤ length piece → m ≡ n →
+    Moves kept s (take m (drop i piece)) kept' r → Goes kept s piece i n kept' r
+moved piece i n m h e g =
+    let w = rw e at g in record { taken = w.taken ∙ many-taken piece i n h; fits = w.fits piece; goes = w.goes piece }
 
 pub part-rest : (piece : List ℕ) (i n : ℕ) → length piece ≤ i + n → take n (drop i piece) ≡ drop i piece
 part-rest piece i n h = take_all n (drop i piece) (simp length-drop (omega arith))

@@ -54,12 +54,16 @@ whole_of (Whole c) piece = c ∷ []
 whole_of (Cells r) piece = cells_of r piece
 whole_of Refused piece = []
 
+-- a run lies whole in the piece, and before the capture's limit
+abbrev pub Lies : Run → List ℕ → Type 0
+Lies r piece = (r.at + 188 * r.many ≤ length piece) × (r.place + 188 * r.many ≤ 268435456)
+
 -- what holds of an event on every state, one that stands for nothing too, so that whoever takes it needs no test
 abbrev pub Fits : Event → List ℕ → Type 0
 Fits Nothing piece = Unit {0}
 Fits (Shown c) piece = (c.identifier < 8192) × (c.place ≤ 268435456)
 Fits (Whole c) piece = c.identifier < 8192
-Fits (Cells r) piece = (r.at + 188 * r.many ≤ length piece) × (r.place + 188 * r.many ≤ 268435456)
+Fits (Cells r) piece = Lies r piece
 Fits Refused piece = Unit {0}
 
 -- bytes that are refused in a turn show no cell
@@ -82,19 +86,30 @@ pub record Goes (kept : List ℕ) (s : Walk) (piece : List ℕ) (i n : ℕ) (kep
   pub fits : Fits r.event piece
   pub goes : (joined : List ℕ) → Stands kept s joined → Passed kept' r piece joined (joined ++ take n (drop i piece))
 
+-- kept and s, by the bytes t, wherever they lie in a piece, become kept' and r
+pub record Moves (kept : List ℕ) (s : Walk) (t kept' : List ℕ) (r : Step) : Type 0 where
+  pub taken : r.taken ≡ length t
+  pub fits : (piece : List ℕ) → Fits r.event piece
+  pub goes : (piece joined : List ℕ) → Stands kept s joined → Passed kept' r piece joined (joined ++ t)
+
 -- ---- of the functions that a step is made of
 
--- n bytes of the piece, from its byte `from` on, stand at the place `at`; all others are as they were
-pub record Carried (w : List ℕ) (at : ℕ) (piece : List ℕ) (from n : ℕ) (w' : List ℕ) : Type 0 where
+-- nothing is refused, the file header is there, and n bytes more keep to the limit
+pub record Going (s : Walk) (n : ℕ) : Type 0 where
+  pub clear : s.status ≡ 0
+  pub file : 24 ≤ s.fed
+  pub limit : s.fed + n ≤ 268435456
+
+-- the bytes t stand at the place `at`; all before it are as they were
+pub record Carried (w : List ℕ) (at : ℕ) (t w' : List ℕ) : Type 0 where
   pub size : length w' ≡ length w
-  pub new : length w ≡ 64 → (i : ℕ) → i < n → slice_index w' (at + i) ≡ slice_index piece (from + i)
+  pub new : length w ≡ 64 → (i : ℕ) → i < length t → slice_index w' (at + i) ≡ slice_index t i
   pub below : (k : ℕ) → k < at → slice_index w' k ≡ slice_index w k
 
--- of n bytes of a cell from its byte `got` on, those among its first six
-pub record Collects (w : List ℕ) (got : ℕ) (piece : List ℕ) (from n : ℕ) (w' : List ℕ) : Type 0 where
+-- of a cell's bytes t from its byte `got` on, those among its first six
+pub record Collects (w : List ℕ) (got : ℕ) (t w' : List ℕ) : Type 0 where
   pub size : length w' ≡ length w
-  pub new : length w ≡ 64 → (i : ℕ) → i < n → got + i < 6 →
-      slice_index w' (58 + (got + i)) ≡ slice_index piece (from + i)
+  pub new : length w ≡ 64 → (i : ℕ) → i < length t → got + i < 6 → slice_index w' (58 + (got + i)) ≡ slice_index t i
   pub below : (k : ℕ) → k < 58 + got → slice_index w' k ≡ slice_index w k
 
 -- n bytes more, of a frame of which at bytes are there, end no later than what they are in: the header, the first 42

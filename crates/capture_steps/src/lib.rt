@@ -1,9 +1,10 @@
 // What every step of the walk through a capture needs: its numbers, the bytes that it collects, how many bytes go
-// together, and what a step tells. What its numbers stand for, and what a step promises, is said in the specs.
+// together, and what a step tells. What its numbers mean, and what a step promises, is said in the specs.
 #![tactic(auto)]
 
 mod collected;
 mod numbers;
+mod runs;
 mod spans;
 mod types;
 

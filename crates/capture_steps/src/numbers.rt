@@ -5,6 +5,7 @@ ghost use Rattle.capture_steps.specs.Contract.{refused_as, Stored};
 
 use crate::types::{Event, Step, Walk, WalkWords};
 
+// Word by word: the places are the layout of the lent memory (`loaded`).
 pub fn load(words: &WalkWords) -> Walk
     ensures { result ≡ loaded words.now }
 {
@@ -38,18 +39,15 @@ pub fn store(words: &mut WalkWords, s: Walk)
 pub fn refused(s: Walk, number: u64, place: u64) -> Walk
     ensures { result ≡ refused_as s number place }
 {
-    let mut r = s;
-    r.status = number;
-    r.place = place;
-    r
+    Walk {
+        status: number,
+        place,
+        ..s
+    }
 }
 
 pub fn step(taken: usize, walk: Walk, event: Event) -> Step
     ensures { result ≡ record { taken = taken; walk = walk; event = event } }
 {
-    Step {
-        taken: taken,
-        walk: walk,
-        event: event,
-    }
+    Step { taken, walk, event }
 }

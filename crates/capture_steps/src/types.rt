@@ -10,9 +10,10 @@ pub const COLLECTED_BYTES: usize = 64;
 
 pub type Collected = [u8; COLLECTED_BYTES];
 
-// status, place: the refusal that stands, or 0. fed: bytes fed; at: bytes of the frame that are there; size: its
-// stored length L; got: bytes that are there of the cell under way; left: the frame's cells that are not whole yet;
-// frames, skipped: whole frames, and those of them that do not carry.
+// status, place: the refusal that there is, or 0: a number and no Option, since a walk is the lent words as they lie
+// (`loaded`). fed: bytes fed; at: bytes of the frame that are there; size: its stored length L; got: bytes that are
+// there of the cell under way; left: the frame's cells that are not whole yet; frames, skipped: whole frames, and
+// those of them that do not carry.
 #[derive(Clone, Copy)]
 pub struct Walk {
     pub status: u64,
@@ -26,7 +27,7 @@ pub struct Walk {
     pub skipped: u64,
 }
 
-// Cells that lie whole in the piece, one behind the other: the first starts at byte `at` of the piece, and at the
+// Cells that lie whole in the piece, one after the other: the first starts at byte `at` of the piece, and at the
 // offset `place` of the capture.
 #[derive(Clone, Copy)]
 pub struct Run {
@@ -36,6 +37,7 @@ pub struct Run {
     pub place: u64,
 }
 
+// `Nothing` is a case here, and no None of an Option: a step always tells one of these five.
 #[derive(Clone, Copy)]
 pub enum Event {
     // no cell is shown or whole by these bytes
@@ -46,11 +48,11 @@ pub enum Event {
     Whole(Cell),
     // cells are shown and whole at once
     Cells(Run),
-    // a refusal stands: the walk's status and place
+    // there is a refusal: the walk's status and place
     Refused,
 }
 
-// How many bytes a step took, the walk behind them, and what they brought.
+// How many bytes a step took, the walk after them, and what they brought.
 #[derive(Drop)]
 pub struct Step {
     pub taken: usize,

@@ -2,8 +2,7 @@
 // Cells come one by one. Every function is safe on any table and any `Units`.
 #![tactic(auto)]
 
-ghost use Rattle.std.specs.Prelude.{◌≡◌, ◌<◌};
-ghost use Rattle.rules.specs.Bytes.{smaller, larger};
+ghost use Rattle.std.specs.Prelude.{◌≡◌, ◌+◌, ◌<◌, ◌⊎◌, MatchOption};
 ghost use Rattle.capture_units.specs.State.{unit_at, unit_set};
 ghost use Rattle.capture_units.specs.Contract.{loss_of, begun_by, joined_by, marked_by, taken_into, Begun, Joined};
 ghost use Rattle.capture_units.specs.Contract.{Marked};
@@ -19,11 +18,12 @@ pub const UNIT_WORDS: usize = 5;
 
 pub const TABLE_WORDS: usize = MOST_UNITS * UNIT_WORDS;
 
+// C lends the table as words (include/carolsedge.h), so a unit is five of them, and no struct of its own lies there.
 pub type Table = [u64; TABLE_WORDS];
 
 // What is kept beside the table: the number of units, the counter that the next gap is measured from, and the totals
 // over all units.
-#[derive(Clone, Copy)]
+#[derive(Clone, Copy, Default)]
 pub struct Units {
     pub count: u64,
     pub previous: u64,
@@ -67,30 +67,12 @@ fn put_unit(table: &mut Table, j: usize, u: Unit)
     table[at + 4] = u.damaged;
 }
 
-fn lesser(a: u64, b: u64) -> u64
-    ensures { result ≡ smaller a b }
-{
-    if a <= b {
-        return a;
-    }
-    b
-}
-
-fn greater(a: u64, b: u64) -> u64
-    ensures { result ≡ larger a b }
-{
-    if a <= b {
-        return b;
-    }
-    a
-}
-
 // What a cell shows as lost: the first one shows nothing, and so does one with a splice mark.
 fn loss(s: Units, c: Cell) -> u64
     ensures { result ≡ loss_of s c }
 {
     if s.count == 0 {
-        return 0; // no cell stands before the first
+        return 0; // no cell comes before the first
     }
     if c.splice {
         return 0;
@@ -105,7 +87,7 @@ fn begun(time: u64, lost: u64) -> Unit
         least: time,
         greatest: time,
         packets: 1,
-        lost: lost,
+        lost,
         damaged: 0,
     }
 }
@@ -113,14 +95,12 @@ fn begun(time: u64, lost: u64) -> Unit
 fn joined(u: Unit, time: u64, lost: u64) -> Unit
     ensures { result ≡ joined_by u time lost }
 {
-    let packets = std::num::wrapping_add_u64(u.packets, 1);
-    let sum = std::num::wrapping_add_u64(u.lost, lost);
     Unit {
-        least: lesser(u.least, time),
-        greatest: greater(u.greatest, time),
-        packets: packets,
-        lost: sum,
-        damaged: u.damaged,
+        least: u.least.min(time),
+        greatest: u.greatest.max(time),
+        packets: u.packets.wrapping_add(1),
+        lost: u.lost.wrapping_add(lost),
+        ..u
     }
 }
 
@@ -128,22 +108,21 @@ fn joined(u: Unit, time: u64, lost: u64) -> Unit
 fn marked(u: Unit) -> Unit
     ensures { result ≡ marked_by u }
 {
-    let mut r = u;
-    r.damaged = std::num::wrapping_add_u64(u.damaged, 1);
-    r
+    Unit {
+        damaged: u.damaged.wrapping_add(1),
+        ..u
+    }
 }
 
 // What is kept once the cell is in one of `count` units.
 fn taken(s: Units, count: u64, counter: u64, lost: u64) -> Units
     ensures { result ≡ taken_into s count counter lost }
 {
-    let packets = std::num::wrapping_add_u64(s.packets, 1);
-    let sum = std::num::wrapping_add_u64(s.lost, lost);
     Units {
-        count: count,
+        count,
         previous: counter,
-        packets: packets,
-        lost: sum,
+        packets: s.packets.wrapping_add(1),
+        lost: s.lost.wrapping_add(lost),
     }
 }
 
@@ -151,47 +130,45 @@ fn taken(s: Units, count: u64, counter: u64, lost: u64) -> Units
 fn begin(table: &mut Table, s: Units, c: Cell) -> Units
     ensures { Begun table.old s c result table.new }
 {
-    let count = s.count;
-    if MOST_UNITS as u64 <= count {
+    if MOST_UNITS as u64 <= s.count {
         return s;
     }
     let lost = loss(s, c);
-    put_unit(table, count as usize, begun(c.time, lost));
-    taken(s, count + 1, c.counter, lost)
+    put_unit(table, s.count as usize, begun(c.time, lost));
+    taken(s, s.count + 1, c.counter, lost)
+}
+
+// The number of the last unit, where the table has one.
+fn last(s: Units) -> Option<usize>
+    ensures { MatchOption result ((s.count ≡ 0) ⊎ (750 < s.count)) (λ j. (s.count ≡ j + 1) × (j < 750)) }
+{
+    if s.count == 0 || s.count > MOST_UNITS as u64 {
+        return None;
+    }
+    Some((s.count - 1) as usize)
 }
 
 // A cell of the last unit.
 fn join(table: &mut Table, s: Units, c: Cell) -> Units
     ensures { Joined table.old s c result table.new }
 {
-    let count = s.count;
-    if count < 1 {
+    let Some(j) = last(s) else {
         return s;
-    }
-    if (MOST_UNITS as u64) < count {
-        return s;
-    }
-    let j = (count - 1) as usize;
+    };
     let lost = loss(s, c);
     let u = unit_at(table, j);
     put_unit(table, j, joined(u, c.time, lost));
-    taken(s, count, c.counter, lost)
+    taken(s, s.count, c.counter, lost)
 }
 
-// A damaged cell, in the last of `count` units: the state beside the table stays.
+// A damaged cell, in the last unit: the state beside the table stays.
 fn mark(table: &mut Table, s: Units)
     ensures { Marked table.old s table.new }
 {
-    let count = s.count;
-    if count < 1 {
-        return;
+    if let Some(j) = last(s) {
+        let u = unit_at(table, j);
+        put_unit(table, j, marked(u));
     }
-    if (MOST_UNITS as u64) < count {
-        return;
-    }
-    let j = (count - 1) as usize;
-    let u = unit_at(table, j);
-    put_unit(table, j, marked(u));
 }
 
 // Takes a cell of PID in, from the first on that is not damaged. One that would begin a 751st unit changes nothing.
@@ -201,8 +178,7 @@ pub fn add_cell(table: &mut Table, s: Units, c: Cell) -> Units
     if s.count == 0 {
         return begin(table, s, c);
     }
-    let k = c.condition;
-    if is_damaged(k) { // it begins no unit, whatever its start mark
+    if is_damaged(c.condition) { // it begins no unit, whatever its start mark
         mark(table, s);
         return s;
     }
@@ -219,14 +195,11 @@ pub fn is_full(s: Units, c: Cell) -> bool
     if s.count < MOST_UNITS as u64 {
         return false;
     }
-    let k = c.condition;
-    if is_damaged(k) {
-        return false;
-    }
-    c.start
+    !is_damaged(c.condition) && c.start
 }
 
-// The row of unit j, as a record has it.
+// The row of unit j, as a record has it. Zeros past the table, and no Option: it cannot fail, and its caller asks for
+// units that there are.
 pub fn row(table: &Table, j: usize) -> UnitRow
     ensures { Row table.now j result }
 {
@@ -241,16 +214,13 @@ pub fn row(table: &Table, j: usize) -> UnitRow
         };
     }
     let u = unit_at(table, j);
-    let packets = u.packets % 4294967296;
-    let size = 184 * packets % 4294967296;
-    let lost = u.lost % 4294967296;
-    let damaged = u.damaged % 4294967296;
+    let packets = figures::low(u.packets);
     UnitRow {
         least: u.least,
         greatest: u.greatest,
-        size: size as u32,
-        packets: packets as u32,
-        lost: lost as u32,
-        damaged: damaged as u32,
+        size: figures::low(184 * u64::from(packets)),
+        packets,
+        lost: figures::low(u.lost),
+        damaged: figures::low(u.damaged),
     }
 }

@@ -4,8 +4,7 @@
 // a cell, that lies whole in a piece is read where it lies.
 #![tactic(auto)]
 
-ghost use Rattle.std.specs.Prelude.{◌≡◌, false, ◌<◌, length};
-ghost use Rattle.capture_steps.specs.declared.types.Event.TheVariants.{Nothing};
+ghost use Rattle.std.specs.Prelude.{◌≡◌, ◌<◌, length};
 ghost use Rattle.capture_walk.specs.Contract.{Opened, Asks, Turned, Stepped};
 
 use capture_frames::{on_frame, whole_size};
@@ -20,18 +19,15 @@ use capture_steps::{refused, span, step};
 pub fn open(words: &mut WalkWords, kept: &mut Collected)
     ensures { Opened words.new kept.new }
 {
-    *words = [0u64; 16];
-    *kept = [0u8; 64];
+    *words = [0; WALK_WORDS];
+    *kept = [0; COLLECTED_BYTES];
 }
 
-// Whether the capture ends inside its header or a frame, if no refusal stands.
+// Whether the capture ends inside its header or a frame, if there is no refusal.
 pub fn inside(s: Walk) -> bool
     ensures { Asks s result }
 {
-    if s.fed < 24 { // the file's header
-        return true;
-    }
-    0 < s.at
+    s.fed < 24 || 0 < s.at // in the file's header, or in a frame
 }
 
 // The bytes of a piece from byte i on, up to the next place where something is decided.
@@ -39,43 +35,30 @@ fn turn(kept: &mut Collected, s: Walk, piece: &[u8], i: usize) -> Step
     requires { (s.status ≡ 0) × (s.fed < 268435456) × (i < length piece.now) }
     ensures { Turned kept.old s piece.now i kept.new result }
 {
-    let whole = whole_size(s, &piece[i..]);
-    if 0 < whole {
+    if let Some(whole) = whole_size(s, &piece[i..]) {
         return on_frame(s, piece, i, whole);
     }
-    let n = span(s, (piece.len() - i) as u64);
+    let n = span(s, (piece.len() - i) as u64) as usize;
+    let part = &piece[i..i + n];
     if s.fed < 24 {
-        return on_file(kept, s, piece, i, n);
+        return on_file(kept, s, part);
     }
     if s.at < 16 {
-        return on_header(kept, s, piece, i, n);
+        return on_header(kept, s, part);
     }
     if s.at < 58 {
-        return on_front(kept, s, piece, i, n);
+        return on_front(kept, s, part);
     }
     if s.left == 0 {
-        return on_tail(kept, s, piece, i, n);
+        return on_tail(kept, s, part);
     }
-    let m = run_size(s, &piece[i..]);
-    if 0 < m {
+    if let Some(m) = run_size(s, &piece[i..]) {
         return on_run(kept, s, piece, i, m);
     }
     if s.got < 4 {
-        return on_first(kept, s, piece, i, n);
+        return on_first(kept, s, part);
     }
-    on_rest(kept, s, piece, i, n)
-}
-
-fn is_news(e: Event) -> bool
-    ensures { result ≡ false → e ≡ Nothing }
-{
-    match e {
-        Event::Nothing => false,
-        Event::Shown(_) => true,
-        Event::Whole(_) => true,
-        Event::Cells(_) => true,
-        Event::Refused => true,
-    }
+    on_rest(kept, s, part)
 }
 
 // The next bytes of a piece, from byte i on: up to those that bring something, or all of them. Turns that bring
@@ -86,6 +69,7 @@ pub fn next(kept: &mut Collected, s: Walk, piece: &[u8], i: usize) -> Step
 {
     let mut w = s;
     let mut at = i;
+    // no `for`: each turn says how many bytes it took
     while at < piece.len() {
         if w.status != 0 {
             return step(piece.len() - i, w, Event::Refused);
@@ -98,12 +82,10 @@ pub fn next(kept: &mut Collected, s: Walk, piece: &[u8], i: usize) -> Step
             return step(piece.len() - i, t, Event::Refused);
         }
         let r = turn(kept, w, piece, at);
-        let e = r.event;
-        let v = r.walk;
-        w = v;
+        w = r.walk;
         at += r.taken;
-        if is_news(e) {
-            return step(at - i, w, e);
+        if !matches!(r.event, Event::Nothing) {
+            return step(at - i, w, r.event);
         }
     }
     step(at - i, w, Event::Nothing)

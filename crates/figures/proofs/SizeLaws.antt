@@ -1,9 +1,9 @@
 -- Opening: the level and the sizes that follow from it, of any height and width.
-use Prim.Native.Nat.{ℕ, zero, suc, ◌*◌, ◌/◌, ◌%◌, ◌^◌, ◌≤◌}
+use Prim.Native.Nat.{ℕ, zero, suc, ◌-◌, ◌*◌, ◌/◌, ◌%◌, ◌^◌, ◌≤◌, ◌<◌}
 use native.Mathlib.Omega.{arith}
 use native.Mathlib.Nat.{pow-suc, le_refl, lt_of_not-le, mul-mul-mul_comm, one-mul}
 use native.Mathlib.Decide.{dec_le}
-use mathlib.Core.Path.{◌≡◌, refl, ◌∙◌}
+use mathlib.Core.Path.{◌≡◌, refl, ap, ◌∙◌}
 use lib.Pow.{shl_exact}
 use borrow.Author.Tests.{le-leb, lt-leb}
 use Rattle.rules.specs.declared.Opening.{Opening}
@@ -21,6 +21,18 @@ level-most (suc n) h = go (dec_le 30 (h / 2 ^ suc n)) (level-most n h)
     go : Dec (30 ≤ h / 2 ^ suc n) → level_up_to n h ≤ n → level_up_to (suc n) h ≤ suc n
     go (yes y) below = rw (le-leb 30 (h / 2 ^ suc n) y) (le_refl (suc n))
     go (no y) below = rw (lt-leb 30 (h / 2 ^ suc n) (lt_of_not-le y)) (omega arith)
+
+-- level n, where 30 lines or more are left, or fewer
+pub level-here : (n h : ℕ) → 1 ≤ n → 30 ≤ h / 2 ^ n → level_up_to n h ≡ n
+unfolding level_up_to
+level-here zero h p q = absurd (omega arith)
+level-here (suc n) h p q = rw (le-leb 30 (h / 2 ^ suc n) q)
+
+pub level-below : (n h : ℕ) → 1 ≤ n → h / 2 ^ n < 30 → level_up_to n h ≡ level_up_to (n - 1) h
+unfolding level_up_to
+level-below zero h p q = absurd (omega arith)
+level-below (suc n) h p q =
+    rw (lt-leb 30 (h / 2 ^ suc n) q) (ap (λ (m : ℕ). level_up_to m h) (omega arith))
 
 -- 2^k as the code shifts it, and its square
 pub shifted : (k : ℕ) → k ≤ 5 → 1 * 2 ^ k % 2 ^ 64 ≡ 2 ^ k

@@ -9,6 +9,6 @@ mod refusals;
 
 pub use editions::{heeds_splices, is_edition, knows_damage, rounds_to_nearest};
 pub use gaps::gap_loss;
-pub use numbers::{apart, low, smaller, wide};
+pub use numbers::low;
 pub use opening::{Sizes, good_pid, good_size, good_time, opening_fault, sizes_of};
 pub use refusals::listed_number;

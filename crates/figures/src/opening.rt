@@ -7,29 +7,33 @@ use crate::editions::is_edition;
 use rules::Opening;
 
 // Not refused by 1.
+#[tactic(auto, unfolding(rules::specs::Opening::good_size))]
 pub fn good_size(width: u32, height: u32) -> bool
     ensures { result ≡ good_size width height }
 {
     let w = width as u64;
     let h = height as u64;
-    (30 <= h) & (h <= 1088) & ((15 <= w) & (w <= 1920)) & (h <= 2 * w) & (w <= 4 * h)
+    (30..=1088).contains(&h) && (15..=1920).contains(&w) && h <= 2 * w && w <= 4 * h
 }
 
 // Not refused by 2.
+#[tactic(auto, unfolding(rules::specs::Opening::good_time))]
 pub fn good_time(time: u32) -> bool
     ensures { result ≡ good_time time }
 {
-    (10000 <= time) & (time <= 200000)
+    (10000..=200000).contains(&time)
 }
 
 // Not refused by 3.
+#[tactic(auto, unfolding(rules::specs::Opening::good_pid))]
 pub fn good_pid(pid: u32) -> bool
     ensures { result ≡ good_pid pid }
 {
     pid <= 8191
 }
 
-// The number of the opening's refusal, 0 for none.
+// The number of the opening's refusal, 0 for none: a number and no Option, since the luma side keeps it so in a word
+// of its lent state (`OpeningFault`).
 #[tactic(auto, unfolding(rules::specs::Opening::opening_fault))]
 pub fn opening_fault(o: Opening) -> u64
     ensures { OpeningFault o result }
@@ -65,19 +69,12 @@ pub struct Sizes {
 fn level(height: u64) -> u64
     ensures { result ≡ level_up_to 5 height }
 {
-    if 30 <= height / 32 {
-        5
-    } else if 30 <= height / 16 {
-        4
-    } else if 30 <= height / 8 {
-        3
-    } else if 30 <= height / 4 {
-        2
-    } else if 30 <= height / 2 {
-        1
-    } else {
-        0
+    for k in (1..6).rev() {
+        if 30 <= height >> k {
+            return k;
+        }
     }
+    0
 }
 
 pub fn sizes_of(o: Opening) -> Sizes

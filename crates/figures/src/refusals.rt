@@ -6,11 +6,9 @@ ghost use Rattle.rules.specs.Refusals.{listed};
 pub fn listed_number(number: u64) -> u64
     ensures { result ≡ listed number }
 {
-    if number < 1 {
-        return 18;
+    if (1..=rules::LAST_NUMBER).contains(&number) {
+        number
+    } else {
+        18
     }
-    if rules::LAST_NUMBER < number {
-        return 18;
-    }
-    number
 }

@@ -1,5 +1,5 @@
 -- The entries that the code keeps: what one gap more makes of them.
-use Rattle.std.specs.Prelude.{ℕ, ◌-◌, ◌^◌, ◌≤◌, ◌<◌, List, ◌∷◌, ◌++◌, map, length, get_or, drop, replicate, leb}
+use Rattle.std.specs.Prelude.{ℕ, ◌-◌, ◌^◌, ◌≤◌, ◌<◌, List, ◌∷◌, map, length, get_or, replicate, leb}
 use Rattle.rules.specs.Bytes.{pick, total, table}
 use Rattle.rules.specs.GapRuns.{gap_lost, gaps}
 
@@ -17,9 +17,9 @@ pub record Small (size : ℕ) (xs : List ℕ) : Type 0 where
   pub few : (k : ℕ) → k < size → get_or xs k 0 ≤ 2 ^ 56
 
 -- of no gap: one run that loses 0
-abbrev pub started : ℕ → List ℕ → List ℕ
-started size xs = (1 ∷ replicate (size - 1) 0) ++ drop size xs
+abbrev pub started : ℕ → List ℕ
+started size = 1 ∷ replicate (size - 1) 0
 
--- each of the first entries with one gap more
-abbrev pub grown : ℕ → List ℕ → List ℕ
-grown size xs = table size 0 (one_more xs) ++ drop size xs
+-- each entry with one gap more
+abbrev pub grown : List ℕ → List ℕ
+grown xs = table (length xs) 0 (one_more xs)

@@ -5,86 +5,72 @@ ghost use Rattle.std.specs.Prelude.{◌≡◌, ◌+◌, ◌<◌, ◌≤◌, leng
 ghost use Rattle.rules.specs.GapRuns.{gap_lost, TableGiven};
 ghost use Rattle.gap_runs.specs.Entries.{entry_at, one_more, Small, started, grown};
 
-use rules::Answer;
+use rules::Refusal;
 
 // What a gap loses.
 fn gap_lost(g: usize) -> usize
     requires { g < 16 }
     ensures { result ≡ gap_lost g }
 {
-    if 1 < g { g - 1 } else { 0 }
+    g.saturating_sub(1)
 }
 
 // The entry of what is left of l, or 0 if less than that is left.
-fn entry_at(table: &[u64], l: usize, lost: usize) -> u64
-    requires { l < length table.now }
-    ensures { result ≡ entry_at table.now l lost }
+fn entry_at(entries: &[u64], l: usize, lost: usize) -> u64
+    requires { l < length entries.now }
+    ensures { result ≡ entry_at entries.now l lost }
 {
-    if lost <= l { table[l - lost] } else { 0 }
+    if lost <= l { entries[l - lost] } else { 0 }
 }
 
 // Entry l with one gap more, which may be any of 16.
-fn one_more(table: &[u64], l: usize) -> u64
-    requires { Small (l + 1) table.now }
-    ensures { result ≡ one_more table.now l }
+fn one_more(entries: &[u64], l: usize) -> u64
+    requires { Small (l + 1) entries.now }
+    ensures { result ≡ one_more entries.now l }
 {
     let mut sum = 0;
-    let mut g = 0;
-    while g < 16 {
-        sum += entry_at(table, l, gap_lost(g));
-        g += 1;
+    for g in 0..16 {
+        sum += entry_at(entries, l, gap_lost(g));
     }
     sum
 }
 
 // The entries of no gap: one run that loses 0.
-fn start(table: &mut [u64], size: usize)
-    requires { (1 ≤ size) × (size ≤ length table.old) }
-    ensures { table.new ≡ started size table.old }
+fn start(entries: &mut [u64])
+    requires { 1 ≤ length entries.old }
+    ensures { entries.new ≡ started (length entries.old) }
 {
-    let mut l = 0;
-    while l < size {
-        table[l] = 0;
-        l += 1;
-    }
-    table[0] = 1;
+    entries.fill(0);
+    entries[0] = 1;
 }
 
 // The entries with one gap more, from the last to the first, so that each finds those before it as they were.
-fn grow(table: &mut [u64], size: usize)
-    requires { Small size table.old }
-    ensures { table.new ≡ grown size table.old }
+fn grow(entries: &mut [u64])
+    requires { Small (length entries.old) entries.old }
+    ensures { entries.new ≡ grown entries.old }
 {
-    let mut l = size;
-    while 0 < l {
-        l -= 1;
-        table[l] = one_more(table, l);
+    for l in (0..entries.len()).rev() {
+        entries[l] = one_more(entries, l);
     }
 }
 
 // For each total from 0 to 14 n, how many runs of n gaps lose it. Answers the number of entries, or refuses:
-// 24 for n above 15, then 15 for a table shorter than that, its place the number needed. Entries past these stand.
-pub fn gap_table(n: u32, table: &mut [u64]) -> Answer
+// 24 for n above 15, then 15 for a table shorter than that, its place the number needed. Entries past these are as
+// they were.
+pub fn gap_table(n: u32, table: &mut [u64]) -> Result<u64, Refusal>
     ensures { TableGiven n table.old result table.new }
 {
     if 15 < n {
-        return Answer::Refused {
-            number: 24,
-            place: 0,
-        };
+        return Err(Refusal::LONG_GAPS);
     }
     let size = 14 * n as usize + 1;
     if table.len() < size {
-        return Answer::Refused {
-            number: 15,
-            place: size as u64,
-        };
+        return Err(Refusal::no_room(size as u64));
     }
-    start(table, size);
-    let mut m = 0;
-    while m < n {
-        grow(table, size);
-        m += 1;
+    let entries = &mut table[..size];
+    start(entries);
+    for _ in 0..n {
+        grow(entries);
     }
-    Answer::Done(size as u64)
+    Ok(size as u64)
 }

@@ -1,6 +1,7 @@
 -- What an index taken of any counts is, test by test.
 use Prim.Native.Nat.{ℕ, ◌≤◌, ◌<◌}
 use mathlib.Core.Path.{◌≡◌, subst⁻¹}
+use Rattle.std.proofs.Common.{◌⊎◌, inl, inr}
 use mathlib.Core.Bool.{not}
 use lib.Dec.{T}
 use lib.Ieee.{is_nan, of_int}
@@ -18,23 +19,19 @@ numbered : (i : Index) → i ≡ no_index → NoNan i
 numbered i e = subst⁻¹ NoNan e (record { ic = zero_number; ip = zero_number; value = zero_number })
 
 module _ (u n p l : ℕ) (i : Index) where
-  pub no-picture : n < 1 → i ≡ no_index → IndexFrom u n p l i
-  no-picture h e = record { is = rw (lt-leb 1 n h) e; numbers = numbered i e }
+  -- none, where a test fails: the last, the second or the first
+  pub none : ((1 ≤ n) × (u ≤ n) × (p < 1)) ⊎ (((1 ≤ n) × (n < u)) ⊎ (n < 1)) → i ≡ no_index → IndexFrom u n p l i
+  none (inl (h, k, few)) e =
+      record { is = rw (le-leb 1 n h, le-leb u n k, lt-leb 1 p few) e; numbers = numbered i e }
+  none (inr (inl (h, few))) e = record { is = rw (le-leb 1 n h, lt-leb u n few) e; numbers = numbered i e }
+  none (inr (inr few)) e = record { is = rw (lt-leb 1 n few) e; numbers = numbered i e }
 
-  module _ (h₁ : 1 ≤ n) where
-    pub too_many : n < u → i ≡ no_index → IndexFrom u n p l i
-    too_many h e = record { is = rw (le-leb 1 n h₁, lt-leb u n h) e; numbers = numbered i e }
-
-    module _ (h₂ : u ≤ n) where
-      pub no-packet : p < 1 → i ≡ no_index → IndexFrom u n p l i
-      no-packet h e = record { is = rw (le-leb 1 n h₁, le-leb u n h₂, lt-leb 1 p h) e; numbers = numbered i e }
-
-      pub taken : Counts u n p l → i ≡ index_of u n p l → IndexFrom u n p l i
-      taken k e =
-          record {
-            is = rw (le-leb 1 n h₁, le-leb u n h₂, le-leb 1 p k.some_packets) e;
-            numbers = subst⁻¹ NoNan e (no_nan (exact-counts k));
-          }
+  pub taken : Counts u n p l → i ≡ index_of u n p l → IndexFrom u n p l i
+  taken k e =
+      record {
+        is = rw (le-leb 1 n k.some_pictures, le-leb u n k.of_them, le-leb 1 p k.some_packets) e;
+        numbers = subst⁻¹ NoNan e (no_nan (exact-counts k));
+      }
 
 -- of counts that a sample can have it is the rule's
 pub index_is : {u n p l : ℕ} {i : Index} → Counts u n p l → IndexFrom u n p l i → i ≡ index_of u n p l

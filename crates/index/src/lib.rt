@@ -8,7 +8,7 @@ ghost use Rattle.index.specs.Counts.{no_index, IndexFrom};
 
 use rules::Index;
 
-// Zeros, where there is no index.
+// Zeros, where there is no index. No Option: `index_from` cannot fail, and `IndexFrom` says zeros.
 fn no_index() -> Index
     ensures { result ≡ no_index }
 {
@@ -34,37 +34,27 @@ pub fn index_of_totals(unrepeated: u64, pictures: u64, packets: u64, lost: u64) 
     Index { ic, ip, value }
 }
 
-fn index_of(unrepeated: u32, pictures: u32, packets: u32, lost: u32) -> Index
-    ensures { result ≡ index_of unrepeated pictures packets lost }
-{
-    index_of_totals(
-        unrepeated as u64,
-        pictures as u64,
-        packets as u64,
-        lost as u64,
-    )
-}
-
 // The index of any counts: the rule's of those that a sample can have, zeros of others.
 pub fn index_from(unrepeated: u32, pictures: u32, packets: u32, lost: u32) -> Index
     ensures { IndexFrom unrepeated pictures packets lost result }
 {
-    if pictures < 1 {
-        return no_index();
+    if 1 <= pictures && unrepeated <= pictures && 1 <= packets {
+        index_of_totals(
+            unrepeated as u64,
+            pictures as u64,
+            packets as u64,
+            lost as u64,
+        )
+    } else {
+        no_index()
     }
-    if pictures < unrepeated {
-        return no_index();
-    }
-    if packets < 1 {
-        return no_index();
-    }
-    index_of(unrepeated, pictures, packets, lost)
 }
 
 // The index's 64 bits.
+#[tactic(auto, unfolding(rules::specs::Index::index_bits))]
 pub fn index_bits(i: Index) -> u64
     requires { T (not (is_nan i.value)) }
     ensures { result ≡ index_bits i }
 {
-    f64::to_bits(i.value)
+    i.value.to_bits()
 }

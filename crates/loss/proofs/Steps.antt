@@ -1,42 +1,22 @@
--- One step of each walk over one list, an element cleared or tested; and a whole call.
-use Prim.Native.Nat.{ℕ, ◌+◌, ◌≤◌, ◌<◌}
-use native.Mathlib.Omega.{arith}
-use native.Mathlib.Numerals.{add-one}
+-- The code's zero, lengths that are not refused, and a whole call.
+use Prim.Native.Nat.{ℕ, ◌≤◌}
 use mathlib.Core.Path.{◌≡◌, refl}
-use mathlib.Core.List.{List, ◌++◌, append-nil}
-use mathlib.Core.Bool.{Bool, true, ◌&&◌}
-use lib.ListN.{length, drop, get_or, replicate, drop_of_length-le}
-use lib.Seq.{drop-cons}
+use mathlib.Core.List.{List}
+use mathlib.Core.Bool.{true, ◌&&◌}
+use lib.ListN.{length, replicate}
 use lib.Dec.{eqb}
-use lib.Ieee.{Float, nan, binary64, of_bits, of_int}
+use lib.Ieee.{Float, binary64, of_bits, of_int}
 use borrow.Author.Tests.{eqb-true}
 use Rattle.rules.specs.Bytes.{within}
-use Rattle.rules.specs.declared.Answer.TheVariants.{Done}
+use Rattle.std.specs.Prelude.{Ok}
 use Rattle.rules.proofs.Laws.Lists.{inside, both as ands}
-use Rattle.rules.specs.EffectiveLoss.{zero64, Lists, both, unit_losses, is_probability}
+use Rattle.rules.specs.EffectiveLoss.{zero64, Lists, both, unit_losses}
 use Rattle.rules.specs.EffectiveLoss.{are_probabilities, effective_loss, good_lengths, loss_fault, loss_answer}
 use Rattle.rules.specs.EffectiveLoss.{filled}
 
 pub zero_is : of_bits binary64 0 ≡ zero64
 unfolding of_bits of_int
 zero_is = refl
-
--- ---- all cleared
-
-pub cleared-all : (ys : List Float) (j : ℕ) → j ≡ length ys →
-    replicate j zero64 ++ drop j ys ≡ replicate (length ys) zero64
-cleared-all ys j h = rw (drop_of_length-le ys {i = j} (omega arith), append-nil, h)
-
--- ---- probabilities
-
-pub probable-more : (ps : List Float) (j : ℕ) (b : Bool) → j < length ps → b ≡ is_probability (get_or ps j nan) →
-    are_probabilities (drop j ps) ≡ (b && are_probabilities (drop (j + 1) ps))
-unfolding are_probabilities
-probable-more ps j b h e = rw (drop-cons ps j nan h, e, add-one)
-
-pub probable-all : (ps : List Float) (j : ℕ) → length ps ≤ j → are_probabilities (drop j ps) ≡ true
-unfolding are_probabilities
-probable-all ps j h = rw (drop_of_length-le ps {i = j} h)
 
 -- ---- a whole call
 
@@ -53,7 +33,7 @@ lengths-are n a b c d h =
 module _ (n : ℕ) (ns : List ℕ) (ps : List Float) (before : Lists)
     (good : good_lengths n (length ns) (length ps) (length before.key_frame) (length before.plain) ≡ true)
     (probable : are_probabilities ps ≡ true) where
-  pub done-answer : Done n ≡ loss_answer n ns ps before
+  pub done-answer : Ok n ≡ loss_answer n ns ps before
   unfolding loss_answer loss_fault
   done-answer = rw (good, probable)
 

@@ -15,7 +15,7 @@ use lib.Ieee.Scale.{round_same}
 use borrow.Author.Tests.{le-ltb}
 use Rattle.rules.specs.Bytes.{pick, All, empty, and}
 use Rattle.rules.specs.Refusals.{unless, ◌or_else◌, answer}
-use Rattle.rules.specs.declared.Answer.TheVariants.{Done}
+use Rattle.std.specs.Prelude.{Ok}
 use Rattle.rules.specs.Index.{float}
 use Rattle.rules.proofs.Laws.Lists.{all_drop, all_take, both as ands, all_append}
 use Rattle.index.proofs.Bound.{AtMost, at_most, Is, is, finite, whole, under, small, upper, round-at-most}
@@ -23,10 +23,9 @@ use Rattle.index.proofs.Bound.{add-at-most, mul-at-most}
 use Rattle.rules.specs.declared.Loss.TheVariants.{KeyFrame, Plain}
 use Rattle.rules.specs.EffectiveLoss.{zero64, one64, hundredth, half, KeyFrameAt, key_frames, Part, shares, Lists}
 use Rattle.rules.specs.EffectiveLoss.{both, added_at, loss_of, put, spread_loss, unit_loss, unit_losses}
-use Rattle.rules.specs.EffectiveLoss.{is_probability}
-use Rattle.rules.specs.EffectiveLoss.{are_probabilities, effective_loss, good_lengths, loss_fault, loss_answer}
-use Rattle.rules.specs.EffectiveLoss.{filled}
-use Rattle.rules.specs.EffectiveLoss.{Sound, AlwaysSound, CallsSound, WithoutLoss, reaching, ToTheEnd}
+use Rattle.rules.specs.EffectiveLoss.{is_probability, are_probabilities, effective_loss, good_lengths, loss_fault}
+use Rattle.rules.specs.EffectiveLoss.{loss_answer, filled, Sound, AlwaysSound, CallsSound, WithoutLoss, reaching}
+use Rattle.rules.specs.EffectiveLoss.{ToTheEnd}
 use Rattle.loss.proofs.Steps.{lengths-are}
 
 -- ---- without a loss
@@ -230,7 +229,7 @@ always-sound n ns ps few short h =
 
 -- ---- calls
 
-not-refused : (g p : Bool) (n m : ℕ) → Done m ≡ answer (unless g 22 or_else unless p 23) n → (g ≡ true) × (p ≡ true)
+not-refused : (g p : Bool) (n m : ℕ) → Ok m ≡ answer (unless g 22 or_else unless p 23) n → (g ≡ true) × (p ≡ true)
 not-refused true true n m e = (refl, refl)
 not-refused true false n m e = absurd (let z : ◌≡◌ {A = ℕ} 0 1 = cc in omega arith)
 not-refused false p n m e = absurd (let z : ◌≡◌ {A = ℕ} 0 1 = cc in omega arith)

@@ -7,9 +7,10 @@ use mathlib.Core.Path.{◌≡◌, refl, sym, ap, ◌∙◌}
 use mathlib.Core.List.{List, [], ◌∷◌, ◌++◌, map, map-append, append_assoc, append-nil}
 use mathlib.Core.Bool.{true, false, true≢false}
 use mathlib.Core.Logic.{⊎_elim}
-use lib.ListN.{length, take, drop, get_or, set, length-append, length-take, length-drop, length-map}
-use lib.ListN.{take-append-drop, drop_of_length-le, get_or-eq_default}
-use lib.Seq.{take-suc, drop-cons, get_or-drop, get_or_at, set_at, append_snoc}
+use lib.ListN.{length, take, drop, get_or, set, length-take, length-map}
+use lib.ListN.{drop_of_length-le, get_or-eq_default}
+use lib.Seq.{take-suc, drop-cons, get_or_at, set_at, append_snoc, take_all, drop-drop}
+use borrow.Rule.Slice.PartMut.{put_mid}
 use lib.Dec.{leb}
 use lib.Ieee.{Float, nan, binary64, round, of_bits, of_int, add, sub, mul, lt}
 use borrow.Author.Tests.{le-leb, lt-leb, lt-ltb, le-ltb}
@@ -40,49 +41,35 @@ pub half_is : of_bits binary64 0x3FE0000000000000 ≡ half
 unfolding of_bits half round
 half_is = refl
 
--- ---- x added at i up to j
+-- ---- x added to the first j of some elements
 
-module _ (ys : List Float) (x : Float) (i : ℕ) where
-  pub added_none : added_at i i x ys ≡ ys
-  unfolding added_at
-  added_none =
-      let none : i - i ≡ 0 = omega arith in
-      rw (none, append-nil) (take-append-drop i ys)
+module _ (f : Float → Float) (ys : List Float) (j : ℕ) where
+  pub mapped_more : j < length ys → set (map f (take j ys) ++ drop j ys) j
+      (f (get_or (map f (take j ys) ++ drop j ys) j nan)) ≡ map f (take (j + 1) ys) ++ drop (j + 1) ys
+  mapped_more h =
+      let front = map f (take j ys) in
+      let long : length front ≡ j = simp (length-map, length-take) (omega arith) in
+      let y = get_or ys j nan in
+      let rest = drop (suc j) ys in
+      rw (
+        drop-cons ys j nan h,
+        get_or_at front y rest nan j long,
+        set_at front y rest (f y) j long,
+        add-one,
+        take-suc ys j nan h,
+        map-append,
+      )
+      (sym (append_snoc front (f y) rest))
 
-  module _ (j : ℕ) (i≤j : i ≤ j) (j< : j < length ys) where
-    -- what stands before j, and the element there
-    front : List Float
-    front = take i ys ++ map (λ y. add binary64 y x) (span i j ys)
+  pub mapped_all : length ys ≤ j → map f (take j ys) ++ drop j ys ≡ map f ys
+  mapped_all h = rw (take_all j ys h, drop_of_length-le ys {i = j} h) (append-nil (map f ys))
 
-    front_length : length front ≡ j
-    unfolding front
-    front_length = simp (length-append, length-map, length-take, length-drop) (omega arith)
-
-    front-more : take i ys ++ map (λ y. add binary64 y x) (span i (j + 1) ys) ≡ front
-        ++ (add binary64 (get_or ys j nan) x ∷ [])
-    unfolding front
-    front-more =
-        let more : j + 1 - i ≡ suc (j - i) = omega arith in
-        let inside : j - i < length (drop i ys) = simp length-drop (omega arith) in
-        let at : i + (j - i) ≡ j = omega arith in
-        rw (more, take-suc (drop i ys) (j - i) nan inside, get_or-drop i ys (j - i) nan, at, map-append)
-        (sym (append_assoc (take i ys) (map (λ y. add binary64 y x) (span i j ys)) _))
-
-    cut : added_at i j x ys ≡ front ++ get_or ys j nan ∷ drop (j + 1) ys
-    unfolding added_at front
-    cut = rw (drop-cons ys j nan j<, add-one)
-
-    pub added_more : set (added_at i j x ys) j (add binary64 (get_or (added_at i j x ys) j nan) x)
-        ≡ added_at i (j + 1) x ys
-    unfolding added_at
-    added_more =
-        rw (
-          cut,
-          get_or_at front (get_or ys j nan) (drop (j + 1) ys) nan j front_length,
-          set_at front (get_or ys j nan) (drop (j + 1) ys) (add binary64 (get_or ys j nan) x) j front_length,
-          front-more,
-        )
-        (sym (append_snoc front _ _))
+pub added_part : (i k : ℕ) (x : Float) (ys : List Float) → i ≤ k →
+    put_mid i (k - i) ys (map (λ y. add binary64 y x) (span i k ys)) ≡ added_at i k x ys
+unfolding added_at
+added_part i k x ys h =
+    let e : i + (k - i) ≡ k = omega arith in
+    rw (drop-drop (k - i) i ys, e) (sym (append_assoc (take i ys) (map (λ y. add binary64 y x) (span i k ys)) _))
 
 pub both-eq : {a b x y : List Float} → a ≡ x → b ≡ y → both a b ≡ both x y
 both-eq p q = cc

@@ -23,10 +23,8 @@ fn add(list: &mut [f64], i: usize, k: usize, x: f64)
     requires { (i ≤ k) × (k ≤ length list.old) }
     ensures { list.new ≡ added_at i k x list.old }
 {
-    let mut j = i;
-    while j < k {
-        list[j] = list[j] + x;
-        j += 1;
+    for y in &mut list[i..k] {
+        *y += x;
     }
 }
 
@@ -42,15 +40,11 @@ fn put(keys: &mut [f64], plain: &mut [f64], i: usize, k: usize, loss: Loss)
     }
 }
 
-// The probability of unit k, and behind the last unit 1.
+// The probability of unit k, and after the last unit 1.
 fn probability_at(probabilities: &[f64], k: usize) -> f64
     ensures { result ≡ get_or probabilities.now k one64 }
 {
-    if k < probabilities.len() {
-        probabilities[k]
-    } else {
-        1.0
-    }
+    probabilities.get(k).copied().unwrap_or(1.0)
 }
 
 // The losses of all units, upward. A unit's walk over later key frames is left early, once too little is left of it.
@@ -61,14 +55,12 @@ pub fn spread(losses: &[u32], probabilities: &[f64], keys: &mut [f64], plain: &m
         (both keys.old plain.old) }
 {
     let n = losses.len();
-    let mut i = 0;
-    while i < n {
+    for i in 0..n {
         let loss = losses[i];
         if loss > 0 {
             let own = probabilities[i];
             let mut rest = 1.0;
-            let mut k = i + 1;
-            while k <= n {
+            for k in i + 1..n + 1 {
                 let probability = probability_at(probabilities, k);
                 if probability > 0.01 {
                     if rest < 0.01 {
@@ -76,11 +68,9 @@ pub fn spread(losses: &[u32], probabilities: &[f64], keys: &mut [f64], plain: &m
                     }
                     let p = rest * probability;
                     put(keys, plain, i, k, loss_of(own, p * loss as f64));
-                    rest = rest * (1.0 - probability);
+                    rest *= 1.0 - probability;
                 }
-                k += 1;
             }
         }
-        i += 1;
     }
 }

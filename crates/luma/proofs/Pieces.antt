@@ -15,7 +15,6 @@ use Rattle.luma_rows.specs.declared.Taken.{Taken}
 use Rattle.luma_state.specs.State.{passing, Live, Sane, refused, live, Fits, Goes}
 use Rattle.luma_rows.specs.Contract.{Took, Taking}
 use Rattle.luma_rows.proofs.Rows.{at-passing, bytes_of}
-use Rattle.luma_picture.specs.Contract.{PictureEnded}
 use Rattle.luma.specs.Contract.{Finishing, Finished, Passed, Stepped, Ran, passed_on, stopped_at}
 
 -- ---- bytes of the surplus rows
@@ -82,33 +81,6 @@ passed g s {rest} {t} {r} taking line small some most few e sums bins picture =
 pub goes_none : (g : Grid) (s : Progress) (luma sums bins picture : List ℕ) →
     Goes g s luma sums bins picture [] s luma sums bins picture
 goes_none g s luma sums bins picture o joined v = rw append-nil v
-
-pub not-finished : (g : Grid) (t : Taken) {luma bins : List ℕ} → Finishing g t →
-    (t.state.line ≡ g.lines → 0 < t.state.left) → Finished g t luma bins t luma bins
-not-finished g t {luma} {bins} f h =
-    record {
-      used = refl;
-      sane = record { few = f.loose.few; line = f.loose.line; row = f.loose.row; col = f.loose.col; left = h };
-      goes = λ sums picture. goes_none g t.state luma sums bins picture;
-    }
-
-pub is-finished : (g : Grid) (t : Taken) {luma bins luma' bins' : List ℕ} {e : Progress} → Finishing g t →
-    PictureEnded g t.state luma bins e luma' bins' →
-    Finished g t luma bins (record { used = t.used; state = e }) luma' bins'
-is-finished g t f p =
-    record {
-      used = refl;
-      sane =
-          rw p.is
-          (record {
-            few = omega (arith, f.more);
-            line = omega arith;
-            row = λ h. f.fits.some;
-            col = λ h. omega (arith, f.fits.least);
-            left = λ h. absurd (omega (arith, f.fits.high));
-          });
-      goes = p.goes;
-    }
 
 -- ---- a step
 

@@ -4,9 +4,8 @@ use Rattle.std.proofs.Common.{sym, refl, ap, ◌∙◌, mul-le-mul_right, add-mu
 use Rattle.std.proofs.Common.{le-ltb}
 use native.Mathlib.Decide.{dec_le}
 use Rattle.rules.specs.declared.Opening.{Opening}
-use Rattle.rules.specs.declared.Answer.{Answer}
-use Rattle.rules.specs.declared.Answer.TheVariants.{Done, Refused}
-use Rattle.rules.specs.Refusals.{Fault, none, fault, ◌or_else◌}
+use Rattle.std.specs.Prelude.{Ok, Err}
+use Rattle.rules.specs.Refusals.{Answer, Fault, none, fault, ◌or_else◌}
 use Rattle.rules.specs.Opening.{opening_fault, open_answer}
 use Rattle.rules.specs.Pictures.{picture_size, luma_fault}
 use Rattle.rules.specs.Seal.{luma_answer}
@@ -22,12 +21,13 @@ use Rattle.luma_state.proofs.Kept.{fits-of, full-more, means-stored}
 
 -- ---- the opening
 
-pub open-refused : (o : Opening) (f : ℕ) → OpeningFault o f → (f ≡ 0 → ⊥) → Refused f 0 ≡ open_answer o
+pub open-refused : (o : Opening) (f : ℕ) → OpeningFault o f → (f ≡ 0 → ⊥) →
+    Err (record { number = f; place = 0 }) ≡ open_answer o
 unfolding open_answer
 open-refused o zero w n = absurd (n refl)
 open-refused o (suc k) w n = rw w.shown
 
-pub open_done : (o : Opening) (f : ℕ) → OpeningFault o f → f ≡ 0 → Done 0 ≡ open_answer o
+pub open_done : (o : Opening) (f : ℕ) → OpeningFault o f → f ≡ 0 → Ok 0 ≡ open_answer o
 unfolding open_answer
 open_done o f w z =
     let e : opening_fault o ≡ none = w.shown ∙ ap numbered z in
@@ -87,12 +87,13 @@ fault-kept o s t k p h = go (opening_fault o) h
     go none e = luma-kept o s t k p e
     go (fault a b) e = e
 
-pub reply-stopped : (s : Progress) (n : ℕ) → (s.status ≡ 0 → ⊥) → Replied s n (Refused s.status s.place)
+pub reply-stopped : (s : Progress) (n : ℕ) → (s.status ≡ 0 → ⊥) →
+    Replied s n (Err (record { number = s.status; place = s.place }))
 unfolding luma_answer
 reply-stopped s n h o luma sums bins picture joined (refused e k f) = rw e
 reply-stopped s n h o luma sums bins picture joined (live e sane v) = absurd (h v.status)
 
-pub reply-done : (s : Progress) (n : ℕ) → s.status ≡ 0 → Replied s n (Done n)
+pub reply-done : (s : Progress) (n : ℕ) → s.status ≡ 0 → Replied s n (Ok n)
 unfolding luma_answer
 reply-done s n h o luma sums bins picture joined (refused e k f) = absurd (omega arith)
 reply-done s n h o luma sums bins picture joined (live e sane v) = rw (e, no_fault o e sane v)
@@ -134,7 +135,8 @@ module _ {luma sums bins picture : List ℕ} (s : Progress) (is : s ≡ loaded l
 module _ {luma sums bins picture piece : List ℕ} (s : Progress) (is : s ≡ loaded luma) where
   -- a refusal stands
   pub feed-stopped : (s.status ≡ 0 → ⊥) →
-      FeedPost luma sums bins picture piece (Refused s.status s.place) luma sums bins picture
+      FeedPost luma sums bins picture piece (Err (record { number = s.status; place = s.place }))
+      luma sums bins picture
   feed-stopped n =
       record {
         means = λ o joined h. record { size = h.size; opening = h.opening; stands = still o joined h.stands };
@@ -149,11 +151,12 @@ module _ {luma sums bins picture piece : List ℕ} (s : Progress) (is : s ≡ lo
       still o joined (live e sane v) = absurd (n (ap (λ (x : Progress). x.status) is ∙ v.status))
 
   -- words that no call made
-  pub feed-forged : {a : Answer} → ((o : Opening) (joined : List ℕ) → Means luma sums bins picture o joined → ⊥) →
+  pub feed-forged : {a : Answer ℕ} → ((o : Opening) (joined : List ℕ) → Means luma sums bins picture o joined → ⊥) →
       FeedPost luma sums bins picture piece a luma sums bins picture
   feed-forged n = record { means = λ o joined h. absurd (n o joined h); answer = λ o joined h. absurd (n o joined h) }
 
-  pub feed-post : {a : Answer} {r : Progress} {luma' luma'' sums' bins' picture' : List ℕ} (g : Grid) → s.status ≡ 0 →
+  pub feed-post : {a : Answer ℕ} {r : Progress} {luma' luma'' sums' bins' picture' : List ℕ} (g : Grid) →
+      s.status ≡ 0 →
       g ≡ grid_of (opening_in luma) →
       Ran g s luma sums bins picture piece r luma' sums' bins' picture' → Stored luma' r luma'' →
       Replied r (length piece) a →

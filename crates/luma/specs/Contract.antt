@@ -2,10 +2,9 @@
 use Rattle.std.specs.Prelude.{◌≡◌, ℕ, ◌+◌, ◌-◌, ◌*◌, ◌%◌, ◌^◌, ◌<◌, ◌≤◌, Bool, true, false, List, [], ◌++◌, length}
 use Rattle.std.specs.Prelude.{take, ◌==◌, slice_index}
 use Rattle.rules.specs.declared.Opening.{Opening}
-use Rattle.rules.specs.declared.Answer.{Answer}
+use Rattle.rules.specs.Refusals.{Answer, none, fault, ◌or_else◌}
 use Rattle.rules.specs.Bytes.{pick, Bytes}
 use Rattle.rules.specs.Opening.{opening_fault, open_answer}
-use Rattle.rules.specs.Refusals.{none, fault, ◌or_else◌}
 use Rattle.rules.specs.Pictures.{picture_count, luma_fault}
 use Rattle.rules.specs.Seal.{reduced, unrepeated, luma_unfinished, luma_answer}
 use Rattle.luma_state.specs.declared.Grid.{Grid}
@@ -20,12 +19,12 @@ use Rattle.luma_state.specs.Steps.{placed_at, counted_as}
 -- ---- the calls
 
 -- the opening, the answer, the arrays after
-pub record OpenPost (o : Opening) (a : Answer) (luma sums bins picture : List ℕ) : Type 0 where
+pub record OpenPost (o : Opening) (a : Answer ℕ) (luma sums bins picture : List ℕ) : Type 0 where
   pub answer : a ≡ open_answer o
   pub means : Means luma sums bins picture o []
 
 -- the arrays before, the piece, the answer, the arrays after
-pub record FeedPost (luma sums bins picture piece : List ℕ) (a : Answer)
+pub record FeedPost (luma sums bins picture piece : List ℕ) (a : Answer ℕ)
     (luma' sums' bins' picture' : List ℕ) : Type 0 where
   pub means : (o : Opening) (joined : List ℕ) → Means luma sums bins picture o joined →
       Means luma' sums' bins' picture' o (joined ++ piece)
@@ -98,7 +97,7 @@ Ran g s luma sums bins picture piece r luma' sums' bins' picture' =
     Holding o r luma' sums' bins' picture' (joined ++ piece)
 
 -- what a feed of n bytes answers
-abbrev pub Replied : Progress → ℕ → Answer → Type 0
+abbrev pub Replied : Progress → ℕ → Answer ℕ → Type 0
 Replied s n a = (o : Opening) (luma sums bins picture joined : List ℕ) → Stands o s luma sums bins picture joined →
     a ≡ luma_answer o joined n
 

@@ -14,10 +14,14 @@ fn skip(s: Progress, t: usize) -> Taken
     requires { t ≤ s.left }
     ensures { (result.used ≡ t) × (result.state ≡ passed_on s t) }
 {
-    let mut p = s;
-    p.fed = std::num::wrapping_add_u64(s.fed, t as u64);
-    p.left = s.left - t;
-    Taken { used: t, state: p }
+    Taken {
+        used: t,
+        state: Progress {
+            fed: s.fed.wrapping_add(t as u64),
+            left: s.left - t,
+            ..s
+        },
+    }
 }
 
 // Bytes of the surplus rows, up to the picture's end or that of the piece.
@@ -25,11 +29,7 @@ fn pass(g: Grid, s: Progress, rest: &[u8]) -> Taken
     requires { (Taking g s rest.now) × (s.line ≡ g.lines) }
     ensures { Passed g s rest.now result }
 {
-    let n = rest.len();
-    if n < s.left {
-        return skip(s, n);
-    }
-    skip(s, s.left)
+    skip(s, s.left.min(rest.len()))
 }
 
 // The picture's end, where it is reached.
@@ -38,21 +38,17 @@ fn finish(luma: &mut Words, bins: &mut Bins, g: Grid, t: Taken) -> Taken
     ensures { Finished g t luma.old bins.old result luma.new bins.new }
 {
     let s = t.state;
-    if s.line < g.lines {
+    if s.line < g.lines || 0 < s.left {
         return t;
     }
-    if 0 < s.left {
-        return t;
-    }
-    let used = t.used;
-    let e = luma_picture::end_picture(luma, bins, g, s);
     Taken {
-        used: used,
-        state: e,
+        state: luma_picture::end_picture(luma, bins, g, s),
+        ..t
     }
 }
 
-// Some bytes of a piece, at least one.
+// Some bytes of a piece, at least one. Its four arrays come one by one here and in `run`, as the C call
+// `carolsedge_feed_luma` lends them.
 fn step(
     luma: &mut Words,
     sums: &mut Sums,
@@ -66,11 +62,11 @@ fn step(
     ensures { Stepped g s luma.old sums.old bins.old picture.old
         rest.now result luma.new sums.new bins.new picture.new }
 {
-    if g.lines <= s.line {
-        let t = pass(g, s, rest);
-        return finish(luma, bins, g, t);
-    }
-    let t = luma_rows::draw(sums, bins, picture, g, s, rest);
+    let t = if g.lines <= s.line {
+        pass(g, s, rest)
+    } else {
+        luma_rows::draw(sums, bins, picture, g, s, rest)
+    };
     finish(luma, bins, g, t)
 }
 
@@ -79,10 +75,11 @@ fn stopped(g: Grid, s: Progress) -> Progress
     requires { Fits g }
     ensures { result ≡ stopped_at g s }
 {
-    let mut r = s;
-    r.status = 10;
-    r.place = (layout::PICTURES as u64) * (g.bytes as u64);
-    r
+    Progress {
+        status: 10,
+        place: (layout::PICTURES as u64) * (g.bytes as u64),
+        ..s
+    }
 }
 
 // A whole piece.
@@ -100,7 +97,9 @@ pub fn run(
         piece.now result luma.new sums.new bins.new picture.new }
 {
     let mut s = start;
-    let mut at: usize = 0;
+    let mut at = 0;
+    // No plainer: a step says how many bytes it took, up to the end of a row, a picture or the piece, so no range or
+    // iterator has the places where steps begin.
     while at < piece.len() {
         if s.pictures == layout::PICTURES {
             return stopped(g, s);

@@ -1,23 +1,19 @@
 -- From the runs of a row to the block sums of a picture. No code.
-use Prim.Native.Nat.{ℕ, ◌+◌, ◌*◌, ◌/◌, ◌%◌, ◌≤◌, ◌<◌}
+use Prim.Native.Nat.{ℕ, zero, suc, ◌+◌, ◌*◌, ◌/◌, ◌%◌, ◌≤◌, ◌<◌}
 use native.Mathlib.Omega.{arith}
-use native.Mathlib.Nat.{add-mul, mod-eq_of_lt, mul-add-mod_self_right}
+use native.Mathlib.Nat.{add-mul, zero-mul, mod-eq_of_lt, mul-add-mod_self_right}
 use mathlib.Core.Path.{◌≡◌, refl, ap, ◌∙◌}
-use mathlib.Core.Bool.{Bool, true, false}
-use mathlib.Core.List.{List, ◌++◌, append-nil, append_assoc}
-use lib.ListN.{length, take, length-append}
+use mathlib.Core.List.{List, [], ◌∷◌, ◌++◌, append-nil, append_assoc}
+use lib.ListN.{length, take, get_or, length-append}
 use lib.Seq.{take-add, length-take-le}
 use borrow.Author.Tests.{eq-eqb}
 use Rattle.luma_blocks.specs.declared.Spot.{Spot}
 use Rattle.rules.specs.Bytes.{tally}
 use Rattle.luma_laws.proofs.Tally.{tally-append, tally-shift}
 use Rattle.luma_laws.specs.Tallies.{in_block}
-use Rattle.luma_sums.specs.Sums.{run, in_column, Added, Both}
+use Rattle.luma_sums.specs.Sums.{run, in_column, Added, AddedAll}
 use Rattle.luma_blocks.specs.Rows.{SumsOf, Advanced, TwoNext, Going}
 use Rattle.luma_sums.proofs.Runs.{column, run_length, row_gives}
-
-pub never : ◌≡◌ {A = Bool} false true → ⊥
-never e = let z : ◌≡◌ {A = ℕ} 0 1 = cc in omega arith
 
 -- a run within row y of block row b gives to a block what it gives to its block column
 pub bridge : (W n b y x c q : ℕ) (t : List ℕ) → y < n → x + length t ≤ W → q ≡ (b * n + y) * W + x →
@@ -82,10 +78,17 @@ going_more {W} {n} {w} {row} {col} {piece} {before} {a} {z} {r} {q} t g h k l f 
           (sums-more h (omega arith) here f (g.sums b p e s));
     }
 
+-- both rows' places
+pub two-inside : (x y m : ℕ) (s : List ℕ) → x + m ≤ length s → y + m ≤ length s → (r : ℕ) → r < length (x ∷ y ∷ []) →
+    get_or (x ∷ y ∷ []) r 0 + m ≤ length s
+two-inside x y m s h k zero l = h
+two-inside x y m s h k (suc zero) l = k
+two-inside x y m s h k (suc (suc r)) l = absurd (omega arith)
+
 -- two whole rows
 pub going-two : {W n w row col : ℕ} {piece before a z : List ℕ} {r : Spot} →
     Going W n w row col piece before r a → TwoNext W n w r (length piece) → 0 < W → 0 < n →
-    Both n w (run piece r.used (w * n)) (run piece (r.used + W) (w * n)) a z →
+    AddedAll n w (0 * n) (w * n) piece (r.used ∷ (r.used + W) ∷ []) a z →
     Going W n w row col piece before (record { row = r.row + 2; col = 0; used = r.used + W + W }) z
 going-two {W} {n} {w} {row} {col} {piece} {before} {a} {z} {r} g next wide some f =
     let there = next.there in
@@ -136,7 +139,7 @@ going-two {W} {n} {w} {row} {col} {piece} {before} {a} {z} {r} g next wide some 
                       )),
                   row_gives n w c W piece r.used some l next.wide (omega arith),
                   row_gives n w c W piece (r.used + W) some l next.wide (omega arith),
-                  f.grown old.size c l,
+                  rw zero-mul at (f.grown old.size c l),
                   old.each c l,
                 );
           });

@@ -21,6 +21,14 @@ pub struct Spot {
     pub used: usize,
 }
 
+// How a picture's rows are divided: rows of `width` bytes, blocks of `side` rows and columns, `columns` in a row.
+#[derive(Clone, Copy)]
+pub struct Shape {
+    pub side: usize,
+    pub columns: usize,
+    pub width: usize,
+}
+
 // The place t bytes on, in the same row or at the start of the next.
 fn advance(width: usize, p: Spot, t: usize) -> Spot
     requires { (p.col + t ≤ width) × (p.row < 64) × (0 < width) × (width ≤ 1920) × (p.used + t < 2 ^ 64) }
@@ -32,88 +40,67 @@ fn advance(width: usize, p: Spot, t: usize) -> Spot
         Spot {
             row: p.row + 1,
             col: 0,
-            used: used,
+            used,
         }
     } else {
         Spot {
             row: p.row,
-            col: col,
-            used: used,
+            col,
+            used,
         }
     }
 }
 
 // Whether two whole rows come next in the piece. Blocks of fewer than 8 columns, and of more than 16, are faster row
 // by row. Two rows are read side by side, and memory is quick only where it is read in order: so both are read ahead.
-fn two_next(n: usize, w: usize, width: usize, p: Spot, piece: &[u8]) -> bool
-    requires { (Ready width n w p.row p.col) × (p.used ≤ length piece.now) }
-    ensures { result ≡ true → TwoNext width n w p (length piece.now) }
+fn two_next(shape: Shape, p: Spot, piece: &[u8]) -> bool
+    requires { (Ready shape.width shape.side shape.columns p.row p.col) × (p.used ≤ length piece.now) }
+    ensures { result ≡ true → TwoNext shape.width shape.side shape.columns p (length piece.now) }
 {
-    if n < 8 {
-        return false;
-    }
-    if 16 < n {
-        return false;
-    }
-    if p.col != 0 {
-        return false;
-    }
-    if n < p.row + 2 {
-        return false;
-    }
-    if width < w * n {
-        return false;
-    }
-    let used = p.used;
-    if piece.len() - used < 2 * width {
-        return false;
-    }
-    read_ahead::fetch(&piece[used..], 2 * width as u64)
+    8 <= shape.side
+        && shape.side <= 16
+        && p.col == 0
+        && p.row + 2 <= shape.side
+        && shape.columns * shape.side <= shape.width
+        && 2 * shape.width <= piece.len() - p.used
+        && read_ahead::fetch(&piece[p.used..], 2 * shape.width as u64)
 }
 
 // Some bytes of a block row: two whole rows together, whose sums are added at once, or up to the end of the row or of
 // the piece.
-fn take_some(sums: &mut Sums, n: usize, w: usize, width: usize, p: Spot, piece: &[u8]) -> Spot
-    requires { (Ready width n w p.row p.col) × (p.used < length piece.now) }
-    ensures { Onward width n w piece.now p sums.old result sums.new }
+fn take_some(sums: &mut Sums, shape: Shape, p: Spot, piece: &[u8]) -> Spot
+    requires { (Ready shape.width shape.side shape.columns p.row p.col) × (p.used < length piece.now) }
+    ensures { Onward shape.width shape.side shape.columns piece.now p sums.old result sums.new }
 {
-    if two_next(n, w, width, p, piece) {
-        let below = p.used + width;
-        luma_sums::blocks_two(sums, w, piece, p.used, below, n);
+    if two_next(shape, p, piece) {
+        let below = p.used + shape.width;
+        luma_sums::blocks(sums, 0, shape.columns, piece, [p.used, below], shape.side);
         return Spot {
             row: p.row + 2,
             col: 0,
-            used: below + width,
+            used: below + shape.width,
         };
     }
-    let t = luma_sums::least(width - p.col, piece.len() - p.used);
-    luma_sums::add_run(sums, n, w, p.col, piece, p.used, t);
-    advance(width, p, t)
+    let t = (shape.width - p.col).min(piece.len() - p.used);
+    luma_sums::add_run(
+        sums,
+        shape.side,
+        shape.columns,
+        p.col,
+        &piece[p.used..p.used + t],
+    );
+    advance(shape.width, p, t)
 }
 
 // Takes in a piece from a place of a block row on, up to the end of the piece or of the block row.
-pub fn feed_rows(
-    sums: &mut Sums,
-    n: usize,
-    w: usize,
-    width: usize,
-    row: usize,
-    col: usize,
-    piece: &[u8],
-) -> Spot
-    requires { Ready width n w row col }
-    ensures { FedRows width n w row col piece.now sums.old result sums.new }
+pub fn feed_rows(sums: &mut Sums, shape: Shape, row: usize, col: usize, piece: &[u8]) -> Spot
+    requires { Ready shape.width shape.side shape.columns row col }
+    ensures { FedRows shape.width shape.side shape.columns row col piece.now sums.old result sums.new }
 {
-    let mut p = Spot {
-        row: row,
-        col: col,
-        used: 0,
-    };
-    while p.used < piece.len() {
-        if p.row == n {
-            return p;
-        }
-        p = take_some(sums, n, w, width, p, piece);
+    let mut p = Spot { row, col, used: 0 };
+    // No plainer as a `for`: how many bytes a turn takes is known only after it.
+    while p.used < piece.len() && p.row != shape.side {
+        p = take_some(sums, shape, p, piece);
     }
     p
 }
@@ -126,7 +113,8 @@ fn pixel_of(sum: u32, area: u32) -> u8
     (sum / area % 256) as u8
 }
 
-// At the end of block row b: its pixels, of the sums, which are cleared for the next.
+// At the end of block row b: its pixels, of the sums, which are cleared for the next. No `Shape`: a row's width plays
+// no part.
 pub fn finish_row(pixels: &mut Picture, sums: &mut Sums, n: usize, w: usize, b: usize)
     requires { Finishing n w b }
     ensures { RowDone n w b pixels.old sums.old pixels.new
@@ -134,10 +122,8 @@ pub fn finish_row(pixels: &mut Picture, sums: &mut Sums, n: usize, w: usize, b: 
 {
     let area = (n * n) as u32;
     let base = b * w;
-    let mut c: usize = 0;
-    while c < w {
+    for c in 0..w {
         pixels[base + c] = pixel_of(sums[c], area);
         sums[c] = 0;
-        c += 1;
     }
 }

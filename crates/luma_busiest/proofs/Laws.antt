@@ -1,5 +1,4 @@
--- The laws, one file a chapter: a sample has that many scenes (Flat to Reached); its bytes, part by part (Pieces);
--- the
+-- The laws, one file a chapter: a sample has that many scenes (Flat to Reached); its bytes, part by part (Pieces); the
 -- calls (Answers); the arguments (Digits). That none has more is a law of `luma_laws` (Least, Most).
 pub mod Flat
 pub mod Plain

@@ -10,11 +10,10 @@ pub record Figures (old p : List ℕ) (m : Moves) : Type 0 where
   pub down : m.down % 2 ^ 32 ≡ downs old p % 2 ^ 32
   pub both : m.squares % 2 ^ 32 ≡ squared old p % 2 ^ 32
 
--- what `compare_run` asks: k pixels of each slice, at most a row
-pub record Paired (kept : List ℕ) (at : ℕ) (made : List ℕ) (from k : ℕ) : Type 0 where
-  pub kept_there : at + k ≤ length kept
-  pub made_there : from + k ≤ length made
-  pub few : k ≤ 240
+-- what `compare_run` asks: as many pixels of each slice, at most a row
+pub record Paired (kept made : List ℕ) : Type 0 where
+  pub same : length kept ≡ length made
+  pub few : length made ≤ 240
 
 -- k pixels more, which stand in `made` from `from` on, where `kept` has the old picture's pixels of
 -- the same places from `at` on:

@@ -1,6 +1,5 @@
 -- The pictures of a sample: which are whole, and that each of their pixels adds one to one bin of one tile's
--- histogram
--- and to no other, so that the bins of the nine histograms total w × h.
+-- histogram and to no other, so that the bins of the nine histograms total w × h.
 use Prim.Native.Nat.{ℕ, suc, ◌+◌, ◌*◌, ◌/◌, ◌≤◌, ◌<◌}
 use native.Mathlib.Omega.{arith}
 use native.Mathlib.Nat.{add-mul, mul-pos, le-div_iff_mul-le, lt_of_not-le}

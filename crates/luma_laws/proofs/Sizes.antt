@@ -1,6 +1,5 @@
 -- The sizes of an opening that is not refused: what its given values and its reduced size are bounded by, and that
--- the
--- level is the greatest of all.
+-- the level is the greatest of all.
 use Prim.Native.Nat.{ℕ, zero, suc, ◌*◌, ◌/◌, ◌^◌, ◌≤◌, ◌<◌}
 use native.Mathlib.Omega.{arith}
 use native.Mathlib.Nat.{mul-le-mul, pow-suc, pow-le-pow_right, one-le-pow, div-one, le-div_iff_mul-le}

@@ -1,6 +1,5 @@
 -- What the luma side adds up while bytes and pixels come: sums of blocks, counts of bins, sums of differences. Each
--- is
--- a tally over the bytes or pixels so far.
+-- is a tally over the bytes or pixels so far.
 use Rattle.std.specs.Prelude.{ℕ, ◌+◌, ◌-◌, ◌*◌, ◌/◌, ◌%◌, List, get_or, eqb}
 use Rattle.rules.specs.Bytes.{pick, tally}
 use Rattle.rules.specs.Counted.{hits}

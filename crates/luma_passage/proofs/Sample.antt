@@ -8,9 +8,8 @@ use mathlib.Core.Bool.{Bool, true, false, not}
 use lib.ListN.{length, get_or}
 use lib.Seq.{take_all}
 use Rattle.rules.specs.declared.Opening.{Opening}
-use Rattle.rules.specs.declared.Answer.{Answer}
+use Rattle.rules.specs.Refusals.{Answer, none}
 use Rattle.rules.specs.Bytes.{count}
-use Rattle.rules.specs.Refusals.{none}
 use Rattle.rules.specs.Opening.{opening_fault}
 use Rattle.rules.specs.Pictures.{picture_count}
 use Rattle.rules.specs.Changes.{repeats}
@@ -33,7 +32,7 @@ module _ (o : Opening) (luma w : List ℕ)
   sample-mapped = let e = all-pictures in let p = pictures-most o luma in record { few = omega arith; word = words }
 
   -- whatever was refused while feeding
-  pub sample-passage : (a b : ℕ) (r : Answer) → opening_fault o ≡ none → AnswerPost w (picture_count o luma) a b r →
+  pub sample-passage : (a b : ℕ) (r : Answer ℕ) → opening_fault o ≡ none → AnswerPost w (picture_count o luma) a b r →
       r ≡ repeats_answer o luma a b
   unfolding repeats_answer repeats_fault
   sample-passage a b r h p = rw h (p.rule (repeats (reduced o luma)) sample-mapped all-pictures)

@@ -6,9 +6,8 @@ ghost use Rattle.std.specs.Prelude.{◌≡◌, ◌+◌, ◌/◌, ◌%◌, ◌^�
 ghost use Rattle.std.specs.Int.Count.{ones};
 ghost use Rattle.luma_passage.specs.Contract.{BetweenPost, AnswerPost};
 
-use figures::wide;
 use luma_state::{Words, layout};
-use rules::Answer;
+use rules::Refusal;
 
 // How many of a word's n bits from bit `from` on are ones.
 fn ones_within(word: u64, from: usize, n: usize) -> u64
@@ -16,54 +15,32 @@ fn ones_within(word: u64, from: usize, n: usize) -> u64
     ensures { (result ≤ n) × (result ≡ ones (word / 2 ^ from % 2 ^ n)) }
 {
     let mask = (u64::MAX >> (layout::MAP_BITS - n)) << from;
-    wide(u64::count_ones(word & mask))
-}
-
-// How many pictures from `at` up to but without b have their bits in the word of `at`.
-fn reach(at: usize, b: usize) -> usize
-    requires { at < b }
-    ensures { (1 ≤ result) × (at + result ≤ b) × (at % 64 + result ≤ 64) }
-{
-    let rest = layout::MAP_BITS - at % layout::MAP_BITS;
-    if b - at < rest {
-        return b - at;
-    }
-    rest
+    u64::from((word & mask).count_ones())
 }
 
 // How many pictures from a up to but without b are repeated, word by word. Safe for every a and b.
 fn repeated_between(luma: &Words, a: usize, b: usize) -> u64
     ensures { BetweenPost luma.now a b result }
 {
-    if layout::PICTURES < b {
+    if layout::PICTURES < b || b <= a {
         return 0;
     }
     let mut found: u64 = 0;
-    let mut at = a;
-    while at < b {
-        let n = reach(at, b);
-        let word = luma[layout::REPEATS + at / layout::MAP_BITS];
-        found += ones_within(word, at % layout::MAP_BITS, n);
-        at += n;
+    for j in a / layout::MAP_BITS..b.div_ceil(layout::MAP_BITS) {
+        let from = a.max(layout::MAP_BITS * j);
+        let to = b.min(layout::MAP_BITS * (j + 1));
+        let word = luma[layout::REPEATS + j];
+        found += ones_within(word, from % layout::MAP_BITS, to - from);
     }
     found
 }
 
 // The answer for a passage of n whole pictures: 26, or the count.
-pub fn passage(luma: &Words, n: usize, a: usize, b: usize) -> Answer
+pub fn passage(luma: &Words, n: usize, a: usize, b: usize) -> Result<u64, Refusal>
     ensures { AnswerPost luma.now n a b result }
 {
-    if b < a {
-        return Answer::Refused {
-            number: 26,
-            place: 0,
-        };
+    if b < a || n < b {
+        return Err(Refusal::NO_PASSAGE);
     }
-    if n < b {
-        return Answer::Refused {
-            number: 26,
-            place: 0,
-        };
-    }
-    Answer::Done(repeated_between(luma, a, b))
+    Ok(repeated_between(luma, a, b))
 }

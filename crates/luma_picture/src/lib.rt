@@ -14,14 +14,7 @@ use luma_tiles::Bins;
 fn again_of(s: Progress) -> u64
     ensures { result ≡ again_of s }
 {
-    if s.pictures == 0 {
-        return 0;
-    }
-    let squares = s.squares % 4294967296;
-    if squares == 0 {
-        return 1;
-    }
-    0
+    u64::from(s.pictures != 0 && figures::low(s.squares) == 0)
 }
 
 // The change of the picture that ends, rounded to the nearest or cut off; 0 for the first.
@@ -37,15 +30,8 @@ fn change_of(g: Grid, s: Progress, rounds: bool) -> u64
     luma_changes::change(n, m.up, m.down, m.squares, rounds)
 }
 
-// The first count. Reading it as one of a slice shows that every count is a u32.
-fn first(counts: &[u32]) -> u32
-    requires { 0 < length counts.now }
-    ensures { (k : ℕ) → slice_index counts.now k < 2 ^ 32 }
-{
-    counts[0]
-}
-
-// A cut score, and what the next one needs again: the smaller of two differences.
+// A cut score, and what the next one needs again: the smaller of two differences. Zeros where none is settled yet,
+// and no Option, since `noted` says what is written for every picture.
 #[derive(Clone, Copy)]
 struct Settled {
     score: u64,
@@ -56,7 +42,6 @@ struct Settled {
 fn score_of(bins: &Bins, i: usize, kept: u64) -> Settled
     ensures { ScoreOf bins.now i kept result }
 {
-    first(bins);
     if i < 3 {
         return Settled { score: 0, kept: 0 };
     }
@@ -73,44 +58,42 @@ fn score_of(bins: &Bins, i: usize, kept: u64) -> Settled
     let a = slot_of(i - 4);
     let x = slot_of(i - 2);
     let score = luma_cuts::least_of_six(bins, kept, next, a, b, x, z);
-    Settled {
-        score: score,
-        kept: next,
-    }
+    Settled { score, kept: next }
 }
 
 // Picture i's change, its bit in the map of repeats, the cut score of picture i - 2, and what the next one needs.
-fn note(luma: &mut Words, i: usize, q: u64, again: u64, score: u64, kept: u64)
+fn note(luma: &mut Words, i: usize, q: u64, again: u64, settled: Settled)
     requires { i < 750 }
-    ensures { luma.new ≡ noted luma.old i q again score kept }
+    ensures { luma.new ≡ noted luma.old i q again settled.score settled.kept }
 {
     luma[layout::CHANGES + i] = q;
     let j = layout::REPEATS + i / layout::MAP_BITS;
     let bit = again << (i % layout::MAP_BITS);
-    luma[j] = std::num::wrapping_add_u64(luma[j], bit);
-    luma[layout::SETTLED + i] = score;
-    luma[layout::KEPT] = kept;
+    luma[j] = luma[j].wrapping_add(bit);
+    luma[layout::SETTLED + i] = settled.score;
+    luma[layout::KEPT] = settled.kept;
 }
 
 fn next_picture(s: Progress, again: u64) -> Progress
     requires { (s.pictures < 750) × (again ≤ 1) }
     ensures { result ≡ next_picture s again }
 {
-    let mut r = s;
-    r.pictures = s.pictures + 1;
-    r.fresh = std::num::wrapping_add_u64(s.fresh, 1 - again);
-    r.line = 0;
-    r.row = 0;
-    r.col = 0;
-    r.left = 0;
-    r.ups = 0;
-    r.downs = 0;
-    r.squares = 0;
-    r
+    Progress {
+        pictures: s.pictures + 1,
+        fresh: s.fresh.wrapping_add(1 - again),
+        line: 0,
+        row: 0,
+        col: 0,
+        left: 0,
+        ups: 0,
+        downs: 0,
+        squares: 0,
+        ..s
+    }
 }
 
-// At the end of a picture: its change, whether it is repeated, the cut score of the picture two before it, and room in
-// the ring for the next.
+// At the end of a picture: its change, whether it is repeated, the cut score of the picture two before it, and room
+// in the ring for the next.
 pub fn end_picture(luma: &mut Words, bins: &mut Bins, g: Grid, s: Progress) -> Progress
     requires { AtPictureEnd g s }
     ensures { PictureEnded g s luma.old bins.old result luma.new
@@ -122,7 +105,7 @@ pub fn end_picture(luma: &mut Words, bins: &mut Bins, g: Grid, s: Progress) -> P
     let opening = luma_state::opening_in(luma);
     let rounds = figures::rounds_to_nearest(opening.edition);
     let q = change_of(g, s, rounds);
-    note(luma, i, q, again, settled.score, settled.kept);
+    note(luma, i, q, again, settled);
     let next = slot_of(i + 1);
     luma_tiles::clear(bins, next);
     next_picture(s, again)

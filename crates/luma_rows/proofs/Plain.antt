@@ -1,11 +1,11 @@
 -- Whole rows of blocks of one byte: their bytes are the pixels, and the sums stand for nothing before them and behind
 -- them. No code.
 use Rattle.std.proofs.Common.{◌≡◌, ℕ, ◌+◌, ◌-◌, ◌*◌, ◌/◌, ◌%◌, ◌^◌, ◌<◌, ◌≤◌, List, [], ◌++◌, length, get_or, take}
-use Rattle.std.proofs.Common.{drop, set, sym, refl, ap, ◌∙◌, append_assoc, append-nil, add-zero, mul-le-mul_right}
+use Rattle.std.proofs.Common.{drop, sym, refl, ap, ◌∙◌, append_assoc, append-nil, add-zero, mul-le-mul_right}
 use Rattle.std.proofs.Common.{add-mul, mul-pos, one-mul, lt_of_not-le, div-add-mod', zero-mul, mul-one, arith}
-use Rattle.std.proofs.Common.{length-append, length-drop, length-set, length-take-le, get_or-drop, drop-cons}
-use Rattle.std.proofs.Common.{get_or-set_other, get_or-take, get_or-set_same, drop-drop, get_or-append-add}
-use Rattle.std.proofs.Common.{ext_get_or, take-add, below_more, eq-eqb, ne_eqb}
+use Rattle.std.proofs.Common.{length-append, length-drop, length-take, length-take-le, get_or-drop, drop-cons, min}
+use Rattle.std.proofs.Common.{get_or-take, drop-drop, get_or-append-add}
+use Rattle.std.proofs.Common.{ext_get_or, take-add, eq-eqb, ne_eqb}
 use native.Mathlib.Decide.{dec_le, ℕ_discrete}
 use lib.ListN.{get_or-append}
 use Rattle.rules.specs.declared.Opening.{Opening}
@@ -25,47 +25,43 @@ use Rattle.luma_state.specs.declared.Grid.{Grid}
 use Rattle.luma_state.specs.declared.Progress.{Progress}
 use Rattle.luma_state.specs.State.{slot, Drawn, Place, drawing, passing, Live}
 use Rattle.luma_rows.specs.Contract.{moved_to, next_row, Puts, AtPlainRows, CountedRows, PlainRows, Taking, Took}
-use Rattle.luma_rows.proofs.Rows.{at-drawing, bytes_of, elsewhere, apart, figures-in}
+use Rattle.luma_rows.proofs.Rows.{of_slices, at-drawing, bytes_of, elsewhere, apart, figures-in}
 
 -- ---- the loops
 
-pub puts_none : (base : ℕ) (rest a : List ℕ) → Puts base 0 rest a a
-puts_none base rest a =
-    record { size = refl; same = λ e j h. absurd (omega arith); low = λ q h. refl; high = λ q h. refl }
-
-pub puts-more : {base j v : ℕ} {rest a b : List ℕ} → Puts base j rest a b → base + j < 14104 → v ≡ get_or rest j 0 →
-    Puts base (j + 1) rest a (set b (base + j) v)
-puts-more {base} {j} {v} {rest} {a} {b} f h e =
-    record {
-      size = length-set b (base + j) v ∙ f.size;
-      same =
-          λ z.
-          below_more (λ (i : ℕ). get_or (set b (base + j) v) (base + i) 0 ≡ get_or rest i 0) j
-          (λ i l. get_or-set_other b (base + j) (base + i) v 0 (λ m. omega arith) ∙ f.same z i l)
-          (get_or-set_same b (base + j) v 0 (omega (arith, f.size)) ∙ e);
-      low = λ q l. get_or-set_other b (base + j) q v 0 (λ m. omega arith) ∙ f.low q l;
-      high = λ q l. get_or-set_other b (base + j) q v 0 (λ m. omega arith) ∙ f.high q (omega arith);
-    }
-
--- t pixels more, behind the first c
-pub compared-on : {kept rest : List ℕ} {base c t : ℕ} {m n r : Moves} → Compared kept base rest 0 c m n →
-    Compared kept (base + c) rest c t n r → c ≤ length rest → Compared kept base rest 0 (c + t) m r
-compared-on {kept} {rest} {base} {c} {t} f g h =
+-- t pixels more, after the first c
+pub compared-on : {kept rest : List ℕ} {c t : ℕ} {m n r : Moves} → Compared kept 0 rest 0 c m n →
+    Compared kept c rest c t n r → c ≤ length rest → Compared kept 0 rest 0 (c + t) m r
+compared-on {kept} {rest} {c} {t} f g h =
     record {
       more = λ old p e s.
           let first = take c (drop 0 rest) in
           let q = p ++ first in
           let size : length first ≡ c = length-take-le c (drop 0 rest) (simp length-drop (omega arith)) in
           let here : length q ≡ length p + c = omega (arith, length-append p first) in
-          let next : (j : ℕ) → j < t → get_or old (length q + j) 0 ≡ get_or kept (base + c + j) 0 =
+          let next : (j : ℕ) → j < t → get_or old (length q + j) 0 ≡ get_or kept (c + j) 0 =
           λ j l.
           let a : length q + j ≡ length p + (c + j) = omega arith in
-          let b : base + c + j ≡ base + (c + j) = omega arith in
-          rw (a, b) (e (c + j) (omega arith)) in
+          let b : 0 + (c + j) ≡ c + j = omega arith in
+          rw a (e (c + j) (omega arith) ∙ ap (λ (x : ℕ). get_or kept x 0) b) in
           let z : 0 + c ≡ c = omega arith in
           rw (take-add c t (drop 0 rest), drop-drop c 0 rest, z, ← append_assoc p first (take t (drop c rest)))
           (g.more old q next (f.more old p (λ j l. e j (omega arith)) s));
     }
+
+-- t pixels more, by their slices
+pub compared-more : {kept rest : List ℕ} (c t : ℕ) {m n r : Moves} →
+    Compared kept 0 rest 0 (min c (length rest)) m n → c + t ≤ length rest →
+    Compared (take (c + t - c) (drop c kept)) 0 (take (c + t - c) (drop c rest)) 0
+    (length (take (c + t - c) (drop c rest))) n r →
+    Compared kept 0 rest 0 (c + t) m r
+compared-more {kept} {rest} c t f l g =
+    let long : c + t - c ≡ t = omega arith in
+    let size : length (take (c + t - c) (drop c rest)) ≡ t = simp (length-take, length-drop) (omega arith) in
+    let here : min c (length rest) ≡ c = omega arith in
+    compared-on (rw here at f)
+    (of_slices c c t (ap (λ n. take n (drop c kept)) long) (ap (λ n. take n (drop c rest)) long) size g)
+    (omega arith)
 
 pub counted_none : (w h r base : ℕ) (pixels a : List ℕ) → CountedRows w h r 0 base pixels a a
 counted_none w h r base pixels a =

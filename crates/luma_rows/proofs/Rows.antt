@@ -1,9 +1,10 @@
 -- A block row of the current picture, and its end. No code.
+use Rattle.std.proofs.Common.{take_all, get_or-drop}
 use Rattle.std.proofs.Common.{◌≡◌, ℕ, suc, ◌+◌, ◌*◌, ◌/◌, ◌%◌, ◌^◌, ◌<◌, ◌≤◌, ◌⊎◌, List, [], ◌∷◌, ◌++◌, length}
-use Rattle.std.proofs.Common.{get_or, take, drop, set, sym, refl, ap, ◌∙◌, inl, inr, append_assoc, append-nil}
+use Rattle.std.proofs.Common.{get_or, take, drop, sym, refl, ap, ◌∙◌, inl, inr, append_assoc, append-nil}
 use Rattle.std.proofs.Common.{add-zero, mul-le-mul_right, mod-lt, div-lt_iff_lt-mul, add-mul, mul-pos, lt_of_not-le}
-use Rattle.std.proofs.Common.{div-add-mod', arith, length-append, length-set, length-take-le, get_or-set_other}
-use Rattle.std.proofs.Common.{get_or-take, get_or-set_same, ext_get_or, take-add, below_more}
+use Rattle.std.proofs.Common.{div-add-mod', arith, length-append, length-take-le}
+use Rattle.std.proofs.Common.{get_or-take, ext_get_or, take-add}
 use native.Mathlib.Decide.{dec_le}
 use Rattle.rules.specs.declared.Opening.{Opening}
 use Rattle.rules.specs.Bytes.{empty, and, Bytes}
@@ -21,21 +22,20 @@ use Rattle.luma_state.specs.declared.Progress.{Progress}
 use Rattle.luma_state.specs.State.{moves_in, slot, Drawn, Place, drawing, passing, Live, Fits}
 use Rattle.luma_rows.specs.Contract.{Keeps, moved_to, next_row, AtRowEnd, RowEnded, Took, Taking}
 
--- ---- the old pixels
+-- ---- pixels compared by slices
 
-pub keeps-none : (base : ℕ) (p k : List ℕ) → Keeps base 0 p k k
-keeps-none base p k = record { size = refl; same = λ e j h. absurd (omega arith) }
-
-pub keeps-more : {base j v : ℕ} {p a k : List ℕ} → Keeps base j p a k → j < 240 → v ≡ get_or p (base + j) 0 →
-    Keeps base (j + 1) p a (set k j v)
-keeps-more {base} {j} {v} {p} {a} {k} f h e =
+pub of_slices : {kept made xs ys : List ℕ} {m r : Moves} (a b k : ℕ) → xs ≡ take k (drop a kept) →
+    ys ≡ take k (drop b made) → length ys ≡ k → Compared xs 0 ys 0 (length ys) m r → Compared kept a made b k m r
+of_slices {kept} {made} {xs} {ys} {m} {r} a b k ex ey l f =
     record {
-      size = length-set k j v ∙ f.size;
-      same =
-          λ z.
-          below_more (λ (i : ℕ). get_or (set k j v) i 0 ≡ get_or p (base + i) 0) j
-          (λ i l. get_or-set_other k j i v 0 (λ m. omega arith) ∙ f.same z i l)
-          (get_or-set_same k j v 0 (omega (arith, f.size)) ∙ e);
+      more = λ old p e s.
+          let all : take (length ys) (drop 0 ys) ≡ take k (drop b made) =
+          take_all (length ys) ys (omega arith) ∙ ey in
+          let at : (j : ℕ) → j < length ys → get_or old (length p + j) 0 ≡ get_or xs (0 + j) 0 =
+          λ j h.
+          let here : 0 + j ≡ j = omega arith in
+          rw (here, ex, get_or-take k (drop a kept) j 0 (omega arith), get_or-drop a kept j 0) (e j (omega arith)) in
+          rw all at (f.more old p at s);
     }
 
 -- ---- bytes

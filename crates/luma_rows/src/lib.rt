@@ -2,16 +2,16 @@
 // made, counted and compared.
 #![tactic(auto)]
 
-ghost use Rattle.std.specs.Prelude.{◌≡◌, ◌+◌, ◌<◌, ◌≤◌, length};
+ghost use Rattle.std.specs.Prelude.{◌≡◌, ℕ, ◌+◌, ◌<◌, ◌≤◌, length, Some};
 ghost use Rattle.luma_changes.specs.Figures.{Compared};
 ghost use Rattle.luma_state.specs.State.{Fits, slot};
 ghost use Rattle.luma_rows.specs.Contract.{Keeps, moved_to, next_row, AtRowEnd, RowEnded, Puts, AtPlainRows};
 ghost use Rattle.luma_rows.specs.Contract.{CountedRows, PlainRows, Took, Taking};
 
-use luma_blocks::{Picture, Sums};
+use luma_blocks::{Picture, Shape, Sums};
 use luma_changes::Moves;
 use luma_state::{Grid, Progress};
-use luma_tiles::Bins;
+use luma_tiles::{Bins, Tiles};
 
 // The old pixels of a block row.
 type Kept = [u8; luma_blocks::COLUMNS];
@@ -28,39 +28,38 @@ pub struct Taken {
 fn moved_to(s: Progress, row: usize, col: usize, used: usize) -> Progress
     ensures { result ≡ moved_to s row col used }
 {
-    let mut r = s;
-    r.fed = std::num::wrapping_add_u64(s.fed, used as u64);
-    r.row = row;
-    r.col = col;
-    r
+    Progress {
+        fed: s.fed.wrapping_add(used as u64),
+        row,
+        col,
+        ..s
+    }
 }
 
-// The place behind j block rows, whose pixels have moved so.
+// The place after j block rows, whose pixels have moved so.
 fn next_row(g: Grid, s: Progress, j: usize, m: Moves) -> Progress
     requires { (Fits g) × (s.line + j ≤ g.lines) }
     ensures { result ≡ next_row g s j m }
 {
-    let mut r = s;
-    r.line = s.line + j;
-    r.row = 0;
-    r.col = 0;
-    r.left = g.bytes - g.lines * g.side * g.width;
-    r.ups = m.up as u64;
-    r.downs = m.down as u64;
-    r.squares = m.squares as u64;
-    r
+    Progress {
+        line: s.line + j,
+        row: 0,
+        col: 0,
+        left: g.bytes - g.lines * g.side * g.width,
+        ups: u64::from(m.up),
+        downs: u64::from(m.down),
+        squares: u64::from(m.squares),
+        ..s
+    }
 }
 
-// The w pixels from `base` on, before they change.
+// The w pixels from `base` on, before they change. A base here and in `put`, and no slice, since `Keeps` and `Puts`
+// speak of the whole picture.
 fn keep(kept: &mut Kept, picture: &Picture, base: usize, w: usize)
     requires { (w ≤ 240) × (base + w ≤ 14104) }
     ensures { Keeps base w picture.now kept.old kept.new }
 {
-    let mut j: usize = 0;
-    while j < w {
-        kept[j] = picture[base + j];
-        j += 1;
-    }
+    kept[..w].copy_from_slice(&picture[base..base + w]);
 }
 
 // Counts j rows of the picture, from its current one on.
@@ -70,19 +69,14 @@ fn count_rows(bins: &mut Bins, picture: &Picture, g: Grid, s: Progress, j: usize
         bins.old bins.new }
 {
     let own = luma_state::slot_of(s.pictures);
-    let mut i: usize = 0;
-    while i < j {
-        luma_tiles::count_row(
-            bins,
-            own,
-            picture,
-            g.columns,
-            g.lines,
-            s.line + i,
-            g.second,
-            g.third,
-        );
-        i += 1;
+    let tiles = Tiles {
+        columns: g.columns,
+        lines: g.lines,
+        second: g.second,
+        third: g.third,
+    };
+    for r in s.line..s.line + j {
+        luma_tiles::count_row(bins, own, picture, tiles, r);
     }
 }
 
@@ -104,7 +98,11 @@ fn end_row(
     keep(&mut kept, picture, base, w);
     luma_blocks::finish_row(picture, sums, g.side, w, s.line);
     count_rows(bins, picture, g, s, 1);
-    let m = luma_changes::compare_run(luma_state::moves_in(s), &kept, 0, picture, base, w);
+    let m = luma_changes::compare_run(
+        luma_state::moves_in(s),
+        &kept[..w],
+        &picture[base..base + w],
+    );
     next_row(g, s, 1, m)
 }
 
@@ -113,49 +111,30 @@ fn put(picture: &mut Picture, base: usize, rest: &[u8], w: usize)
     requires { (w ≤ length rest.now) × (base + w ≤ 14104) }
     ensures { Puts base w rest.now picture.old picture.new }
 {
-    let mut j: usize = 0;
-    while j < w {
-        picture[base + j] = rest[j];
-        j += 1;
-    }
+    picture[base..base + w].copy_from_slice(&rest[..w]);
 }
 
-// The smaller of two numbers.
-fn fewer(a: usize, b: usize) -> usize
-    ensures { (result ≤ a) × (result ≤ b) × (0 < a → 0 < b → 0 < result) }
-{
-    if b < a { b } else { a }
-}
-
-// How many whole rows of blocks of one byte come next in the picture.
-fn plain_rows(g: Grid, s: Progress, rest: &[u8]) -> usize
+// How many whole rows of blocks of one byte come next in the picture, if any do.
+fn plain_rows(g: Grid, s: Progress, rest: &[u8]) -> Option<usize>
     requires { (Taking g s rest.now) × (s.line < g.lines) }
-    ensures { 0 < result → AtPlainRows g s rest.now result }
+    ensures { (j : ℕ) → result ≡ Some j → AtPlainRows g s rest.now j }
 {
-    if g.side != 1 {
-        return 0;
+    if g.side != 1 || s.col != 0 || g.width != g.columns {
+        return None;
     }
-    if s.col != 0 {
-        return 0;
-    }
-    if g.width != g.columns {
-        return 0;
-    }
-    fewer(rest.len() / g.width, g.lines - s.line)
+    let j = (rest.len() / g.width).min(g.lines - s.line);
+    if 0 < j { Some(j) } else { None }
 }
 
-// The k pixels from `base` on, before they change, and the first k bytes of the string: as many at a time as
-// `compare_run` takes.
-fn compare(m: Moves, picture: &Picture, base: usize, rest: &[u8], k: usize) -> Moves
-    requires { (base + k ≤ 14104) × (k ≤ length rest.now) }
-    ensures { Compared picture.now base rest.now 0 k m result }
+// Old pixels, before they change, and as many bytes: as many at a time as `compare_run` takes.
+fn compare(m: Moves, old: &[u8], new: &[u8]) -> Moves
+    requires { length old.now ≡ length new.now }
+    ensures { Compared old.now 0 new.now 0 (length new.now) m result }
 {
     let mut sums = m;
-    let mut c: usize = 0;
-    while c < k {
-        let t = fewer(luma_blocks::COLUMNS, k - c);
-        sums = luma_changes::compare_run(sums, picture, base + c, rest, c, t);
-        c += t;
+    for c in (0..new.len()).step_by(luma_blocks::COLUMNS) {
+        let t = luma_blocks::COLUMNS.min(new.len() - c);
+        sums = luma_changes::compare_run(sums, &old[c..c + t], &new[c..c + t]);
     }
     sums
 }
@@ -175,7 +154,11 @@ fn take_plain(
 {
     let base = s.line * g.columns;
     let k = j * g.columns;
-    let m = compare(luma_state::moves_in(s), picture, base, rest, k);
+    let m = compare(
+        luma_state::moves_in(s),
+        &picture[base..base + k],
+        &rest[..k],
+    );
     put(picture, base, rest, k);
     count_rows(bins, picture, g, s, j);
     let t = moved_to(s, 0, 0, k);
@@ -195,27 +178,22 @@ pub fn draw(
     ensures { Took g s sums.old bins.old picture.old rest.now result
         sums.new bins.new picture.new }
 {
-    let j = plain_rows(g, s, rest);
-    if 0 < j {
+    if let Some(j) = plain_rows(g, s, rest) {
         let used = j * g.columns;
         let e = take_plain(bins, picture, g, s, rest, j);
-        return Taken {
-            used: used,
-            state: e,
-        };
+        return Taken { used, state: e };
     }
-    let p = luma_blocks::feed_rows(sums, g.side, g.columns, g.width, s.row, s.col, rest);
+    let shape = Shape {
+        side: g.side,
+        columns: g.columns,
+        width: g.width,
+    };
+    let p = luma_blocks::feed_rows(sums, shape, s.row, s.col, rest);
     let used = p.used;
     let t = moved_to(s, p.row, p.col, used);
     if p.row == g.side {
         let e = end_row(sums, bins, picture, g, t);
-        return Taken {
-            used: used,
-            state: e,
-        };
+        return Taken { used, state: e };
     }
-    Taken {
-        used: used,
-        state: t,
-    }
+    Taken { used, state: t }
 }

@@ -4,66 +4,74 @@ use native.Mathlib.Omega.{arith}
 use mathlib.Core.Path.{◌≡◌, sym, ap, ◌∙◌}
 use mathlib.Core.List.{List}
 use mathlib.Core.Bool.{Bool, true, false}
-use lib.ListN.{length, get_or}
+use mathlib.Core.List.{[], ◌∷◌, map}
+use lib.ListN.{length, get_or, take, drop}
+use Rattle.std.proofs.Common.{fold, refl}
+use Rattle.std.specs.List.{sum_by}
+use Rattle.std.proofs.lemmas.List.{ext_get_or, length-map, length-take-le, length-drop, get_or-map, get_or-take}
+use Rattle.std.proofs.lemmas.List.{get_or-drop}
+use Rattle.std.proofs.lemmas.List.Sums.{sum_by-cons}
+use Rattle.rules.proofs.Laws.Lists.{larger-max}
 use Rattle.rules.specs.declared.SceneRow.{SceneRow}
 use Rattle.rules.specs.Bytes.{total, greatest_of, count}
 use Rattle.rules.specs.Scenes.{span, is_true, longest_from, starts_scene, is_start, scene_of, scenes_of}
 use Rattle.luma_scenes.specs.Words.{Column, Bits, Holds, bit_at}
 use Rattle.luma_scenes.specs.Next.{next_start, scenes_from}
-use Rattle.luma_scenes.specs.Contract.{NextPost, RowPost, CountPost, TotalPost, PeakPost, RepeatedPost}
+use Rattle.luma_scenes.specs.Contract.{NextPost, RowPost, CountPost, RepeatedPost}
 use Rattle.luma_scenes.specs.Contract.{LongestPost}
-use Rattle.luma_laws.proofs.Spans.{total-end, total-step, total-more, peak-end, peak-step, repeated-end, repeated-step}
+use Rattle.luma_laws.proofs.Spans.{total-end, total-more, repeated-end, repeated-step}
 use Rattle.luma_laws.proofs.Spans.{longest-end, longest-true, longest-false, longest-least, longest-most, peak-most}
 use Rattle.luma_laws.proofs.Spans.{total-most}
 use Rattle.luma_scenes.proofs.Held.{figure-is, bit-true, bit-false}
 use Rattle.luma_scenes.proofs.Starts.{Sought, sought-first, sought-more, sought-found, sought-none, scenes-none}
 use Rattle.luma_scenes.proofs.Starts.{scenes-next, scenes-first}
 
+-- ---- the figures of pictures i to before j, read from the words
+
+abbrev pub low : ℕ → ℕ
+low x = x % 2 ^ 32
+
+module _ {w : List ℕ} {base n most : ℕ} {xs : List ℕ} (i j : ℕ) (c : Column w base n most xs) (m : most < 2 ^ 32)
+    (g : i ≤ j) (f : j ≤ n) (h : base + j ≤ length w) where
+  abbrev ws : List ℕ
+  ws = take (base + j - (base + i)) (drop (base + i) w)
+
+  ws-long : length ws ≡ j - i
+  ws-long = length-take-le (base + j - (base + i)) (drop (base + i) w) (omega (arith, length-drop (base + i) w))
+      ∙ omega arith
+
+  xs-long : length (span i j xs) ≡ j - i
+  xs-long = length-take-le (j - i) (drop i xs) (omega (arith, length-drop i xs, c.size))
+
+  each : (k : ℕ) → k < j - i → get_or (map low ws) k 0 ≡ get_or (span i j xs) k 0
+  each k l =
+      let z = ws-long in
+      let e : base + i + k ≡ base + (i + k) = omega arith in
+      get_or-map low ws k 0 0 (omega arith)
+      ∙ ap low (get_or-take (base + j - (base + i)) (drop (base + i) w) k 0 (omega arith)
+      ∙ get_or-drop (base + i) w k 0 ∙ ap (λ (q : ℕ). get_or w q 0) e)
+      ∙ figure-is c m (i + k) (omega arith)
+      ∙ sym (get_or-take (j - i) (drop i xs) k 0 (omega arith) ∙ get_or-drop i xs k 0)
+
+  figures-are : map low ws ≡ span i j xs
+  figures-are =
+      let long : length (map low ws) ≡ j - i = length-map ws low ∙ ws-long in
+      ext_get_or 0 (map low ws) (span i j xs) (long ∙ sym xs-long) (λ k l. each k (omega arith))
+
+total-low : (ws : List ℕ) → sum_by low ws ≡ total (map low ws)
+unfolding total
+total-low [] = refl
+total-low (w ∷ ws) = sum_by-cons low w ws ∙ ap (λ (k : ℕ). low w + k) (total-low ws)
+
+greatest-low : (most : ℕ) (ws : List ℕ) → fold (λ m x. max m (low x)) most ws ≡ max most (greatest_of (map low ws))
+unfolding greatest_of
+greatest-low most [] = omega arith
+greatest-low most (w ∷ ws) =
+    let e = greatest-low (max most (low w)) ws in
+    let l = larger-max (low w) (greatest_of (map low ws)) in
+    omega arith
+
 module _ (w : List ℕ) (i j : ℕ) where
-  -- ---- the sum of figures
-
-  abbrev pub Summed : ℕ → ℕ → ℕ → Type 0
-  Summed base sum k = (n most : ℕ) (xs : List ℕ) → Column w base n most xs → most < 2 ^ 32 → i ≤ j → j ≤ n →
-      (k ≤ j) × (sum + total (span k j xs) ≡ total (span i j xs))
-
-  pub summed-more : (base sum k r : ℕ) → Summed base sum k → k < j → r ≡ get_or w (base + k) 0 % 2 ^ 32 →
-      Summed base (sum + r) (k + 1)
-  summed-more base sum k r s h e n most xs c m g f =
-      let p = s n most xs c m g f in
-      let z = c.size in
-      let a = total-step k j xs h (omega arith) in
-      let b = figure-is c m k (omega arith) in
-      (omega arith, omega arith)
-
-  pub summed-all : (base sum k : ℕ) → Summed base sum k → j ≤ k → TotalPost w base i j sum
-  summed-all base sum k s h n most xs c m g f =
-      let p = s n most xs c m g f in
-      let e : k ≡ j = omega arith in
-      let z : total (span k j xs) ≡ 0 = rw e (total-end j xs) in
-      omega arith
-
-  -- ---- the greatest score
-
-  abbrev pub Highest : ℕ → ℕ → Type 0
-  Highest top k = (n most : ℕ) (xs : List ℕ) → Column w 100 n most xs → most < 2 ^ 32 → i ≤ j → j ≤ n →
-      (k ≤ j) × (max top (greatest_of (span k j xs)) ≡ greatest_of (span i j xs))
-
-  pub highest-more : (top k r next : ℕ) → Highest top k → k < j → r ≡ get_or w (100 + k) 0 % 2 ^ 32 → next ≡ max top r →
-      Highest next (k + 1)
-  highest-more top k r next s h e l n most xs c m g f =
-      let p = s n most xs c m g f in
-      let z = c.size in
-      let a = peak-step k j xs h (omega arith) in
-      let b = figure-is c m k (omega arith) in
-      (omega arith, omega arith)
-
-  pub highest-all : (top k : ℕ) → Highest top k → j ≤ k → PeakPost w i j top
-  highest-all top k s h n most xs c m g f =
-      let p = s n most xs c m g f in
-      let e : k ≡ j = omega arith in
-      let z : greatest_of (span k j xs) ≡ 0 = rw e (peak-end j xs) in
-      omega arith
-
   -- ---- how many are repeated
 
   abbrev pub Counted : ℕ → ℕ → Type 0
@@ -215,16 +223,22 @@ row_of i j repeated longest score peak change =
     }
 
 module _ (w : List ℕ) (i j p l t k q : ℕ) (repeats : RepeatedPost w i j p) (run : LongestPost w i j l)
-    (scores : TotalPost w 100 i j t) (peak : PeakPost w i j k) (changes : TotalPost w 850 i j q) where
+    (size : length w ≡ 1600) (last : j ≤ 750) (scores : t ≡ sum_by low (take (100 + j - (100 + i)) (drop (100 + i) w)))
+    (peak : k ≡ fold (λ m x. max m (low x)) 0 (take (100 + j - (100 + i)) (drop (100 + i) w)))
+    (changes : q ≡ sum_by low (take (850 + j - (850 + i)) (drop (850 + i) w))) where
   pub row_is : RowPost w i j (row_of i j (p % 2 ^ 32) (l % 2 ^ 32) (t % 2 ^ 32) (k % 2 ^ 32) (q % 2 ^ 32))
   unfolding scene_of
   row_is n ss rs qs h g f =
       let few = h.few in
       let a = repeats.repeated n rs h.repeats (omega arith) f in
       let b = run n rs h.repeats (omega arith) f in
-      let c = scores n 1000000 ss h.scores (omega arith) (omega arith) f in
-      let d = peak n 1000000 ss h.scores (omega arith) (omega arith) f in
-      let e = changes n 25500 qs h.changes (omega arith) (omega arith) f in
+      let cuts = figures-are i j h.scores (omega arith) (omega arith) f (omega arith) in
+      let moves = figures-are i j h.changes (omega arith) (omega arith) f (omega arith) in
+      let c : t ≡ total (span i j ss) = scores ∙ total-low _ ∙ ap total cuts in
+      let top : k ≡ max 0 (greatest_of (span i j ss)) =
+      peak ∙ greatest-low 0 _ ∙ ap (λ (x : List ℕ). max 0 (greatest_of x)) cuts in
+      let d : k ≡ greatest_of (span i j ss) = omega arith in
+      let e : q ≡ total (span i j qs) = changes ∙ total-low _ ∙ ap total moves in
       let c' = total-most 1000000 i j n ss h.scores.bound h.scores.size f in
       let e' = total-most 25500 i j n qs h.changes.bound h.changes.size f in
       let b' = longest-most 0 (span i j rs) in

@@ -1,10 +1,9 @@
 -- What each function promises of the luma words w.
 use Rattle.std.specs.Prelude.{ℕ, ◌-◌, ◌^◌, ◌≤◌, ◌<◌, ◌≡◌, List, Bool, length}
 use Rattle.rules.specs.declared.SceneRow.{SceneRow}
-use Rattle.rules.specs.Bytes.{total, greatest_of, count}
+use Rattle.rules.specs.Bytes.{count}
 use Rattle.rules.specs.Scenes.{span, is_true, longest_from, scene_of, scenes_of}
-use Rattle.luma_state.specs.Layout.{scores_at}
-use Rattle.luma_scenes.specs.Words.{Column, Bits, Holds}
+use Rattle.luma_scenes.specs.Words.{Bits, Holds}
 use Rattle.luma_scenes.specs.Next.{next_start}
 
 -- the start behind the start b: above b, n at most, and the rule's where the words hold n pictures
@@ -26,14 +25,6 @@ pub record CountPost (w : List ℕ) (n d r : ℕ) : Type 0 where
       r ≡ length (scenes_of d ss rs qs)
 
 -- ---- of the functions within
-
-abbrev pub TotalPost : List ℕ → ℕ → ℕ → ℕ → ℕ → Type 0
-TotalPost w base i j r =
-    (n most : ℕ) (xs : List ℕ) → Column w base n most xs → most < 2 ^ 32 → i ≤ j → j ≤ n → r ≡ total (span i j xs)
-
-abbrev pub PeakPost : List ℕ → ℕ → ℕ → ℕ → Type 0
-PeakPost w i j r = (n most : ℕ) (xs : List ℕ) → Column w scores_at n most xs → most < 2 ^ 32 → i ≤ j → j ≤ n →
-    r ≡ greatest_of (span i j xs)
 
 pub record RepeatedPost (w : List ℕ) (i j r : ℕ) : Type 0 where
   pub most : r ≤ j - i

@@ -2,11 +2,10 @@
 // Every call is safe and ends on any contents of the words; a cut score or change is taken below 2^32.
 #![tactic(auto)]
 
-ghost use Rattle.std.specs.Prelude.{◌≡◌, ◌*◌, ◌%◌, ◌^◌, ◌<◌, ◌≤◌, get_or};
+ghost use Rattle.std.specs.Prelude.{◌≡◌, ◌*◌, ◌%◌, ◌^◌, ◌<◌, ◌≤◌, get_or, length, max, fold, sum_by};
 ghost use Rattle.rules.specs.Scenes.{starts_scene};
 ghost use Rattle.luma_scenes.specs.Words.{bit_at};
-ghost use Rattle.luma_scenes.specs.Contract.{NextPost, RowPost, CountPost, TotalPost, PeakPost, RepeatedPost};
-ghost use Rattle.luma_scenes.specs.Contract.{LongestPost};
+ghost use Rattle.luma_scenes.specs.Contract.{NextPost, RowPost, CountPost, RepeatedPost, LongestPost};
 
 use luma_state::{Words, layout};
 use rules::SceneRow;
@@ -20,6 +19,7 @@ fn figure(luma: &Words, at: usize) -> u64
 }
 
 // 1 if picture i is repeated, otherwise 0.
+#[tactic(auto, unfolding(crate::specs::Words::bit_at))]
 fn repeat_bit(luma: &Words, i: usize) -> u64
     requires { i < 750 }
     ensures { result ≡ bit_at luma.now i }
@@ -30,40 +30,29 @@ fn repeat_bit(luma: &Words, i: usize) -> u64
 
 // Whether a picture with the cut score s, n pictures after the last start, is the next start; sum is
 // that of the scores between.
+#[tactic(auto, unfolding(rules::specs::Scenes::starts_scene))]
 fn starts_scene(d: u64, n: u64, s: u64, sum: u64) -> bool
     requires { (d < 2 ^ 32) × (1 ≤ n) × (n ≤ 750) × (s < 2 ^ 32) × (sum ≤ 750 * 2 ^ 32) }
     ensures { result ≡ starts_scene d n s sum }
 {
-    if n * d < 600000 {
-        return false;
-    }
-    if s <= 1000 {
-        return false;
-    }
-    5 * sum < s * (n - 1)
+    600000 <= n * d && 1000 < s && 5 * sum < s * (n - 1)
 }
 
 // The start that follows the start b, or n.
 pub fn next_start(luma: &Words, n: usize, d: u64, b: usize) -> usize
     ensures { NextPost luma.now n d b result }
 {
-    if layout::PICTURES < n {
-        return n;
-    }
-    if n <= b {
+    if layout::PICTURES < n || n <= b {
         return n;
     }
     let time = d % 4294967296;
     let mut sum: u64 = 0;
-    let mut i = b + 1;
-    while i < n {
+    for i in b + 1..n {
         let s = figure(luma, layout::SCORES + i);
-        let between = sum;
-        sum += s;
-        if starts_scene(time, (i - b) as u64, s, between) {
+        if starts_scene(time, (i - b) as u64, s, sum) {
             return i;
         }
-        i += 1;
+        sum += s;
     }
     n
 }
@@ -74,6 +63,7 @@ pub fn count(luma: &Words, n: usize, d: u64) -> usize
 {
     let mut scenes = 0;
     let mut b = 0;
+    // No plainer: where the next scene starts is what a search over the scores finds, so no range has these starts.
     while b < n {
         b = next_start(luma, n, d, b);
         scenes += 1;
@@ -81,35 +71,19 @@ pub fn count(luma: &Words, n: usize, d: u64) -> usize
     scenes
 }
 
-// The sum of the figures of pictures i to before j.
-fn total(luma: &Words, base: usize, i: usize, j: usize) -> u64
-    requires { (j ≤ 750) × (base ≤ 850) }
-    ensures { TotalPost luma.now base i j result }
+// The sum of cut scores or changes.
+fn total(figures: &[u64]) -> u64
+    requires { length figures.now ≤ 750 }
+    ensures { result ≡ sum_by (λ x. x % 2 ^ 32) figures.now }
 {
-    let mut sum: u64 = 0;
-    let mut k = i;
-    while k < j {
-        sum += figure(luma, base + k);
-        k += 1;
-    }
-    sum
+    figures.iter().map(|x| *x % 4294967296).sum()
 }
 
-// The greatest cut score of pictures i to before j.
-fn peak(luma: &Words, i: usize, j: usize) -> u64
-    requires { j ≤ 750 }
-    ensures { PeakPost luma.now i j result }
+// The greatest of cut scores.
+fn peak(figures: &[u64]) -> u64
+    ensures { result ≡ fold (λ most x. max most (x % 2 ^ 32)) 0 figures.now }
 {
-    let mut most: u64 = 0;
-    let mut k = i;
-    while k < j {
-        let s = figure(luma, layout::SCORES + k);
-        if most < s {
-            most = s;
-        }
-        k += 1;
-    }
-    most
+    figures.iter().fold(0, |most, x| most.max(*x % 4294967296))
 }
 
 // How many of pictures i to before j are repeated.
@@ -118,10 +92,8 @@ fn repeated(luma: &Words, i: usize, j: usize) -> u64
     ensures { RepeatedPost luma.now i j result }
 {
     let mut found: u64 = 0;
-    let mut k = i;
-    while k < j {
+    for k in i..j {
         found += repeat_bit(luma, k);
-        k += 1;
     }
     found
 }
@@ -133,22 +105,14 @@ fn longest(luma: &Words, i: usize, j: usize) -> u64
 {
     let mut most: u64 = 0;
     let mut run: u64 = 0;
-    let mut k = i;
-    while k < j {
-        if repeat_bit(luma, k) == 1 {
-            run += 1;
-        } else {
-            run = 0;
-        }
-        if most < run {
-            most = run;
-        }
-        k += 1;
+    for k in i..j {
+        run = if repeat_bit(luma, k) == 1 { run + 1 } else { 0 };
+        most = most.max(run);
     }
     most
 }
 
-// Zeros for pictures that are no scene's, which nothing goes by.
+// Zeros for pictures that are no scene's, which nothing goes by. No Option, since `scene_row` cannot fail.
 fn no_scene() -> SceneRow {
     SceneRow {
         first: 0,
@@ -165,19 +129,18 @@ fn no_scene() -> SceneRow {
 pub fn scene_row(luma: &Words, i: usize, j: usize) -> SceneRow
     ensures { RowPost luma.now i j result }
 {
-    if layout::PICTURES < j {
+    if layout::PICTURES < j || j < i {
         return no_scene();
     }
-    if j < i {
-        return no_scene();
-    }
+    let scores = &luma[layout::SCORES + i..layout::SCORES + j];
+    let changes = &luma[layout::CHANGES + i..layout::CHANGES + j];
     SceneRow {
         first: i as u32,
         pictures: (j - i) as u32,
         repeated: figures::low(repeated(luma, i, j)),
         longest: figures::low(longest(luma, i, j)),
-        score: figures::low(total(luma, layout::SCORES, i, j)),
-        peak: figures::low(peak(luma, i, j)),
-        change: figures::low(total(luma, layout::CHANGES, i, j)),
+        score: figures::low(total(scores)),
+        peak: figures::low(peak(scores)),
+        change: figures::low(total(changes)),
     }
 }

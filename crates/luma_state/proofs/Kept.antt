@@ -4,7 +4,6 @@ use native.Mathlib.Omega.{arith}
 use native.Mathlib.Nat.{mul-le-mul, mul-le-mul_right, mul_comm, div-mul-le_self, div-le_self}
 use mathlib.Core.Path.{◌≡◌, refl, ap, ◌∙◌}
 use mathlib.Core.List.{List, [], ◌∷◌, ◌++◌}
-use mathlib.Core.Bool.{true, false}
 use lib.ListN.{length, get_or, set, length-append, length-set}
 use lib.Seq.{sets, sets-eq, get_or-set_other}
 use Rattle.rules.specs.declared.Opening.{Opening}
@@ -18,9 +17,9 @@ use Rattle.luma_laws.proofs.Columns.{boundary-is}
 use Rattle.luma_laws.proofs.Full.{full-reduced}
 use Rattle.luma_state.specs.declared.Grid.{Grid}
 use Rattle.luma_state.specs.declared.Progress.{Progress}
-use Rattle.luma_state.specs.State.{Holding, Full, Fits, loaded, opening_in, grid_of, Words, Live, Sane, Stands}
+use Rattle.luma_state.specs.State.{Holding, Full, Fits, loaded, opening_in, grid_of, Words, Live, Stands}
 use Rattle.luma_state.specs.State.{refused, live, Means}
-use Rattle.luma_state.specs.Contract.{Stored, Placed}
+use Rattle.luma_state.specs.Contract.{Stored}
 
 -- ---- the sizes of an opening that is not refused
 
@@ -51,12 +50,6 @@ unfolding columns
 columns-most o = div-le_self o.width (side o)
 
 -- ---- a place inside a picture
-
-pub not-placed : {g : Grid} {s : Progress} → (Sane g s → ⊥) → Placed g s false
-not-placed n = record { sound = λ e. let z : ◌≡◌ {A = ℕ} 0 1 = cc in absurd (omega arith); whole = λ h. absurd (n h) }
-
-pub is-placed : {g : Grid} {s : Progress} → Sane g s → Placed g s true
-is-placed h = record { sound = λ e. h; whole = λ e. refl }
 
 -- ---- the scalars in the words
 

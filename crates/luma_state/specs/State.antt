@@ -1,8 +1,7 @@
 -- What the lent arrays of the luma side stand for. The luma words' scalars are `Progress` and the opening; the other
 -- words hold what is known of the whole pictures. `sums` are the block sums of the current block row, `bins` a ring
--- of
--- five pictures' histograms, `picture` the pixels: those of the block rows that are done are the current picture's,
--- the others the previous one's.
+-- of five pictures' histograms, `picture` the pixels: those of the block rows that are done are the current
+-- picture's, the others the previous one's.
 use Rattle.std.specs.Prelude.{ℕ, ◌+◌, ◌-◌, ◌*◌, ◌/◌, ◌%◌, ◌^◌, ◌≤◌, ◌<◌, ◌≡◌, List, [], ◌++◌, map, not, length}
 use Rattle.std.specs.Prelude.{get_or, take}
 use Rattle.rules.specs.declared.Opening.{Opening}
@@ -105,8 +104,7 @@ kept_of hs =
     (difference (at hs (length hs - 4)) (at hs (length hs - 1)))
 
 -- what the words hold: the opening, and of the pictures every cut score that is settled and every change, 0
--- elsewhere,
--- the map of repeats, and from the fourth picture on what the next cut score needs of the earlier ones
+-- elsewhere, the map of repeats, and from the fourth picture on what the next cut score needs of the earlier ones
 pub record Words (o : Opening) (pxs : List (List ℕ)) (luma : List ℕ) : Type 0 where
   pub size : length luma ≡ word_count
   pub opening : opening_in luma ≡ o
@@ -136,7 +134,7 @@ pub record Drawn (g : Grid) (s : Progress) (pxs : List (List ℕ)) (cur bins pic
   pub counts : Counts g.columns g.lines (slot (length pxs)) (take (s.line * g.columns) picture) bins
   pub moves : Figures (previous pxs) (take (s.line * g.columns) picture) (moves_in s)
 
--- where it ends: in a block row, whose block sums these are, or in the surplus rows behind the last block row, of
+-- where it ends: in a block row, whose block sums these are, or in the surplus rows after the last block row, of
 -- which `left` bytes are to come
 pub data Place (g : Grid) (s : Progress) (cur sums : List ℕ) : Type 0 where
   drawing : s.line < g.lines → length cur ≡ (s.line * g.side + s.row) * g.width + s.col →
@@ -182,8 +180,8 @@ pub record Full (o : Opening) (s : Progress) (luma joined : List ℕ) : Type 0 w
   pub fresh : s.fresh ≡ count not (repeats (reduced o joined)) % 2 ^ 64
   pub words : Words o (reduced o joined) luma
 
--- The arrays stand for the opening o and the joined bytes: a refusal stands, the opening's or
--- 10, with its place; or none
+-- The arrays stand for the opening o and the joined bytes: a refusal stands (the opening's or 10, with its place), or
+-- none does
 pub data Stands (o : Opening) (s : Progress) (luma sums bins picture joined : List ℕ) : Type 0 where
   refused : opening_fault o or_else luma_fault o joined ≡ fault s.status s.place → 0 < s.status →
       (opening_fault o ≡ none → Full o s luma joined) →

@@ -1,5 +1,5 @@
-// What stands where in the words, and how many of each there are.
-pub const STATUS: usize = 0; // the number of the refusal that stands, 0: none
+// What lies where in the words, and how many of each there are.
+pub const STATUS: usize = 0; // the number of the refusal that holds, 0: none
 
 pub const PLACE: usize = 1; // and its place
 

@@ -1,4 +1,4 @@
-// What stands in the lent words between calls: the luma side's numbers and its opening.
+// What the lent words hold between calls: the luma side's numbers and its opening.
 ghost use Rattle.std.specs.Prelude.{◌≡◌, ◌^◌, ◌≤◌, ◌<◌};
 ghost use Rattle.rules.specs.Columns.{Boundary};
 ghost use Rattle.luma_state.specs.State.{loaded, opening_in, grid_of};
@@ -47,17 +47,12 @@ pub fn store(luma: &mut Words, s: Progress)
 pub fn opening_in(luma: &Words) -> Opening
     ensures { result ≡ opening_in luma.now }
 {
-    let width = figures::low(luma[layout::WIDTH]);
-    let height = figures::low(luma[layout::HEIGHT]);
-    let time = figures::low(luma[layout::TIME]);
-    let pid = figures::low(luma[layout::PID]);
-    let edition = figures::low(luma[layout::EDITION]);
     Opening {
-        width: width,
-        height: height,
-        time: time,
-        pid: pid,
-        edition: edition,
+        width: figures::low(luma[layout::WIDTH]),
+        height: figures::low(luma[layout::HEIGHT]),
+        time: figures::low(luma[layout::TIME]),
+        pid: figures::low(luma[layout::PID]),
+        edition: figures::low(luma[layout::EDITION]),
     }
 }
 
@@ -72,18 +67,15 @@ fn boundary(k: u64, w: u64) -> u64
 pub fn grid_of(o: Opening) -> Grid
     ensures { result ≡ grid_of o }
 {
-    let width = o.width as usize;
     let z = figures::sizes_of(o);
-    let second = boundary(1, z.columns);
-    let third = boundary(2, z.columns);
     Grid {
-        width: width,
+        width: o.width as usize,
         side: z.side as usize,
         columns: z.columns as usize,
         lines: z.lines as usize,
         bytes: z.picture as usize,
-        second: second as usize,
-        third: third as usize,
+        second: boundary(1, z.columns) as usize,
+        third: boundary(2, z.columns) as usize,
     }
 }
 
@@ -95,19 +87,7 @@ pub fn placed(g: Grid, s: Progress) -> bool
         return false;
     }
     if s.line < g.lines {
-        if g.side <= s.row {
-            return false;
-        }
-        if g.width <= s.col {
-            return false;
-        }
-        return true;
+        return s.row < g.side && s.col < g.width;
     }
-    if g.lines < s.line {
-        return false;
-    }
-    if s.left == 0 {
-        return false;
-    }
-    true
+    s.line == g.lines && 0 < s.left
 }

@@ -1,13 +1,18 @@
 -- Runs of a row: what a part of a run that lies in one block column adds. No code.
+use Rattle.std.proofs.Common.{take}
 use Rattle.std.proofs.Common.{◌≡◌, ℕ, ◌+◌, ◌-◌, ◌*◌, ◌/◌, ◌%◌, ◌^◌, ◌<◌, ◌≤◌, Bool, true, false, eqb, List, [], ◌++◌}
 use Rattle.std.proofs.Common.{length, get_or, drop, set, sym, refl, ap, ◌∙◌, add-zero, mul-le-mul_right, add-mul}
 use Rattle.std.proofs.Common.{le-div_iff_mul-le, zero-mul, arith, length-drop, length-set, length-take-le}
-use Rattle.std.proofs.Common.{get_or-set_other, get_or-set_same, drop-drop, take-add, eq-eqb, ne_eqb, eqb-true}
+use Rattle.std.proofs.Common.{◌∷◌, zero, suc, get_or-set_other, get_or-set_same, drop-drop, take-add, eq-eqb, ne_eqb}
+use Rattle.std.proofs.Common.{eqb-true}
+use Rattle.std.proofs.Common.{sum_by}
+use Rattle.std.proofs.lemmas.List.Sums.{sum_by-cons}
+use Rattle.std.proofs.lemmas.List.{take-append-drop}
 use native.Mathlib.Nat.{div-eq_of_lt-le}
 use borrow.Author.Tests.{eqb-false}
 use Rattle.rules.specs.Bytes.{total, tally}
 use Rattle.luma_laws.proofs.Tally.{tally-append, tally-all, tally-none}
-use Rattle.luma_sums.specs.Sums.{run, in_column, Added, Part, Blocks, Both}
+use Rattle.luma_sums.specs.Sums.{run, in_column, given, Added, AddedAll, Part, Blocks}
 
 pub run_length : (s : List ℕ) (at m : ℕ) → at + m ≤ length s → length (run s at m) ≡ m
 run_length s at m h = length-take-le m (drop at s) (simp length-drop (omega arith))
@@ -79,154 +84,152 @@ added-one n w q c v t a h k lo hi e =
           add-zero (get_or a d 0),
         ) refl
 
--- t bytes more of the bytes of s from `at` on
-pub added_more : (n w x c v : ℕ) (s : List ℕ) (at i t : ℕ) {b a : List ℕ} → Added n w x (run s at i) b a → c < w →
-    w ≤ 240 → c * n ≤ x + i →
-    x + i + t ≤ c * n + n → at + i + t ≤ length s → v ≡ (get_or a c 0 + total (run s (at + i) t)) % 2 ^ 32 →
-    Added n w x (run s at (i + t)) b (set a c v)
-added_more n w x c v s at i t {b} {a} f h k lo hi l e =
-    let z : length (run s at i) ≡ i = run_length s at i (omega arith) in
-    let y : length (run s (at + i) t) ≡ t = run_length s (at + i) t (omega arith) in
-    rw (run-split s at i t)
-    (added-append f (rw z (added-one n w (x + i) c v (run s (at + i) t) a h k lo (omega arith) e)))
+-- bytes within block column c
+pub part_in : {w c v : ℕ} (t : List ℕ) {a : List ℕ} → c < w → w ≤ 240 → v ≡ (get_or a c 0 + total t) % 2 ^ 32 →
+    Part w c t a (set a c v)
+part_in {w} {c} {v} t {a} h k e n q p lo hi = added-one n w q c v t a h k lo (hi h) e
 
--- t bytes of s within block column c
-pub part_in : {w c v : ℕ} (s : List ℕ) (at t : ℕ) {a : List ℕ} → c < w → w ≤ 240 → at + t ≤ length s →
-    v ≡ (get_or a c 0 + total (run s at t)) % 2 ^ 32 →
-    Part w c s at t a (set a c v)
-part_in {w} {c} {v} s at t {a} h k l e n q p lo hi =
-    let z : length (run s at t) ≡ t = run_length s at t l in
-    added-one n w q c v (run s at t) a h k lo (omega (arith, hi h)) e
-
--- one block of k, the one behind the first j
+-- one block of k, the one after the first j
 pub inside : {j k : ℕ} (n : ℕ) → j < k → j * n + n ≤ k * n
 inside {j} {k} n h =
     let up : j + 1 ≤ k = omega arith in
     omega (arith, add-mul j 1 n, mul-le-mul_right n up)
 
-pub blocks-none : (n c : ℕ) (s : List ℕ) (at : ℕ) (a : List ℕ) → Blocks n c 0 s at a a
-blocks-none n c s at a w h k = rw (zero-mul n) (added_none n w (c * n) a)
-
--- one block more
-pub blocks_more : (n c v j : ℕ) (s : List ℕ) (at : ℕ) {b a : List ℕ} →
-    Blocks n c j s at b a → at + (j * n + n) ≤ length s →
-    v ≡ (get_or a (c + j) 0 + total (run s (at + j * n) n)) % 2 ^ 32 → Blocks n c (j + 1) s at b (set a (c + j) v)
-blocks_more n c v j s at {b} {a} f l e w h k =
-    let z : (j + 1) * n ≡ j * n + n = omega (arith, add-mul j 1 n) in
-    let y : (c + j) * n ≡ c * n + j * n = add-mul c j n in
-    rw z (added_more n w (c * n) (c + j) v s at (j * n) n (f w (omega arith) k) (omega arith) k (omega arith)
-    (omega arith) (omega arith) e)
-
--- a run from an edge on: whole blocks, what is left
-pub from-edge : (n w c : ℕ) (s : List ℕ) (at m k : ℕ) {a b d : List ℕ} → 0 < n → w ≤ 240 → c + k ≤ w → k * n ≤ m →
-    (c + k < w → m < k * n + n) → at + m ≤ length s →
-    Blocks n c k s at a b → Part w (c + k) s (at + k * n) (m - k * n) b d → Added n w (c * n) (run s at m) a d
-from-edge n w c s at m k {a} {b} {d} hn hw room fits last l blocks rest =
-    let end : (c + k) * n ≡ c * n + k * n = add-mul c k n in
-    let size : length (run s at (k * n)) ≡ k * n = run_length s at (k * n) (omega arith) in
-    let more : m ≡ k * n + (m - k * n) = omega arith in
-    let tail : Added n w (c * n + k * n) (run s (at + k * n) (m - k * n)) b d =
-    rest n (c * n + k * n) hn (omega arith) (λ h. omega (arith, last h)) in
-    rw (more, run-split s at (k * n) (m - k * n)) (added-append (blocks w room hw) (rw size tail))
-
--- a run up to an edge, and the rest
-pub to-edge : (n w x c : ℕ) (s : List ℕ) (at m head : ℕ) {a b d : List ℕ} → 0 < n → c * n ≤ x → x + head ≡ c * n + n →
-    head ≤ m → at + m ≤ length s →
-    Part w c s at head a b → Added n w ((c + 1) * n) (run s (at + head) (m - head)) b d → Added n w x (run s at m) a d
-to-edge n w x c s at m head {a} {b} {d} hn lo edge fits l first rest =
-    let size : length (run s at head) ≡ head = run_length s at head (omega arith) in
-    let start : x + head ≡ (c + 1) * n = omega (arith, add-mul c 1 n) in
-    let more : m ≡ head + (m - head) = omega arith in
-    rw (more, run-split s at head (m - head))
-    (added-append (first n x hn lo (λ h. omega arith)) (rw (size, start) rest))
-
--- ---- two rows
-
-pub both-none : (n w : ℕ) (s : List ℕ) (at below : ℕ) (a : List ℕ) →
-    Both n w (run s at (0 * n)) (run s below (0 * n)) a a
+none-given : (n x : ℕ) (s : List ℕ) (d : ℕ) (places : List ℕ) → given n x 0 s d places ≡ 0
 unfolding tally
-both-none n w s at below a = rw (zero-mul n) (record { size = refl; grown = λ e c h. omega arith })
+none-given n x s d [] = refl
+none-given n x s d (at ∷ more) =
+    omega (arith, sum_by-cons (λ z. tally (in_column n d) x (run s z 0)) at more, none-given n x s d more)
 
-joined : (v x y t u o p T U : ℕ) → v ≡ ((x + o) % 2 ^ 32 + p) % 2 ^ 32 → x % 2 ^ 32 ≡ (y + t + u) % 2 ^ 32 →
-    T ≡ t + o → U ≡ u + p → v % 2 ^ 32 ≡ (y + T + U) % 2 ^ 32
-joined v x y t u o p T U a b c d =
-    ap (λ (k : ℕ). k % 2 ^ 32) (a ∙ inner (x + o) p) ∙ twice (x + o + p) ∙ ap (λ (k : ℕ). k % 2 ^ 32) left
-    ∙ same x (y + t + u) (o + p) b ∙ ap (λ (k : ℕ). k % 2 ^ 32) right
+pub blocks-none : (n c : ℕ) (s places a : List ℕ) → Blocks n c 0 s places a a
+unfolding tally
+blocks-none n c s places a w h k =
+    rw (zero-mul n)
+    (record {
+      size = refl;
+      grown = λ e d y. omega (arith, none-given n (c * n) s d places);
+      other = λ d y. refl;
+    })
+
+-- what the blocks of n bytes, of s from `off` on after each place, sum to
+abbrev pub totals : (s : List ℕ) (off n : ℕ) → List ℕ → ℕ
+totals s off n places = sum_by (λ at. total (run s (at + off) n)) places
+
+-- m bytes are there from each place on
+abbrev pub There : List ℕ → ℕ → List ℕ → Type 0
+There places m s = (r : ℕ) → r < length places → get_or places r 0 + m ≤ length s
+
+-- a block more of each row goes to its block column
+given-own : (n c j : ℕ) (s places : List ℕ) → There places (j * n + n) s →
+    given n (c * n) (j * n + n) s (c + j) places
+    ≡ given n (c * n) (j * n) s (c + j) places + totals s (j * n) n places
+given-own n c j s [] l = refl
+given-own n c j s (at ∷ more) l =
+    let f = in_column n (c + j) in
+    let t = run s (at + j * n) n in
+    let one : at + (j * n + n) ≤ length s = l 0 (omega arith) in
+    let size : length (run s at (j * n)) ≡ j * n = run_length s at (j * n) (omega arith) in
+    let long : length t ≡ n = run_length s (at + j * n) n (omega arith) in
+    let edge : (c + j) * n ≡ c * n + j * n = add-mul c j n in
+    let split : tally f (c * n) (run s at (j * n + n)) ≡ tally f (c * n) (run s at (j * n)) + total t =
+    rw (run-split s at (j * n) n, tally-append f (c * n) (run s at (j * n)) t, size)
+    (ap (λ x. tally f (c * n) (run s at (j * n)) + x)
+    (own n (c + j) (c * n + j * n) t (omega arith) (omega arith))) in
+    omega (
+      arith,
+      split,
+      sum_by-cons (λ z. tally f (c * n) (run s z (j * n + n))) at more,
+      sum_by-cons (λ z. tally f (c * n) (run s z (j * n))) at more,
+      sum_by-cons (λ z. total (run s (z + j * n) n)) at more,
+      given-own n c j s more (λ r h. l (suc r) (omega arith)),
+    )
+
+given-others : (n c j d : ℕ) (s places : List ℕ) → There places (j * n + n) s →
+    (c + j ≡ d → ⊥) → given n (c * n) (j * n + n) s d places ≡ given n (c * n) (j * n) s d places
+given-others n c j d s [] l e = refl
+given-others n c j d s (at ∷ more) l e =
+    let f = in_column n d in
+    let t = run s (at + j * n) n in
+    let one : at + (j * n + n) ≤ length s = l 0 (omega arith) in
+    let size : length (run s at (j * n)) ≡ j * n = run_length s at (j * n) (omega arith) in
+    let long : length t ≡ n = run_length s (at + j * n) n (omega arith) in
+    let edge : (c + j) * n ≡ c * n + j * n = add-mul c j n in
+    let split : tally f (c * n) (run s at (j * n + n)) ≡ tally f (c * n) (run s at (j * n)) =
+    rw (run-split s at (j * n) n, tally-append f (c * n) (run s at (j * n)) t, size)
+    (rw (others n (c + j) d (c * n + j * n) t (omega arith) (omega arith) e) (omega arith)) in
+    omega (
+      arith,
+      split,
+      sum_by-cons (λ z. tally f (c * n) (run s z (j * n + n))) at more,
+      sum_by-cons (λ z. tally f (c * n) (run s z (j * n))) at more,
+      given-others n c j d s more (λ r h. l (suc r) (omega arith)) e,
+    )
+
+-- one block of each row more
+pub blocks_more : (n c j v : ℕ) (s places : List ℕ) {b a : List ℕ} → Blocks n c j s places b a →
+    There places (j * n + n) s →
+    v % 2 ^ 32 ≡ (get_or a (c + j) 0 + totals s (j * n) n places) % 2 ^ 32 →
+    Blocks n c (j + 1) s places b (set a (c + j) v)
+blocks_more n c j v s places {b} {a} f l g w h k =
+    let old = f w (omega arith) k in
+    let up : (j + 1) * n ≡ j * n + n = omega (arith, add-mul j 1 n) in
+    rw up
+    (record {
+      size = length-set a (c + j) v ∙ old.size;
+      grown = λ q d y. grows old q d y (eqb (c + j) d) refl;
+      other = λ d y. get_or-set_other a (c + j) d v 0 (λ m. omega arith) ∙ old.other d y;
+    })
   where
-    inner : (k m : ℕ) → (k % 2 ^ 32 + m) % 2 ^ 32 ≡ (k + m) % 2 ^ 32
-    inner k m = omega arith
-
-    twice : (k : ℕ) → k % 2 ^ 32 % 2 ^ 32 ≡ k % 2 ^ 32
-    twice k = omega arith
-
-    same : (k l m : ℕ) → k % 2 ^ 32 ≡ l % 2 ^ 32 → (k + m) % 2 ^ 32 ≡ (l + m) % 2 ^ 32
-    same k l m e = omega arith
-
-    left : x + o + p ≡ x + (o + p)
-    left = omega arith
-
-    right : y + t + u + (o + p) ≡ y + T + U
-    right = omega (arith, c, d)
-
--- one block of each more, behind the first j
-pub both-more : {n w j v : ℕ} (s : List ℕ) (at below : ℕ) {b a : List ℕ} →
-    Both n w (run s at (j * n)) (run s below (j * n)) b a → j < w → w ≤ 240 → at + (j * n + n) ≤ length s →
-    below + (j * n + n) ≤ length s →
-    v ≡ ((get_or a j 0 + total (run s (at + j * n) n)) % 2 ^ 32 + total (run s (below + j * n) n)) % 2 ^ 32 →
-    Both n w (run s at ((j + 1) * n)) (run s below ((j + 1) * n)) b (set a j v)
-both-more {n} {w} {j} {v} s at below {b} {a} f h k l m e =
-    record {
-      size = length-set a j v ∙ f.size;
-      grown = λ z d y.
-          rw (up, run-split s at (j * n) n, run-split s below (j * n) n)
-          (grows z d y (eqb j d) refl);
-    }
-  where
-    up : (j + 1) * n ≡ j * n + n
-    up = omega (arith, add-mul j 1 n)
-
-    grows : length b ≡ 240 → (d : ℕ) → d < w → (r : Bool) → eqb j d ≡ r →
-        get_or (set a j v) d 0 % 2 ^ 32
-        ≡ (get_or b d 0 + tally (in_column n d) 0 (run s at (j * n) ++ run s (at + j * n) n)
-        + tally (in_column n d) 0 (run s below (j * n) ++ run s (below + j * n) n)) % 2 ^ 32
-    grows z d y true q =
-        let same : j ≡ d = eqb-true j d q in
-        let t = run s (at + j * n) n in
-        let u = run s (below + j * n) n in
-        let first : length (run s at (j * n)) ≡ j * n = run_length s at (j * n) (omega arith) in
-        let second : length (run s below (j * n)) ≡ j * n = run_length s below (j * n) (omega arith) in
-        let long : length t ≡ n = run_length s (at + j * n) n (omega arith) in
-        let long-2 : length u ≡ n = run_length s (below + j * n) n (omega arith) in
-        let zero : 0 + j * n ≡ j * n = omega arith in
-        let gives : tally (in_column n j) 0 (run s at (j * n) ++ t)
-        ≡ tally (in_column n j) 0 (run s at (j * n)) + total t =
-        rw (first, zero) at (tally-append (in_column n j) 0 (run s at (j * n)) t)
-        ∙ ap (λ (x : ℕ). tally (in_column n j) 0 (run s at (j * n)) + x)
-        (own n j (j * n) t (omega arith) (omega arith)) in
-        let gives-2 : tally (in_column n j) 0 (run s below (j * n) ++ u)
-        ≡ tally (in_column n j) 0 (run s below (j * n)) + total u =
-        rw (second, zero) at (tally-append (in_column n j) 0 (run s below (j * n)) u)
-        ∙ ap (λ (x : ℕ). tally (in_column n j) 0 (run s below (j * n)) + x)
-        (own n j (j * n) u (omega arith) (omega arith)) in
-        rw (← same, get_or-set_same a j v 0 (omega (arith, f.size)))
-        (joined v (get_or a j 0) (get_or b j 0) _ _ _ _ _ _ e (f.grown z j h) gives gives-2)
-    grows z d y false q =
-        let t = run s (at + j * n) n in
-        let u = run s (below + j * n) n in
-        let first : length (run s at (j * n)) ≡ j * n = run_length s at (j * n) (omega arith) in
-        let second : length (run s below (j * n)) ≡ j * n = run_length s below (j * n) (omega arith) in
-        let long : length t ≡ n = run_length s (at + j * n) n (omega arith) in
-        let long-2 : length u ≡ n = run_length s (below + j * n) n (omega arith) in
-        let zero : 0 + j * n ≡ j * n = omega arith in
-        rw (get_or-set_other a j d v 0 (λ x. eqb-false j d q (sym x)))
+    grows : AddedAll n w (c * n) (j * n) s places b a → length b ≡ 240 → (d : ℕ) → d < w → (r : Bool) →
+        eqb (c + j) d ≡ r →
+        get_or (set a (c + j) v) d 0 % 2 ^ 32 ≡ (get_or b d 0 + given n (c * n) (j * n + n) s d places) % 2 ^ 32
+    grows old q d y true e =
+        let same : c + j ≡ d = eqb-true (c + j) d e in
+        rw (← same, get_or-set_same a (c + j) v 0 (omega (arith, old.size)))
         (omega (
           arith,
-          f.grown z d y,
-          rw (first, zero) at (tally-append (in_column n d) 0 (run s at (j * n)) t),
-          rw (second, zero) at (tally-append (in_column n d) 0 (run s below (j * n)) u),
-          others n j d (j * n) t (omega arith) (omega arith) (eqb-false j d q),
-          others n j d (j * n) u (omega arith) (omega arith) (eqb-false j d q),
+          g,
+          old.grown q (c + j) (omega arith),
+          given-own n c j s places l,
         ))
+    grows old q d y false e =
+        let not : c + j ≡ d → ⊥ = eqb-false (c + j) d e in
+        rw (get_or-set_other a (c + j) d v 0 (λ m. not (sym m)), given-others n c j d s places l not)
+        (old.grown q d y)
+
+-- one row's place
+pub one-inside : (at m : ℕ) (s : List ℕ) → at + m ≤ length s → (r : ℕ) → r < length (at ∷ []) →
+    get_or (at ∷ []) r 0 + m ≤ length s
+one-inside at m s h zero k = h
+one-inside at m s h (suc r) k = absurd (omega arith)
+
+-- one row's
+pub one-row : {n w x m : ℕ} {s b a : List ℕ} (at : ℕ) → AddedAll n w x m s (at ∷ []) b a →
+    Added n w x (run s at m) b a
+one-row at f = record { size = f.size; grown = λ q d y. omega (arith, f.grown q d y); other = f.other }
+
+-- a run from an edge on: whole blocks, what is left
+pub from-edge : (n w c : ℕ) (s : List ℕ) (k : ℕ) {a b d : List ℕ} → 0 < n → w ≤ 240 → c + k ≤ w → k * n ≤ length s →
+    (c + k < w → length s < k * n + n) →
+    Blocks n c k s (0 ∷ []) a b → Part w (c + k) (drop (k * n) s) b d → Added n w (c * n) s a d
+from-edge n w c s k {a} {b} {d} hn hw room fits last blocks rest =
+    let end : (c + k) * n ≡ c * n + k * n = add-mul c k n in
+    let size : length (take (k * n) s) ≡ k * n = length-take-le (k * n) s fits in
+    let left : length (drop (k * n) s) ≡ length s - k * n = length-drop (k * n) s in
+    let tail : Added n w (c * n + k * n) (drop (k * n) s) b d =
+    rest n (c * n + k * n) hn (omega arith) (λ h. omega (arith, last h)) in
+    let next : Added n w (c * n + length (take (k * n) s)) (drop (k * n) s) b d = rw size tail in
+    rw (take-append-drop (k * n) s) at (added-append (one-row 0 (blocks w room hw)) next)
+
+-- a run up to an edge, and the rest
+pub to-edge : (n w x c : ℕ) (s : List ℕ) (head : ℕ) {a b d : List ℕ} → 0 < n → c * n ≤ x → x + head ≡ c * n + n →
+    head ≤ length s → Part w c (take head s) a b → Added n w ((c + 1) * n) (drop head s) b d → Added n w x s a d
+to-edge n w x c s head {a} {b} {d} hn lo edge fits first rest =
+    let size : length (take head s) ≡ head = length-take-le head s fits in
+    let start : x + head ≡ (c + 1) * n = omega (arith, add-mul c 1 n) in
+    let before : Added n w x (take head s) a b = first n x hn lo (λ h. omega arith) in
+    let after : Added n w (x + length (take head s)) (drop head s) b d = rw (size, start) rest in
+    rw (take-append-drop head s) at (added-append before after)
 
 -- all of a row gives to the first w block columns what their w × n bytes give
 pub row_gives : (n w c W : ℕ) (s : List ℕ) (at : ℕ) → 0 < n → c < w → w * n ≤ W → at + W ≤ length s →

@@ -1,8 +1,12 @@
 -- Counting: nothing but a picture's own bins changes, and they stand for a pixel more. No code.
 use Rattle.std.proofs.Common.{◌≡◌, ℕ, ◌+◌, ◌-◌, ◌*◌, ◌/◌, ◌%◌, ◌^◌, ◌<◌, ◌≤◌, Bool, true, false, eqb, List, [], ◌∷◌}
+use Rattle.std.proofs.Common.{take, drop-drop, take-take}
+use Rattle.std.proofs.lemmas.List.{drop-take, take_rest, places}
+use Rattle.std.proofs.Common.{rules}
+use borrow.Rule.Slice.PartMut.{put_mid}
 use Rattle.std.proofs.Common.{◌++◌, length, get_or, drop, set, sym, refl, ap, ◌∙◌, append_assoc, append-nil, one-mul}
-use Rattle.std.proofs.Common.{zero-mul, add-one, arith, length-append, length-drop, length-set, get_or-drop}
-use Rattle.std.proofs.Common.{get_or-set_other, take-suc, get_or-set_same, below_more, eqb-true}
+use Rattle.std.proofs.Common.{zero-mul, add-one, arith, length-append, length-set}
+use Rattle.std.proofs.Common.{get_or-set_other, take-suc, get_or-set_same, eqb-true}
 use borrow.Author.Tests.{eqb-false}
 use Rattle.rules.specs.Bytes.{pick, count, tally}
 use Rattle.rules.specs.Histograms.{third, tile_at, bin, in_bin}
@@ -124,40 +128,49 @@ in-picture w h t b u p (v ∷ xs) e =
 
 -- ---- the pixels of a row
 
-run_more : (s : List ℕ) (at i : ℕ) → at + i < length s → run s at (i + 1) ≡ run s at i ++ get_or s (at + i) 0 ∷ []
-run_more s at i h =
-    let m : i < length (drop at s) = simp length-drop (omega arith) in
-    rw (add-one i, take-suc (drop at s) i 0, get_or-drop at s i 0) refl
+one-more : (s : List ℕ) (i : ℕ) → i < length s → take (i + 1) s ≡ take i s ++ get_or s i 0 ∷ []
+one-more s i h = rw (add-one i, take-suc s i 0) refl
 
-pub run-one : (s : List ℕ) (at m : ℕ) → m ≤ 1 → 0 < m → at + m ≤ length s → run s at m ≡ get_or s at 0 ∷ []
-run-one s at m few some h =
-    let e : m ≡ 0 + 1 = omega arith in
-    let z : at + 0 ≡ at = omega arith in
-    rw (e, run_more s at 0 (omega arith), z) refl
+pub rest-none : (base t : ℕ) (a : List ℕ) → Grown base (in_tile t []) a a
+rest-none base t a = grown-same (λ u b. omega (arith, in-none t u b)) (grown-none base a)
 
-pub last_none : (base t at m : ℕ) (pixels a : List ℕ) → m ≡ 0 → Grown base (in_tile t (run pixels at m)) a a
-last_none base t at m pixels a e = rw e (grown-same (λ u b. omega (arith, in-none t u b)) (grown-none base a))
+pub rest-more : (base t i : ℕ) (xs : List ℕ) {a b c : List ℕ} → Grown base (in_tile t (take i xs)) a b →
+    i < length xs →
+    Grown base (in_tile t (get_or xs i 0 ∷ [])) b c → Grown base (in_tile t (take (i + 1) xs)) a c
+rest-more base t i xs s h f =
+    rw (one-more xs i h)
+    (grown-same (λ u b. sym (in-append t u b (take i xs) (get_or xs i 0 ∷ []))) (grown-more s f))
 
-pub three-none : (base t x y z : ℕ) (pixels a : List ℕ) → Three base t pixels x y z 0 a a
-three-none base t x y z pixels a =
+pub three-none : (base t : ℕ) (a : List ℕ) → Three base t [] [] [] a a
+three-none base t a =
     grown-same (λ u b. omega (arith, in-none t u b, in-none (t + 1) u b, in-none (t + 2) u b)) (grown-none base a)
 
-pub three-more : (base t x y z i : ℕ) (pixels : List ℕ) {a b c d e : List ℕ} → Three base t pixels x y z i a b →
-    x + i < length pixels → y + i < length pixels → z + i < length pixels →
-    Grown base (in_tile t (get_or pixels (x + i) 0 ∷ [])) b c →
-    Grown base (in_tile (t + 1) (get_or pixels (y + i) 0 ∷ [])) c d →
-    Grown base (in_tile (t + 2) (get_or pixels (z + i) 0 ∷ [])) d e → Three base t pixels x y z (i + 1) a e
-three-more base t x y z i pixels s hx hy hz f g k =
-    rw (run_more pixels x i hx, run_more pixels y i hy, run_more pixels z i hz)
+pub three-more : (base t i : ℕ) (xs ys zs : List ℕ) {a b c d e : List ℕ} →
+    Three base t (take i xs) (take i ys) (take i zs) a b → i < length xs → i < length ys → i < length zs →
+    Grown base (in_tile t (get_or xs i 0 ∷ [])) b c → Grown base (in_tile (t + 1) (get_or ys i 0 ∷ [])) c d →
+    Grown base (in_tile (t + 2) (get_or zs i 0 ∷ [])) d e →
+    Three base t (take (i + 1) xs) (take (i + 1) ys) (take (i + 1) zs) a e
+three-more base t i xs ys zs s hx hy hz f g k =
+    rw (one-more xs i hx, one-more ys i hy, one-more zs i hz)
     (grown-same
     (λ u b.
     omega (
       arith,
-      in-append t u b (run pixels x i) (get_or pixels (x + i) 0 ∷ []),
-      in-append (t + 1) u b (run pixels y i) (get_or pixels (y + i) 0 ∷ []),
-      in-append (t + 2) u b (run pixels z i) (get_or pixels (z + i) 0 ∷ []),
+      in-append t u b (take i xs) (get_or xs i 0 ∷ []),
+      in-append (t + 1) u b (take i ys) (get_or ys i 0 ∷ []),
+      in-append (t + 2) u b (take i zs) (get_or zs i 0 ∷ []),
     ))
     (grown-more (grown-more (grown-more s f) g) k))
+
+-- parts of a run
+take-run : (s : List ℕ) (at m k : ℕ) → k ≤ m → take k (run s at m) ≡ run s at k
+take-run s at m k h = take-take k m (drop at s) h
+
+drop-run : (s : List ℕ) (at m k : ℕ) → k ≤ m → drop k (run s at m) ≡ run s (at + k) (m - k)
+drop-run s at m k h =
+    let e : m ≡ k + (m - k) = omega arith in
+    ap (λ (n : ℕ). drop k (take n (drop at s))) e ∙ drop-take k (m - k) (drop at s)
+    ∙ ap (λ (xs : List ℕ). take (m - k) xs) (drop-drop k at s)
 
 -- the columns of one tile column
 column-is : (w h r j c : ℕ) → c < w → j * w ≤ 3 * c → 3 * c < j * w + w → tile_at w h (r * w + c) ≡ 3 * third h r + j
@@ -231,7 +244,8 @@ module _ (w h r base second third' m : ℕ) (pixels : List ℕ) (is2 : second �
       rw (row_is p) (omega (arith, x, y, v))
 
   -- the three tile columns as far as all go, and the rest of the first two
-  pub row-counted : {a b c d : List ℕ} → Three base tile pixels (r * w) (r * w + second) (r * w + third') m a b →
+  pub row-counted : {a b c d : List ℕ} →
+      Three base tile (run pixels (r * w) m) (run pixels (r * w + second) m) last a b →
       Grown base (in_tile tile (run pixels (r * w + m) (second - m))) b c →
       Grown base (in_tile (tile + 1) (run pixels (r * w + second + m) (third' - second - m))) c d →
       CountedRow w h r base pixels a d
@@ -265,33 +279,56 @@ module _ (w h r base second third' m : ℕ) (pixels : List ℕ) (is2 : second �
             };
       }
 
+  -- the same of the row's parts
+  pub parts-counted : {row start others mid end a b c d : List ℕ} → row ≡ run pixels (r * w) w →
+      start ≡ take second row → others ≡ drop second row → mid ≡ take (third' - second) others →
+      end ≡ drop (third' - second) others → Three base tile (take m start) (take m mid) end a b →
+      Grown base (in_tile tile (take (length start - m) (drop m start))) b c →
+      Grown base (in_tile (tile + 1) (take (length mid - m) (drop m mid))) c d → CountedRow w h r base pixels a d
+  parts-counted {row} {start} {others} {mid} {end} er es eo em ee f g k =
+      let s : start ≡ first =
+      es ∙ ap (λ (x : List ℕ). take second x) er ∙ take-run pixels (r * w) w second (omega arith) in
+      let o : others ≡ run pixels (r * w + second) (w - second) =
+      eo ∙ ap (λ (x : List ℕ). drop second x) er ∙ drop-run pixels (r * w) w second (omega arith) in
+      let mi : mid ≡ middle =
+      em ∙ ap (λ (x : List ℕ). take (third' - second) x) o
+      ∙ take-run pixels (r * w + second) (w - second) (third' - second) (omega arith) in
+      let at : r * w + second + (third' - second) ≡ r * w + third' = omega arith in
+      let left : w - second - (third' - second) ≡ m = omega arith in
+      let l : end ≡ last =
+      ee ∙ ap (λ (x : List ℕ). drop (third' - second) x) o
+      ∙ drop-run pixels (r * w + second) (w - second) (third' - second) (omega arith)
+      ∙ ap (λ (x : ℕ). run pixels x (w - second - (third' - second))) at ∙ ap (run pixels (r * w + third')) left in
+      let s1 : take m start ≡ run pixels (r * w) m =
+      ap (λ (x : List ℕ). take m x) s ∙ take-run pixels (r * w) second m (omega arith) in
+      let s2 : take m mid ≡ run pixels (r * w + second) m =
+      ap (λ (x : List ℕ). take m x) mi ∙ take-run pixels (r * w + second) (third' - second) m (omega arith) in
+      let s3 : drop m start ≡ run pixels (r * w + m) (second - m) =
+      ap (λ (x : List ℕ). drop m x) s ∙ drop-run pixels (r * w) second m (omega arith) in
+      let s4 : drop m mid ≡ run pixels (r * w + second + m) (third' - second - m) =
+      ap (λ (x : List ℕ). drop m x) mi ∙ drop-run pixels (r * w + second) (third' - second) m (omega arith) in
+      row-counted (rw (s1, s2, l) at f) (rw (take_rest start m, s3) at g) (rw (take_rest mid m, s4) at k)
+
 -- ---- clearing
 
--- the first i of the 144 are 0
-pub record Zeros (base i : ℕ) (before after : List ℕ) : Type 0 where
-  pub kept : Kept base before after
-  pub zeros : length before ≡ 720 → (j : ℕ) → j < i → get_or after (base + j) 0 ≡ 0
-
-pub zeros-none : (base : ℕ) (a : List ℕ) → Zeros base 0 a a
-zeros-none base a = record { kept = kept-none base a; zeros = λ e j h. omega arith }
-
-pub zeros-more : {base i : ℕ} {a b : List ℕ} → Zeros base i a b → base + 144 ≤ 720 → i < 144 →
-    Zeros base (i + 1) a (set b (base + i) 0)
-zeros-more {base} {i} {a} {b} f hs h =
-    record {
-      kept = kept_more f.kept (kept_set base i 0 b h);
-      zeros =
-          λ e.
-          below_more (λ (j : ℕ). get_or (set b (base + i) 0) (base + j) 0 ≡ 0) i
-          (λ j l. get_or-set_other b (base + i) (base + j) 0 0 (λ m. omega arith) ∙ f.zeros e j l)
-          (get_or-set_same b (base + i) 0 0 (omega (arith, f.kept.size)));
-    }
-
-pub zeros-all : {base : ℕ} {a b : List ℕ} → Zeros base 144 a b → Cleared base a b
+-- the 144 were set to 0
+pub zeros-all : (base k : ℕ) (a zs : List ℕ) → base + 144 ≤ length a → k ≡ 144 → length zs ≡ 144 →
+    ((i : ℕ) → i < 144 → get_or zs i 0 ≡ 0) → Cleared base a (put_mid base k a zs)
 unfolding tally
-zeros-all {base} {a} {b} f =
+zeros-all base k a zs h few l z =
+    let size : length (put_mid base k a zs) ≡ length a = search (rules, places) in
     record {
-      kept = f.kept;
-      none = λ e w h.
-          record { size = f.kept.size ∙ e; each = λ t k ht hk. rw (f.zeros e (16 * t + k) (omega arith)) refl };
+      kept = record {
+        size = size;
+        low = λ i y. search (rules, places);
+        high = λ i y. search (rules, places);
+      };
+      none = λ e v w.
+          record {
+            size = size ∙ e;
+            each = λ t b ht hb.
+                let at : get_or (put_mid base k a zs) (base + (16 * t + b)) 0 ≡ get_or zs (16 * t + b) 0 =
+                search (rules, places) in
+                rw (at, z (16 * t + b) (omega arith)) refl;
+          };
     }

@@ -6,6 +6,7 @@ use Rattle.rules.specs.Histograms.{in_bin}
 use Rattle.rules.specs.Columns.{Boundary}
 use Rattle.luma_laws.specs.Tallies.{bin_tally}
 use Rattle.luma_sums.specs.Sums.{run}
+use Rattle.luma_tiles.specs.declared.Tiles.{Tiles}
 
 -- The 144 counts from `base` on stand for the first pixels p of a picture: bin b of tile t is
 -- count 16 t + b, modulo 2 ^ 32
@@ -35,12 +36,10 @@ pub record Grown (base : ℕ) (f : ℕ → ℕ → ℕ) (before after : List ℕ
   pub each : length before ≡ 720 → (t b : ℕ) → t < 9 → b < 16 →
       slice_index after (base + (16 * t + b)) % 2 ^ 32 ≡ (slice_index before (base + (16 * t + b)) + f t b) % 2 ^ 32
 
--- by m pixels of each of the three tiles from t on, which stand from these three places on
-abbrev pub Three : ℕ → ℕ → List ℕ → ℕ → ℕ → ℕ → ℕ → List ℕ → List ℕ → Type 0
-Three base t pixels x y z m =
-    Grown base
-    (λ u b. in_tile t (run pixels x m) u b + in_tile (t + 1) (run pixels y m) u b + in_tile (t + 2)
-    (run pixels z m) u b)
+-- by the pixels xs of tile t and those of the two tiles after it
+abbrev pub Three : ℕ → ℕ → List ℕ → List ℕ → List ℕ → List ℕ → List ℕ → Type 0
+Three base t xs ys zs =
+    Grown base (λ u b. in_tile t xs u b + in_tile (t + 1) ys u b + in_tile (t + 2) zs u b)
 
 -- a row of pixels more
 pub record CountedRow (w h r base : ℕ) (pixels before after : List ℕ) : Type 0 where
@@ -49,20 +48,19 @@ pub record CountedRow (w h r base : ℕ) (pixels before after : List ℕ) : Type
       Counts w h base (p ++ run pixels (r * w) w) after
 
 -- what `count_row` asks
-pub record Row (w h r base second third : ℕ) (pixels : List ℕ) : Type 0 where
-  pub boundary : Boundary 1 w second
-  pub boundary_2 : Boundary 2 w third
-  pub wide : 3 ≤ w
-  pub few : w ≤ 240
-  pub inside : r < h
-  pub low : h ≤ 64
+pub record Row (tiles : Tiles) (r base : ℕ) (pixels : List ℕ) : Type 0 where
+  pub boundary : Boundary 1 tiles.columns tiles.second
+  pub boundary_2 : Boundary 2 tiles.columns tiles.third
+  pub wide : 3 ≤ tiles.columns
+  pub few : tiles.columns ≤ 240
+  pub inside : r < tiles.lines
+  pub low : tiles.lines ≤ 64
   pub slot : base + 144 ≤ 720
-  pub there : r * w + w ≤ length pixels
+  pub there : r * tiles.columns + tiles.columns ≤ length pixels
 
 -- what `count_columns` asks
-pub record Columns (base t : ℕ) (pixels : List ℕ) (x y z m : ℕ) : Type 0 where
+pub record Columns (base t : ℕ) (xs ys zs : List ℕ) : Type 0 where
   pub slot : base + 144 ≤ 720
   pub tiles : t + 3 ≤ 9
-  pub first : x + m ≤ length pixels
-  pub second : y + m ≤ length pixels
-  pub third : z + m ≤ length pixels
+  pub second : length ys ≡ length xs
+  pub third : length zs ≡ length xs

@@ -9,13 +9,18 @@ mod arguments;
 mod side;
 mod write;
 
-use arguments::Asked;
-use capture::Numbers;
-use capture_units::Table;
-use capture_walk::{Collected, WalkWords};
-use rules::{Answer, Opening};
+use rules::{Opening, Refusal};
+use sample::Sample;
 use std::io;
 use std::rt::Files;
+
+// CAPTURE, LUMA and RECORD, as text.
+#[derive(Clone, Copy)]
+struct Names<'a> {
+    capture: &'a str,
+    luma: &'a str,
+    record: &'a str,
+}
 
 fn usage<R: Eprint>(rt: &R) -> io::Result<()> {
     eprintln!(rt;
@@ -37,94 +42,53 @@ fn hint<R: Eprint>(rt: &R, number: u64) -> io::Result<()> {
     }
 }
 
-// Seals, and writes the record or says why there is none. No record is longer than the buffer: 64 bytes, and 32 for
-// each of 750 units and 250 scenes.
-fn seal<R: Files + Print + Eprint>(
+// Writes the record that was sealed at the buffer's front, or says why there is none.
+fn deliver<R: Files + Print + Eprint>(
     rt: &R,
-    walk: &WalkWords,
-    kept: &Collected,
-    numbers: &Numbers,
-    table: &Table,
-    luma: &luma::Words,
+    sealed: Result<u64, Refusal>,
+    buffer: &[u8],
     name: &str,
 ) -> io::Result<()> {
-    let mut buffer = [0u8; 32064];
-    let a = sample::seal(walk, kept, numbers, table, luma, &mut buffer);
-    match a {
-        Answer::Done(length) => {
-            if 32064 < length {
+    match sealed {
+        Ok(length) => {
+            let Some(record) = buffer.get(..length as usize) else {
                 return Ok(());
-            }
-            let n = length as usize;
-            if write::write_record(rt, name, &buffer[..n])? {
-                program_text::print_answer(rt, b"sealed", b"refused", a, b"\n")?;
+            };
+            if write::write_record(rt, name, record)? {
+                program_text::print_answer(rt, b"sealed", b"refused", sealed, b"\n")?;
             }
             Ok(())
         }
-        Answer::Refused { number, .. } => {
-            program_text::print_answer(rt, b"sealed", b"refused", a, b"\n")?;
-            hint(rt, number)
+        Err(refusal) => {
+            program_text::print_answer(rt, b"sealed", b"refused", sealed, b"\n")?;
+            hint(rt, refusal.number)
         }
     }
 }
 
-// Opens a sample, feeds both sides and seals, if the record has a place to go to.
-fn measure<R: Files + Input + Print + Eprint>(
-    rt: &R,
-    o: Opening,
-    capture_name: &str,
-    luma_name: &str,
-    record_name: &str,
-) -> io::Result<()> {
-    if !write::can_write(rt, record_name)? {
-        return Ok(());
-    }
-    let mut walk = [0u64; capture_walk::WALK_WORDS];
-    let mut kept = [0u8; capture_walk::COLLECTED_BYTES];
-    let mut numbers = [0u64; capture::NUMBERS];
-    let mut table = [0u64; capture_units::TABLE_WORDS];
-    let mut luma = [0u64; luma::WORDS];
-    let mut sums = [0u32; luma::COLUMNS];
-    let mut bins = [0u32; luma::BINS];
-    let mut picture = [0u8; luma::PIXELS];
-    sample::open(
-        &mut walk,
-        &mut kept,
-        &mut numbers,
-        &mut table,
-        &mut luma,
-        &mut sums,
-        &mut bins,
-        &mut picture,
-        o,
-    );
+// Opens a sample, feeds both sides and seals. An opening that is refused is no error here: sealing refuses too,
+// with the same number. No record is longer than the buffer: 64 bytes, and 32 for each of 750 units and 250 scenes.
+fn measure<R: Files + Input + Print + Eprint>(rt: &R, o: Opening, names: &Names) -> io::Result<()> {
+    let mut sample = Sample::new();
+    let _ = sample.open(o);
     let mut piece = [0u8; 65536];
-    if !side::feed_capture(
+    if !side::feed_whole(
         rt,
-        capture_name,
+        names.capture,
         &mut piece,
-        &mut walk,
-        &mut kept,
-        &mut numbers,
-        &mut table,
+        |bytes| sample.feed_capture(bytes),
     )? {
         return Ok(());
     }
-    if !side::feed_luma(
-        rt,
-        luma_name,
-        &mut piece,
-        &mut luma,
-        &mut sums,
-        &mut bins,
-        &mut picture,
-    )? {
+    if !side::feed_whole(rt, names.luma, &mut piece, |bytes| sample.feed_luma(bytes))? {
         return Ok(());
     }
-    seal(rt, &walk, &kept, &numbers, &table, &luma, record_name)
+    let mut buffer = [0u8; 32064];
+    let sealed = sample.seal(&mut buffer);
+    deliver(rt, sealed, &buffer, names.record)
 }
 
-// Measures where the names are text, as the library's paths are.
+// Measures where the names are text, as the library's paths are, and the record has a place to go to.
 fn measure_named<R: Files + Input + Print + Eprint>(
     rt: &R,
     o: Opening,
@@ -139,7 +103,15 @@ fn measure_named<R: Files + Input + Print + Eprint>(
     ) else {
         return eprintln!(rt; "CAPTURE, LUMA or RECORD is no text in UTF-8; choose another name");
     };
-    measure(rt, o, capture, luma, record)
+    if !write::can_write(rt, record)? {
+        return Ok(());
+    }
+    let names = Names {
+        capture,
+        luma,
+        record,
+    };
+    measure(rt, o, &names)
 }
 
 fn main(rt: HostRuntime) -> io::Result<()> {
@@ -147,23 +119,22 @@ fn main(rt: HostRuntime) -> io::Result<()> {
     if words != 8 && words != 9 {
         return usage(&rt);
     }
-    let asked = arguments::opening(&rt, words);
-    let Asked::Given(o) = asked else {
+    let Some(o) = arguments::opening(&rt, words) else {
         return usage(&rt);
     };
     let mut capture = [0u8; 4096];
-    let c = arguments::word_at(&rt, 5, &mut capture);
+    let capture = arguments::word_at(&rt, 5, &mut capture);
     let mut luma = [0u8; 4096];
-    let l = arguments::word_at(&rt, 6, &mut luma);
+    let luma = arguments::word_at(&rt, 6, &mut luma);
     let mut record = [0u8; 4096];
-    let r = arguments::word_at(&rt, 7, &mut record);
-    if arguments::is_dash(&capture[..c]) && arguments::is_dash(&luma[..l]) {
+    let record = arguments::word_at(&rt, 7, &mut record);
+    if matches!(capture, b"-") && matches!(luma, b"-") {
         return usage(&rt);
     }
-    if c == 0 || l == 0 {
+    if capture.is_empty() || luma.is_empty() {
         return eprintln!(rt;
             "CAPTURE or LUMA is empty or longer than 4,096 bytes; choose another name"
         );
     }
-    measure_named(&rt, o, &capture[..c], &luma[..l], &record[..r])
+    measure_named(&rt, o, capture, luma, record)
 }

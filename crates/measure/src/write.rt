@@ -10,42 +10,35 @@ use std::rt::Files;
 // With `.part` and the 0 that ends a path, the longest RECORD fills 4,096 bytes.
 const LONGEST_NAME: usize = 4090;
 
-// How a step of writing ended.
+// Why a step of writing is not done.
 #[derive(Drop)]
-enum Outcome {
-    Done,
+enum Failure {
     Taken,
-    Failed(io::Error),
+    Io(io::Error),
 }
 
-// Whether the step is done; otherwise standard error says why RECORD is not written.
-fn is_done<R: Eprint>(rt: &R, outcome: Outcome, name: &str) -> io::Result<bool> {
-    match outcome {
-        Outcome::Done => Ok(true),
-        Outcome::Taken => {
-            eprintln!(rt;
-                "{name}: exists already, and is left alone; remove it, or choose another RECORD"
-            )?;
-            Ok(false)
-        }
-        Outcome::Failed(error) => {
-            record_input::fail_of(rt, "cannot write ", name, &error)?;
-            Ok(false)
-        }
+impl From<io::Error> for Failure {
+    fn from(error: io::Error) -> Failure {
+        Failure::Io(error)
     }
 }
 
-// Whether nothing has the name. To rename something to the name that it has does nothing, whatever it is.
-fn find_free<R: Files>(rt: &R, name: &str) -> Outcome {
+// Says on standard error why RECORD is not written.
+fn fail<R: Eprint>(rt: &R, failure: Failure, name: &str) -> io::Result<()> {
+    match failure {
+        Failure::Taken => eprintln!(rt;
+            "{name}: exists already, and is left alone; remove it, or choose another RECORD"
+        ),
+        Failure::Io(error) => record_input::fail_of(rt, "cannot write ", name, &error),
+    }
+}
+
+// Finds that nothing has the name. To rename something to the name that it has does nothing, whatever it is.
+fn find_free<R: Files>(rt: &R, name: &str) -> Result<(), Failure> {
     match fs::rename(rt, name, name) {
-        Ok(()) => Outcome::Taken,
-        Err(error) => {
-            if error.kind() == ErrorKind::NotFound {
-                Outcome::Done
-            } else {
-                Outcome::Failed(error)
-            }
-        }
+        Ok(()) => Err(Failure::Taken),
+        Err(error) if error.kind() == ErrorKind::NotFound => Ok(()),
+        Err(error) => Err(Failure::Io(error)),
     }
 }
 
@@ -103,23 +96,21 @@ fn fill<F: Write + OpenFile + Drop>(file: F, record: &[u8]) -> io::Result<()> {
 
 // Renames the whole part to RECORD. The library has no rename that fails if the name is taken, so `find_free` comes
 // just before (docs/DECISIONS.md, The command).
-fn rename_part<R: Files>(rt: &R, part: &str, name: &str) -> Outcome {
-    match find_free(rt, name) {
-        Outcome::Done => match fs::rename(rt, part, name) {
-            Ok(()) => Outcome::Done,
-            Err(error) => Outcome::Failed(error),
-        },
-        Outcome::Taken => Outcome::Taken,
-        Outcome::Failed(error) => Outcome::Failed(error),
-    }
+fn rename_part<R: Files>(rt: &R, part: &str, name: &str) -> Result<(), Failure> {
+    find_free(rt, name)?;
+    Ok(fs::rename(rt, part, name)?)
 }
 
 // Fills the part and renames it.
-fn finish_part<R: Files>(rt: &R, file: R::File, part: &str, name: &str, record: &[u8]) -> Outcome {
-    match fill(file, record) {
-        Ok(()) => rename_part(rt, part, name),
-        Err(error) => Outcome::Failed(error),
-    }
+fn finish_part<R: Files>(
+    rt: &R,
+    file: R::File,
+    part: &str,
+    name: &str,
+    record: &[u8],
+) -> Result<(), Failure> {
+    fill(file, record)?;
+    rename_part(rt, part, name)
 }
 
 // Writes the part and renames it to RECORD. If that fails, it removes the part and then says why: a message into a
@@ -134,10 +125,11 @@ fn write_part<R: Files + Eprint>(
         return Ok(false);
     };
     match finish_part(rt, file, part, name, record) {
-        Outcome::Done => Ok(true),
-        outcome => {
+        Ok(()) => Ok(true),
+        Err(failure) => {
             remove_part(rt, part)?;
-            is_done(rt, outcome, name)
+            fail(rt, failure, name)?;
+            Ok(false)
         }
     }
 }
@@ -148,10 +140,7 @@ fn part_name(name: &str) -> Option<ArrayString<4096>>
         ((length name.now ≡ 0) ⊎ (4090 < length name.now))
         (λ part. (0 < length name.now) × (length name.now ≤ 4090) × (part.bytes ≡ name.now ++ codes ".part")) }
 {
-    if name.len() == 0 {
-        return None;
-    }
-    if LONGEST_NAME < name.len() {
+    if name.is_empty() || LONGEST_NAME < name.len() {
         return None;
     }
     let mut part = ArrayString::new();
@@ -166,15 +155,15 @@ fn refuse_name<R: Eprint>(rt: &R) -> io::Result<()> {
 
 // Whether RECORD can be written, as far as can be known before any input is read; otherwise standard error says why.
 pub fn can_write<R: Files + Eprint>(rt: &R, name: &str) -> io::Result<bool> {
-    match part_name(name) {
-        Some(part) => {
-            Ok(is_done(rt, find_free(rt, name), name)? && try_part(rt, part.as_str())?)
-        }
-        None => {
-            refuse_name(rt)?;
-            Ok(false)
-        }
+    let Some(part) = part_name(name) else {
+        refuse_name(rt)?;
+        return Ok(false);
+    };
+    if let Err(failure) = find_free(rt, name) {
+        fail(rt, failure, name)?;
+        return Ok(false);
     }
+    try_part(rt, part.as_str())
 }
 
 // Writes the record under its name; answers whether it is there, and otherwise standard error says why.

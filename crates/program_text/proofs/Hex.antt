@@ -5,7 +5,7 @@ use native.Mathlib.Numerals.{add-one}
 use mathlib.Core.Path.{◌≡◌, refl, sym, ap, ◌∙◌}
 use mathlib.Core.List.{List, [], ◌∷◌, ◌++◌, map, map-append}
 use lib.ListN.{length, length-append, length-drop, take, set, get_or}
-use lib.Seq.{take-suc, take_all, length-take-le}
+use lib.Seq.{take-suc, length-take-le}
 use Rattle.rules.specs.Bytes.{end_to_end}
 use Rattle.rules.specs.Seal.{over}
 use Rattle.rules.proofs.Laws.Lists.{end_to_end-append}
@@ -57,13 +57,7 @@ module _ (bs s t : List ℕ) (i : ℕ) (inside : i < length bs) (room : 2 * leng
       in
       rw (hex_text-more bs i inside) (line-more p both s t _ (2 * i) is (sym written-so-far) (omega arith) stores)
 
--- no byte yet, and all of them
+-- no byte yet
 pub none_yet : (bs s : List ℕ) → s ≡ over (hex_text (take 0 bs)) s
 unfolding over hex_text end_to_end
 none_yet bs s = refl
-
-pub all-written : (bs s t : List ℕ) (i : ℕ) → i ≤ length bs → length bs ≤ i → t ≡ over (hex_text (take i bs)) s →
-    (2 * i ≡ 2 * length bs) × (t ≡ over (hex_text bs) s)
-all-written bs s t i h k e =
-    let n : i ≡ length bs = omega arith in
-    (omega arith, e ∙ rw (n, take_all (length bs) bs (omega arith)))

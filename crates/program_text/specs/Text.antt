@@ -1,19 +1,14 @@
 -- What programs print of an answer and of bytes, as ASCII codes.
-use Rattle.std.specs.Prelude.{ℕ, ◌+◌, ◌/◌, ◌%◌, List, [], ◌∷◌, ◌++◌, map, ltb}
+use Rattle.std.specs.Prelude.{ℕ, ◌+◌, ◌/◌, ◌%◌, List, [], ◌∷◌, ◌++◌, map, ltb, Ok, Err}
 use Rattle.rules.specs.Bytes.{pick, end_to_end}
-use Rattle.rules.specs.declared.Answer.{Answer}
-use Rattle.rules.specs.declared.Answer.TheVariants.{Done, Refused}
+use Rattle.rules.specs.Refusals.{Answer}
 use Rattle.rules.specs.Digits.{hex_in}
-use Rattle.record_text.specs.Lines.{fields}
-
--- a word, numbers with a space before each, and an end
-unfoldable pub line_of : List ℕ → List ℕ → List ℕ → List ℕ
-line_of word numbers end = word ++ fields numbers ++ end
+use Rattle.record_text.specs.Lines.{line_of}
 
 -- an answer: one word and the length where it is done, another, the number and the place where it is refused
-unfoldable pub answer_text : List ℕ → List ℕ → Answer → List ℕ → List ℕ
-answer_text done refused (Done n) end = line_of done (n ∷ []) end
-answer_text done refused (Refused k p) end = line_of refused (k ∷ p ∷ []) end
+unfoldable pub answer_text : List ℕ → List ℕ → Answer ℕ → List ℕ → List ℕ
+answer_text done refused (Ok n) end = line_of done (n ∷ []) end
+answer_text done refused (Err e) end = line_of refused (e.number ∷ e.place ∷ []) end
 
 -- a float's bits: a word, a space and 16 hexadecimal digits, letters capital, and an end
 unfoldable pub bits_text : List ℕ → ℕ → List ℕ → List ℕ

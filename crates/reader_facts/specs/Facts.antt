@@ -1,11 +1,11 @@
 -- What a thirty-year reader may lean on (document 02, R-14): three facts of every record that a seal leaves in its
 -- buffer, after every list of calls, under every edition. Their subject is the record's bytes r.
 use Rattle.std.specs.Prelude.{ℕ, ◌+◌, ◌-◌, ◌*◌, ◌/◌, ◌≡◌, List, [], ◌∷◌, ◌++◌, map, not, length, take, drop, T, Float}
+use Rattle.std.specs.Prelude.{Ok}
 use Rattle.std.specs.Float.{binary64}
 use Rattle.std.specs.Float.Ieee.{of_bits, is_nan, le}
 use Rattle.rules.specs.declared.Opening.{Opening}
-use Rattle.rules.specs.declared.Answer.{Answer}
-use Rattle.rules.specs.declared.Answer.TheVariants.{Done}
+use Rattle.rules.specs.Refusals.{Answer}
 use Rattle.rules.specs.Bytes.{Bytes, word32, word64, total, only, table}
 use Rattle.rules.specs.Packets.{udp_length, carries, packets, other_of}
 use Rattle.rules.specs.Capture.{whole_frames}
@@ -66,7 +66,7 @@ pub record SameUnits (r r' : List ℕ) : Type 0 where
 
 -- r is what a seal left that was done, at the end of a list of calls after this opening
 pub record SealedBy (o : Opening) (capture luma r : List ℕ) : Type 0 where
-  pub opened : Answer
+  pub opened : Answer ℕ
   pub first : State
   pub last : State
   pub calls : List Call
@@ -76,7 +76,7 @@ pub record SealedBy (o : Opening) (capture luma r : List ℕ) : Type 0 where
   pub answer : ℕ
   pub opens : OpenPost o opened first
   pub runs : Runs first (calls ++ ask (seal before) ∷ [])
-      (outcomes ++ replied (sealed_into (Done answer) after) ∷ []) last
+      (outcomes ++ replied (sealed_into (Ok answer) after) ∷ []) last
   pub capture_is : capture_fed calls ≡ capture
   pub luma_is : luma_fed calls ≡ luma
   pub capture_bytes : Bytes capture

@@ -13,7 +13,7 @@ fn word(bytes: &[u8], at: usize) -> u64
     requires { at + 4 ≤ length bytes.now }
     ensures { (result ≡ rule32 bytes.now at) × (result < 4294967296) }
 {
-    words::word32(bytes, at) as u64
+    u64::from(words::word32(bytes, at))
 }
 
 // The header's conditions.
@@ -58,15 +58,7 @@ fn allowed_units(bytes: &[u8], n: usize, known: bool) -> bool
     requires { 64 + 32 * n ≤ length bytes.now }
     ensures { result ≡ allowed_units known n (drop 64 bytes.now) }
 {
-    let mut j = 0;
-    while j < n {
-        let at = 64 + 32 * j;
-        if !allowed_unit(&bytes[at..], known) {
-            return false;
-        }
-        j += 1;
-    }
-    true
+    (0..n).all(|j| allowed_unit(&bytes[64 + 32 * j..], known))
 }
 
 // A scene row's conditions, where the scene is to begin at picture `from`.
@@ -82,16 +74,13 @@ fn allowed_scenes(bytes: &[u8], place: usize, n: usize, pictures: u64) -> bool
     requires { (place + 32 * n ≤ length bytes.now) × (n ≤ 250) }
     ensures { result ≡ allowed_scenes pictures n 0 (drop place bytes.now) }
 {
-    let mut from: u64 = 0;
-    let mut j = 0;
-    while j < n {
-        let at = place + 32 * j;
-        let row = &bytes[at..];
+    let mut from = 0;
+    for j in 0..n {
+        let row = &bytes[place + 32 * j..];
         if !allowed_scene(row, from) {
             return false;
         }
         from += word(row, 4);
-        j += 1;
     }
     from == pictures
 }

@@ -17,11 +17,11 @@ pub fn read_from<S: Read>(source: &mut S, input: &mut [u8]) -> io::Result<usize>
     ensures end { IfOk result (λ n. n < length input.new → IsAtEnd (S.remaining source.new)) }
 {
     let mut end: usize = 0;
+    // No `for`: how many reads it takes is not known before. The library reads until the end to a `Vec` alone.
     while end < input.len() {
-        match source.read(&mut input[end..]) {
-            Ok(0) => return Ok(end),
-            Ok(n) => end += n,
-            Err(error) => return Err(error),
+        match source.read(&mut input[end..])? {
+            0 => break,
+            n => end += n,
         }
     }
     Ok(end)

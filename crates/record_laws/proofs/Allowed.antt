@@ -1,6 +1,5 @@
 -- What the reader allows: of a record that was made of figures, exactly figures that meet the conditions; and a
--- record
--- that is allowed is the record of the figures read from it.
+-- record that is allowed is the record of the figures read from it.
 use Prim.Native.Nat.{ℕ, zero, suc, ◌+◌, ◌*◌, ◌^◌, ◌≤◌, ◌<◌}
 use native.Mathlib.Omega.{arith}
 use native.Mathlib.Nat.{add-zero}

@@ -11,9 +11,7 @@ use Rattle.rules.specs.declared.Opening.{Opening}
 use Rattle.rules.specs.declared.Header.{Header}
 use Rattle.rules.specs.declared.UnitRow.{UnitRow}
 use Rattle.rules.specs.declared.SceneRow.{SceneRow}
-use Rattle.rules.specs.declared.HeaderAnswer.TheVariants as of-header
-use Rattle.rules.specs.declared.UnitAnswer.TheVariants as of-unit
-use Rattle.rules.specs.declared.SceneAnswer.TheVariants as of-scene
+use Rattle.std.specs.Prelude.{Ok}
 use Rattle.rules.specs.Bytes.{within, word32, Bytes}
 use Rattle.rules.specs.Refusals.{none, fault, unless, ◌or_else◌}
 use Rattle.rules.specs.Editions.{is_edition, knows_damage}
@@ -22,17 +20,15 @@ use Rattle.rules.specs.Capture.{units, frame_count, skipped_count}
 use Rattle.rules.specs.Pictures.{picture_count}
 use Rattle.rules.specs.Record.{record_length}
 use Rattle.rules.specs.Reading.{header_of, unit_at, scene_at, allowed, reading_fault, row_fault, unit_fault}
-use Rattle.rules.specs.Reading.{scene_fault}
-use Rattle.rules.specs.Reading.{header_answer, unit_answer, scene_answer}
+use Rattle.rules.specs.Reading.{scene_fault, header_answer, unit_answer, scene_answer}
 use Rattle.rules.specs.Seal.{scenes, header, sealed, sealed_length, seal_fault}
 use Rattle.record_laws.proofs.Record.{Each, Figures, length-record, header_read, unit-read, scene-read}
-use Rattle.record_laws.proofs.Allowed.{good_header, good_unit, good_units, good_scenes, good_figures}
-use Rattle.record_laws.proofs.Allowed.{allowed-figures, record-allowed}
+use Rattle.record_laws.proofs.Allowed.{good_header, good_unit, good_units, good_scenes, good_figures, allowed-figures}
+use Rattle.record_laws.proofs.Allowed.{record-allowed}
 use Rattle.capture_laws.proofs.Bounds.{skipped-few}
 use Rattle.luma_laws.proofs.Scenes.{Joins, pictures-most, sample-joins}
 use Rattle.luma_laws.proofs.Most.{sample-few}
-use Rattle.record_laws.proofs.Ranges.{Sealable, sealable, UnitRange, units-most, unit-ranges, unit-zeros}
-use Rattle.record_laws.proofs.Ranges.{figures-fit}
+use Rattle.record_laws.proofs.Ranges.{Sealable, sealable, UnitRange, units-most, unit-ranges, unit-zeros, figures-fit}
 
 -- ---- the conditions on figures
 
@@ -158,12 +154,12 @@ module _ (o : Opening) (capture luma : List ℕ) (n : ℕ) (e : seal_fault o cap
   unfolding sealed
   header-sealed = header_read (header o capture luma) (units o capture) (scenes o luma) sealed-figures
 
-  pub sealed-header : header_answer (sealed o capture luma) ≡ of-header.Given (header o capture luma)
+  pub sealed-header : header_answer (sealed o capture luma) ≡ Ok (header o capture luma)
   unfolding header_answer
   sealed-header = rw (sealed-read o capture luma n e bc bl, header-sealed)
 
   pub sealed-unit : (j : ℕ) (z : UnitRow) → j < length (units o capture) →
-      unit_answer (sealed o capture luma) j ≡ of-unit.Given (get_or (units o capture) j z)
+      unit_answer (sealed o capture luma) j ≡ Ok (get_or (units o capture) j z)
   unfolding unit_answer unit_fault row_fault
   sealed-unit j z h =
       let u : word32 (sealed o capture luma) 8 ≡ length (units o capture) =
@@ -173,7 +169,7 @@ module _ (o : Opening) (capture luma : List ℕ) (n : ℕ) (e : seal_fault o cap
       rw (sealed-read o capture luma n e bc bl, u, lt-ltb j (length (units o capture)) h, r)
 
   pub sealed-scene : (j : ℕ) (z : SceneRow) → j < length (scenes o luma) →
-      scene_answer (sealed o capture luma) j ≡ of-scene.Given (get_or (scenes o luma) j z)
+      scene_answer (sealed o capture luma) j ≡ Ok (get_or (scenes o luma) j z)
   unfolding scene_answer scene_fault row_fault
   sealed-scene j z h =
       let u : word32 (sealed o capture luma) 16 ≡ length (scenes o luma) =

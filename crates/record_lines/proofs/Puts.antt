@@ -1,4 +1,4 @@
--- Texts that are put one behind the other.
+-- Texts that are put one after the other.
 use Prim.Native.Nat.{ℕ, zero, suc, ◌+◌, ◌-◌, ◌*◌, ◌/◌, ◌%◌, ◌^◌, ◌≤◌, ◌<◌}
 use native.Mathlib.Omega.{arith}
 use native.Mathlib.Numerals.{add-one}
@@ -6,17 +6,17 @@ use native.Mathlib.Nat.{pow-suc, div-lt_iff_lt-mul, add-zero, zero-add, mul-suc,
 use mathlib.Core.Path.{◌≡◌, refl, sym, ap, ◌∙◌}
 use mathlib.Core.Bool.{Bool, true, false}
 use mathlib.Core.List.{List, [], ◌∷◌, ◌++◌, map, map-append, append-nil, append_assoc}
-use lib.ListN.{length, take, set, get_or, replicate, length-append, length-replicate, replicate-append-replicate}
-use lib.Seq.{take-suc, take_all}
+use lib.ListN.{length, take, drop, get_or, replicate, length-append, length-replicate, length-drop}
+use lib.Seq.{take-suc, length-take-le}
 use lib.Dec.{ltb}
+use borrow.Rule.Slice.PartMut.{put_mid}
 use borrow.Author.Tests.{lt-ltb}
 use Rattle.rules.specs.Bytes.{pick, table, end_to_end, All, empty, and}
 use Rattle.rules.proofs.Laws.Lists.{end_to_end-append}
 use Rattle.words.specs.Written.{written}
-use Rattle.words.proofs.Laws.{written-sets}
 use Rattle.words.proofs.Behind.{next}
 use Rattle.rules.specs.Digits.{decimal_in, decimal, hex_in}
-use Rattle.record_text.proofs.Texts.{none_yet, length-hex, decimal-digits}
+use Rattle.record_text.proofs.Texts.{none_yet, copied, length-hex, decimal-digits}
 use Rattle.io.specs.Digits.{last_digits, IsDigitCount}
 use Rattle.io.specs.Counts.{IsPrefixLen}
 use Rattle.record_lines.specs.Put.{Put, Fits, lines_to}
@@ -27,10 +27,12 @@ use Rattle.rules.specs.Sheet.{aligned, columns, ending, line}
 pub put-none : (at : ℕ) (s : List ℕ) → Put at 0 [] s at s
 put-none at s = record { ends = omega arith; size = refl; puts = none_yet s [] at }
 
-pub put_byte : (at b : ℕ) (s : List ℕ) → at + 1 ≤ length s → Put at 1 (b ∷ []) s (at + 1) (set s at b)
-put_byte at b s h = record { ends = refl; size = refl; puts = written-sets at (b ∷ []) s h }
+-- a text that `put_text` put
+pub texted : {at r : ℕ} {text s t : List ℕ} → (r ≡ at + length text) × (t ≡ written at text s) →
+    Put at (length text) text s r t
+texted e = record { ends = e.0; size = refl; puts = e.1 }
 
--- a text, and another just behind it
+-- a text, and another just after it
 module _ {at n k m e : ℕ} {x y s s₁ s₂ : List ℕ} where
   pub join : Put at n x s m s₁ → Put m k y s₁ e s₂ → at + n ≤ length s → Put at (n + k) (x ++ y) s e s₂
   join p q fits =
@@ -48,12 +50,16 @@ same-put n' e' x' p a b c = rw (← a, ← b, ← c) p
 
 -- ---- spaces
 
-pub space-more : (at i : ℕ) (s t : List ℕ) →
-    Put at i (replicate i 32) s (at + i) t → at + i + 1 ≤ length s → length t ≡ length s →
-    Put at (i + 1) (replicate (i + 1) 32) s (at + (i + 1)) (set t (at + i) 32)
-space-more at i s t p h k =
-    let q = join p (put_byte (at + i) 32 t (omega arith)) (omega arith) in
-    same-put (i + 1) (at + (i + 1)) (replicate (i + 1) 32) q refl (omega arith) (replicate-append-replicate i 1 32)
+-- the n bytes from a place on, filled
+pub spaces-put : (at n k : ℕ) (s ys : List ℕ) → k ≡ n → at + n ≤ length s →
+    ys ≡ replicate (length (take k (drop at s))) 32 →
+    Put at n (replicate n 32) s (at + n) (put_mid at k s ys)
+spaces-put at n k s ys e room filled =
+    let count : length (take k (drop at s)) ≡ n =
+    rw e (length-take-le n (drop at s) (omega (arith, length-drop at s))) in
+    let as-many : ys ≡ replicate n 32 = rw count at filled in
+    let size = length-replicate {A = ℕ} n 32 in
+    record { ends = refl; size = size; puts = copied at k s (replicate n 32) ys as-many (omega (arith, size)) }
 
 -- ---- fields
 
@@ -158,12 +164,6 @@ pub column-more : {at m e : ℕ} {s s₁ s₂ : List ℕ} (w : ℕ) (ns : List �
 column-more {e = e} w ns i h room p q =
     let d : w * i + w ≡ w * (i + 1) = rw add-one (sym (mul-suc w i)) in
     same-put (w * (i + 1)) e (columns w (take (i + 1) ns)) (join p q room) d refl (sym (columns-more w ns i h))
-
-pub all-columns : {at m : ℕ} {s t : List ℕ} (w : ℕ) (ns : List ℕ) (i : ℕ) → i ≡ length ns →
-    Put at (w * i) (columns w (take i ns)) s m t → Put at (w * length ns) (columns w ns) s m t
-all-columns {m = m} w ns i e p =
-    let all = take_all i ns (omega arith) in
-    same-put (w * length ns) m (columns w ns) p (ap (λ (k : ℕ). w * k) e) refl (ap (columns w) all)
 
 -- ---- lines
 

@@ -1,7 +1,7 @@
 -- What opening a record answers, by what was tested, and what an answer shows of the record.
 use Prim.Native.Nat.{ℕ, ◌+◌, ◌*◌, ◌≤◌, ◌<◌}
 use native.Mathlib.Omega.{arith}
-use mathlib.Core.Path.{◌≡◌, refl, sym, ◌∙◌}
+use mathlib.Core.Path.{◌≡◌, refl, sym, ap, ◌∙◌}
 use mathlib.Core.Bool.{Bool, true, false}
 use mathlib.Core.List.{List}
 use lib.ListN.{length}
@@ -10,42 +10,44 @@ use borrow.Author.Tests.{lt-ltb, le-ltb, le-leb, lt-leb}
 use Rattle.rules.specs.declared.Header.{Header}
 use Rattle.rules.specs.declared.UnitRow.{UnitRow}
 use Rattle.rules.specs.declared.SceneRow.{SceneRow}
-use Rattle.rules.specs.declared.HeaderAnswer.TheVariants as of-header
-use Rattle.rules.specs.declared.UnitAnswer.TheVariants as of-unit
-use Rattle.rules.specs.declared.SceneAnswer.TheVariants as of-scene
+use Rattle.std.specs.Prelude.{Ok, Err}
+use Rattle.rules.specs.declared.refusals.Refusal.{Refusal}
+use Rattle.record_reader.specs.declared.RowCounts.{RowCounts}
+use Rattle.rules.specs.Refusals.{Answer, refused, none, fault, unless, ◌or_else◌}
 use Rattle.rules.specs.Bytes.{word32}
-use Rattle.rules.specs.Refusals.{Fault, none, fault, unless, ◌or_else◌}
 use Rattle.rules.specs.Record.{record_length}
 use Rattle.rules.specs.Editions.{is_edition}
 use Rattle.rules.specs.Reading.{header_of, unit_at, scene_at, allowed, reading_fault, row_fault, unit_fault}
-use Rattle.rules.specs.Reading.{scene_fault}
-use Rattle.rules.specs.Reading.{header_answer, unit_answer, scene_answer}
+use Rattle.rules.specs.Reading.{scene_fault, header_answer, unit_answer, scene_answer}
+use Rattle.rules.proofs.Laws.Answers.{given-none, given-same, refused-fault}
 use Rattle.record_laws.proofs.Allowed.{record-allowed}
-use Rattle.record_reader.specs.declared.Opened.{Opened}
-use Rattle.record_reader.specs.declared.Opened.TheVariants.{Accepted, Refused}
-use Rattle.record_reader.specs.Opened.{or_opened, opened_as}
+use Rattle.record_reader.specs.Opened.{opened_as}
 
 -- ---- opening, test by test
+
+-- so many rows of units and of scenes
+abbrev pub counted : ℕ → ℕ → RowCounts
+counted u s = record { units = u; scenes = s }
 
 pub edition-is : {b : Bool} {w x : ℕ} → b ≡ is_edition w → w ≡ x → b ≡ is_edition x
 edition-is e f = rw (← f) e
 
 module _ (r : List ℕ) where
-  pub opened-short : length r < 64 → Refused 16 0 ≡ opened_as r
+  pub opened-short : length r < 64 → refused 16 0 ≡ opened_as r
   unfolding opened_as reading_fault
   opened-short h = rw (lt-leb 64 (length r) h)
 
   module _ (h : 64 ≤ length r) (w : Bool) (is-w : w ≡ is_edition (word32 r 0)) where
-    pub opened-edition : w ≡ false → Refused 17 0 ≡ opened_as r
+    pub opened-edition : w ≡ false → refused 17 0 ≡ opened_as r
     unfolding opened_as reading_fault
     opened-edition k = rw (le-leb 64 (length r) h, ← is-w, k)
 
     module _ (k : w ≡ true) (b : Bool) (is_b : b ≡ allowed r) where
-      pub opened-wrong : b ≡ false → Refused 18 0 ≡ opened_as r
+      pub opened-wrong : b ≡ false → refused 18 0 ≡ opened_as r
       unfolding opened_as reading_fault
       opened-wrong f = rw (le-leb 64 (length r) h, ← is-w, k, ← is_b, f)
 
-      pub opened-right : (u s : ℕ) → u ≡ word32 r 8 → s ≡ word32 r 16 → b ≡ true → Accepted u s ≡ opened_as r
+      pub opened-right : (u s : ℕ) → u ≡ word32 r 8 → s ≡ word32 r 16 → b ≡ true → Ok (counted u s) ≡ opened_as r
       unfolding opened_as reading_fault
       opened-right u s is-u is-s f = rw (le-leb 64 (length r) h, ← is-w, k, ← is_b, f, is-u, is-s)
 
@@ -72,75 +74,58 @@ pub fault-allowed : (r : List ℕ) → reading_fault r ≡ none → allowed r �
 unfolding reading_fault
 fault-allowed r e = no_fault (leb 64 (length r)) (is_edition (word32 r 0)) (allowed r) e
 
-fault-none : (f : Fault) (a b u s : ℕ) → or_opened f a b ≡ Accepted u s → (f ≡ none) × (u ≡ a) × (s ≡ b)
-fault-none none a b u s e = (refl, (cc), (cc))
-fault-none (fault k p) a b u s e = absurd (let z : ◌≡◌ {A = ℕ} 0 1 = cc in omega arith)
-
-fault-some : (f : Fault) (a b k p : ℕ) → or_opened f a b ≡ Refused k p → f ≡ fault k p
-fault-some none a b k p e = absurd (let z : ◌≡◌ {A = ℕ} 0 1 = cc in omega arith)
-fault-some (fault i j) a b k p e = cc
-
-pub accepted-as : (r : List ℕ) (u s : ℕ) → opened_as r ≡ Accepted u s → AcceptedAs r u s
+pub accepted-as : (r : List ℕ) (u s : ℕ) → opened_as r ≡ Ok (counted u s) → AcceptedAs r u s
 unfolding opened_as record_length
 accepted-as r u s e =
-    let f = fault-none (reading_fault r) (word32 r 8) (word32 r 16) u s e in
-    let g = fault-allowed r f.0 in
+    let none-wrong = given-none (reading_fault r) _ _ e in
+    let same = given-same (reading_fault r) _ _ e in
+    let is-units : word32 r 8 ≡ u = ap (λ (c : RowCounts). c.units) same in
+    let is-scenes : word32 r 16 ≡ s = ap (λ (c : RowCounts). c.scenes) same in
+    let g = fault-allowed r none-wrong in
     let h = (record-allowed r g).header in
     let n : length r ≡ 64 + 32 * (word32 r 8 + word32 r 16) = sym h.length ∙ h.whole in
     record {
-      units = f.1;
-      scenes = f.2;
-      fault = f.0;
+      units = sym is-units;
+      scenes = sym is-scenes;
+      fault = none-wrong;
       allowed = g;
-      size = omega (arith, f.1, f.2, n);
-      units_more = omega (arith, f.1, h.units_more);
-      units_less = omega (arith, f.1, h.units_less);
-      scenes_less = omega (arith, f.2, h.scenes_less);
+      size = omega (arith, is-units, is-scenes, n);
+      units_more = omega (arith, is-units, h.units_more);
+      units_less = omega (arith, is-units, h.units_less);
+      scenes_less = omega (arith, is-scenes, h.scenes_less);
     }
 
 -- of an answer o of opening
-module _ (r : List ℕ) (o : Opened) (e : o ≡ opened_as r) where
-  pub accepted : (u s : ℕ) → o ≡ Accepted u s → AcceptedAs r u s
+module _ (r : List ℕ) (o : Answer RowCounts) (e : o ≡ opened_as r) where
+  pub accepted : (u s : ℕ) → o ≡ Ok (counted u s) → AcceptedAs r u s
   accepted u s a = accepted-as r u s (sym e ∙ a)
 
-  pub refused : (k p : ℕ) → o ≡ Refused k p → reading_fault r ≡ fault k p
+  pub refused-as : (d : Refusal) → o ≡ Err d → reading_fault r ≡ fault d.number d.place
   unfolding opened_as
-  refused k p a = fault-some (reading_fault r) (word32 r 8) (word32 r 16) k p (sym e ∙ a)
+  refused-as d a = refused-fault (reading_fault r) _ d (sym e ∙ a)
 
 -- ---- the answers of reading
 
 pub header-given : (r : List ℕ) (h : Header) → reading_fault r ≡ none → h ≡ header_of r →
-    of-header.Given h ≡ header_answer r
+    Ok h ≡ header_answer r
 unfolding header_answer
 header-given r h e g = rw (e, g)
 
-pub header_refused : (r : List ℕ) (k p : ℕ) → reading_fault r ≡ fault k p → of-header.Refused k p ≡ header_answer r
-unfolding header_answer
-header_refused r k p e = rw e
-
 module _ (r : List ℕ) (j : ℕ) where
   pub unit-given : (u s : ℕ) (x : UnitRow) → AcceptedAs r u s → j < u → x ≡ unit_at r j →
-      of-unit.Given x ≡ unit_answer r j
+      Ok x ≡ unit_answer r j
   unfolding unit_answer unit_fault row_fault
   unit-given u s x a h g = rw (a.fault, lt-ltb j (word32 r 8) (omega (arith, a.units)), g)
 
-  pub unit-missing : (u s : ℕ) → AcceptedAs r u s → u ≤ j → of-unit.Refused 19 0 ≡ unit_answer r j
+  pub unit-missing : (u s : ℕ) → AcceptedAs r u s → u ≤ j → refused 19 0 ≡ unit_answer r j
   unfolding unit_answer unit_fault row_fault
   unit-missing u s a h = rw (a.fault, le-ltb j (word32 r 8) (omega (arith, a.units)))
 
-  pub unit-refused : (k p : ℕ) → reading_fault r ≡ fault k p → of-unit.Refused k p ≡ unit_answer r j
-  unfolding unit_answer unit_fault
-  unit-refused k p e = rw e
-
   pub scene-given : (u s : ℕ) (x : SceneRow) → AcceptedAs r u s → j < s → x ≡ scene_at r j →
-      of-scene.Given x ≡ scene_answer r j
+      Ok x ≡ scene_answer r j
   unfolding scene_answer scene_fault row_fault
   scene-given u s x a h g = rw (a.fault, lt-ltb j (word32 r 16) (omega (arith, a.scenes)), g)
 
-  pub scene-missing : (u s : ℕ) → AcceptedAs r u s → s ≤ j → of-scene.Refused 19 0 ≡ scene_answer r j
+  pub scene-missing : (u s : ℕ) → AcceptedAs r u s → s ≤ j → refused 19 0 ≡ scene_answer r j
   unfolding scene_answer scene_fault row_fault
   scene-missing u s a h = rw (a.fault, le-ltb j (word32 r 16) (omega (arith, a.scenes)))
-
-  pub scene-refused : (k p : ℕ) → reading_fault r ≡ fault k p → of-scene.Refused k p ≡ scene_answer r j
-  unfolding scene_answer scene_fault
-  scene-refused k p e = rw e

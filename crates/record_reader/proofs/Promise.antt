@@ -7,10 +7,9 @@ use mathlib.Core.List.{List}
 use lib.ListN.{length}
 use borrow.Author.Tests.{lt-ltb}
 use Rattle.rules.specs.Bytes.{word32}
-use Rattle.rules.specs.Refusals.{Fault, none, fault}
+use Rattle.rules.specs.Refusals.{answer, Fault, none, fault}
 use Rattle.rules.specs.Record.{record_length}
-use Rattle.rules.specs.Reading.{header_of, unit_place, unit_at, reading_fault, unit_fault, row_fault, or_header}
-use Rattle.rules.specs.Reading.{or_unit}
+use Rattle.rules.specs.Reading.{header_of, unit_place, unit_at, reading_fault, unit_fault, row_fault}
 use Rattle.rules.specs.Reading.{header_answer, unit_in, unit_answer}
 use Rattle.rules.specs.Shelf.{units_given, lost_given}
 use Rattle.record_laws.proofs.Words.{EachByte, word32-fits, word32-drop}
@@ -45,7 +44,7 @@ module _ (r : List ℕ) where
   unfolding header_answer header_of
   units-few = go (reading_fault r) refl
     where
-      go : (f : Fault) → reading_fault r ≡ f → units_given (or_header f (header_of r)) ≤ 750
+      go : (f : Fault) → reading_fault r ≡ f → units_given (answer f (header_of r)) ≤ 750
       go none e = (record-allowed r (fault-allowed r e)).header.units_less
       go (fault k p) e = omega arith
 
@@ -53,6 +52,6 @@ module _ (r : List ℕ) where
   unfolding unit_answer unit_at unit_in
   lost-fits b i = go (unit_fault r i)
     where
-      go : (f : Fault) → lost_given (or_unit f (unit_at r i)) ≤ 4294967295
+      go : (f : Fault) → lost_given (answer f (unit_at r i)) ≤ 4294967295
       go none = rw (word32-drop (unit_place i) r 24) (omega (arith, word32-fits r (unit_place i + 24) b))
       go (fault k p) = omega arith

@@ -10,9 +10,7 @@ use borrow.Author.Tests.{le-leb}
 use Rattle.rules.specs.declared.Header.{Header}
 use Rattle.rules.specs.declared.UnitRow.{UnitRow}
 use Rattle.rules.specs.declared.SceneRow.{SceneRow}
-use Rattle.rules.specs.declared.HeaderAnswer.TheVariants as of-header
-use Rattle.rules.specs.declared.UnitAnswer.TheVariants as of-unit
-use Rattle.rules.specs.declared.SceneAnswer.TheVariants as of-scene
+use Rattle.std.specs.Prelude.{Ok}
 use Rattle.rules.specs.Bytes.{word32}
 use Rattle.rules.specs.Refusals.{none}
 use Rattle.rules.specs.Record.{record_length, record_bytes}
@@ -22,7 +20,6 @@ use Rattle.record_laws.proofs.Words.{EachByte}
 use Rattle.record_laws.proofs.Record.{Figures, header_read, unit-read, scene-read, record-injective}
 use Rattle.record_laws.proofs.Allowed.{good_figures, allowed-figures, record-allowed, units_read, scenes_read}
 use Rattle.record_laws.proofs.Allowed.{record-again}
-use Rattle.record_reader.specs.declared.Opened.TheVariants.{Accepted}
 use Rattle.record_reader.specs.Opened.{opened_as}
 use Rattle.record_reader.proofs.Answers.{accepted-as, fault-allowed, header-given, unit-given, scene-given}
 
@@ -37,7 +34,7 @@ allowed-accepted r e =
 pub accepted-allowed : (r : List ℕ) → reading_fault r ≡ none → allowed r ≡ true
 accepted-allowed r e = fault-allowed r e
 
-pub allowed-opened : (r : List ℕ) → allowed r ≡ true → opened_as r ≡ Accepted (word32 r 8) (word32 r 16)
+pub allowed-opened : (r : List ℕ) → allowed r ≡ true → opened_as r ≡ Ok (record { units = (word32 r 8); scenes = (word32 r 16) })
 unfolding opened_as
 allowed-opened r e = rw (allowed-accepted r e)
 
@@ -55,22 +52,22 @@ module _ (h : Header) (us : List UnitRow) (ss : List SceneRow) (f : Figures h us
     ap (λ (x : Header). x.scenes) (header_read h us ss f) ∙ sym f.scenes,
   )
 
-  pub opens : opened_as (record_bytes h us ss) ≡ Accepted (length us) (length ss)
+  pub opens : opened_as (record_bytes h us ss) ≡ Ok (record { units = (length us); scenes = (length ss) })
   opens = rw (counts.0, counts.1) at (allowed-opened (record_bytes h us ss) is-allowed)
 
-  pub header-back : header_answer (record_bytes h us ss) ≡ of-header.Given h
+  pub header-back : header_answer (record_bytes h us ss) ≡ Ok h
   header-back = sym (header-given (record_bytes h us ss) h (allowed-accepted (record_bytes h us ss) is-allowed)
       (sym (header_read h us ss f)))
 
   pub unit-back : (j : ℕ) (z : UnitRow) → j < length us →
-      unit_answer (record_bytes h us ss) j ≡ of-unit.Given (get_or us j z)
+      unit_answer (record_bytes h us ss) j ≡ Ok (get_or us j z)
   unit-back j z k =
       let a = accepted-as (record_bytes h us ss) (length us) (length ss) opens in
       sym (unit-given (record_bytes h us ss) j (length us) (length ss) (get_or us j z) a k
       (sym (unit-read h us ss f j z k)))
 
   pub scene-back : (j : ℕ) (z : SceneRow) → j < length ss →
-      scene_answer (record_bytes h us ss) j ≡ of-scene.Given (get_or ss j z)
+      scene_answer (record_bytes h us ss) j ≡ Ok (get_or ss j z)
   scene-back j z k =
       let a = accepted-as (record_bytes h us ss) (length us) (length ss) opens in
       sym (scene-given (record_bytes h us ss) j (length us) (length ss) (get_or ss j z) a k

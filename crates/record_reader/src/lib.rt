@@ -9,43 +9,31 @@ ghost use Rattle.rules.specs.Reading.{scene_answer, unit_in, scene_in};
 ghost use Rattle.record_reader.specs.Opened.{opened_as};
 
 use figures::is_edition;
-use rules::{Header, HeaderAnswer, SceneAnswer, SceneRow, UnitAnswer, UnitRow};
+use rules::{Header, Refusal, SceneRow, UnitRow};
 
-// What opening a record answers: accepted, with its counts of units and scenes, or refused.
+// How many rows of units and of scenes an accepted record has.
 #[derive(Clone, Copy)]
-pub enum Opened {
-    Accepted { units: usize, scenes: usize },
-    Refused { number: u64, place: u64 },
+pub struct RowCounts {
+    pub units: usize,
+    pub scenes: usize,
 }
 
 // Opens a record: accepted exactly if the rules allow it, otherwise 16, 17 or 18, tried in this order.
-pub fn open(bytes: &[u8]) -> Opened
+pub fn open(bytes: &[u8]) -> Result<RowCounts, Refusal>
     ensures { result ≡ opened_as bytes.now }
 {
     if bytes.len() < 64 {
-        return Opened::Refused {
-            number: 16,
-            place: 0,
-        };
+        return Err(Refusal::SHORT_RECORD);
     }
     if !is_edition(words::word32(bytes, 0)) {
-        return Opened::Refused {
-            number: 17,
-            place: 0,
-        };
+        return Err(Refusal::RECORD_EDITION);
     }
     if !record_allowed::allowed(bytes) {
-        return Opened::Refused {
-            number: 18,
-            place: 0,
-        };
+        return Err(Refusal::NOT_ALLOWED);
     }
     let units = words::word32(bytes, 8) as usize;
     let scenes = words::word32(bytes, 16) as usize;
-    Opened::Accepted {
-        units: units,
-        scenes: scenes,
-    }
+    Ok(RowCounts { units, scenes })
 }
 
 // The header's figures, of a record that was accepted.
@@ -109,7 +97,8 @@ pub fn unit_row(bytes: &[u8], j: usize) -> UnitRow
     unit_in(&bytes[at..])
 }
 
-// Scene row j, of a record that was accepted, has so many units and has the row.
+// Scene row j, of a record that was accepted, has so many units and has the row. Units and scenes stay two functions,
+// here and below: a trait for the two rows, with where each is and how many there are, has more lines than they have.
 pub fn scene_row(bytes: &[u8], units: usize, j: usize) -> SceneRow
     requires { (units ≡ rule32 bytes.now 8) × (scene_offset units + 32 * j + 32 ≤ length bytes.now) }
     ensures { result ≡ scene_at bytes.now j }
@@ -119,61 +108,31 @@ pub fn scene_row(bytes: &[u8], units: usize, j: usize) -> SceneRow
 }
 
 // The header's figures, or the refusal.
-pub fn header(bytes: &[u8]) -> HeaderAnswer
+pub fn header(bytes: &[u8]) -> Result<Header, Refusal>
     ensures { result ≡ header_answer bytes.now }
 {
-    match open(bytes) {
-        Opened::Accepted {
-            units: _,
-            scenes: _,
-        } => HeaderAnswer::Given(header_figures(bytes)),
-        Opened::Refused { number, place } => HeaderAnswer::Refused {
-            number: number,
-            place: place,
-        },
-    }
+    open(bytes)?;
+    Ok(header_figures(bytes))
 }
 
 // Unit row j, or the refusal: 19 where the record has no such row.
-pub fn unit(bytes: &[u8], j: usize) -> UnitAnswer
+pub fn unit(bytes: &[u8], j: usize) -> Result<UnitRow, Refusal>
     ensures { result ≡ unit_answer bytes.now j }
 {
-    match open(bytes) {
-        Opened::Accepted { units, scenes: _ } => {
-            if j < units {
-                UnitAnswer::Given(unit_row(bytes, j))
-            } else {
-                UnitAnswer::Refused {
-                    number: 19,
-                    place: 0,
-                }
-            }
-        }
-        Opened::Refused { number, place } => UnitAnswer::Refused {
-            number: number,
-            place: place,
-        },
+    let counts = open(bytes)?;
+    if counts.units <= j {
+        return Err(Refusal::NO_SUCH_ROW);
     }
+    Ok(unit_row(bytes, j))
 }
 
 // Scene row j, or the refusal.
-pub fn scene(bytes: &[u8], j: usize) -> SceneAnswer
+pub fn scene(bytes: &[u8], j: usize) -> Result<SceneRow, Refusal>
     ensures { result ≡ scene_answer bytes.now j }
 {
-    match open(bytes) {
-        Opened::Accepted { units, scenes } => {
-            if j < scenes {
-                SceneAnswer::Given(scene_row(bytes, units, j))
-            } else {
-                SceneAnswer::Refused {
-                    number: 19,
-                    place: 0,
-                }
-            }
-        }
-        Opened::Refused { number, place } => SceneAnswer::Refused {
-            number: number,
-            place: place,
-        },
+    let counts = open(bytes)?;
+    if counts.scenes <= j {
+        return Err(Refusal::NO_SUCH_ROW);
     }
+    Ok(scene_row(bytes, counts.units, j))
 }

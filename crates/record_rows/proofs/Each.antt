@@ -2,14 +2,13 @@
 use Prim.Native.Nat.{ℕ, zero, suc, ◌+◌, ◌<◌}
 use native.Mathlib.Omega.{arith}
 use native.Mathlib.Nat.{zero-add, add-zero}
-use mathlib.Core.Path.{◌≡◌, refl, ap, ◌∙◌}
-use mathlib.Core.Bool.{Bool, true, false}
+use mathlib.Core.Path.{sym, ◌≡◌, refl, ap, ◌∙◌}
 use mathlib.Core.List.{List, [], ◌++◌}
 use lib.ListN.{length, get_or, drop}
-use lib.Dec.{ltb}
 use borrow.Author.Tests.{lt-ltb}
-use Rattle.rules.specs.declared.Answer.TheVariants.{Done}
-use Rattle.rules.specs.Bytes.{pick, word32, table}
+use Rattle.std.specs.Prelude.{Ok}
+use Rattle.rules.proofs.Laws.Answers.{given-same, ok-err}
+use Rattle.rules.specs.Bytes.{word32, table}
 use Rattle.rules.specs.Refusals.{Fault, none, fault, ◌or_else◌, answer}
 use Rattle.rules.specs.Reading.{reading_fault, row_fault, unit_fault, scene_fault, unit_answer, scene_answer}
 use Rattle.rules.specs.Seal.{no_room}
@@ -26,17 +25,12 @@ laid row (suc n) from (suc j) rest h =
     rw same (laid row n (suc from) j rest (omega arith))
 
 -- a call that is done refused nothing, and its answer is the number of rows
-done : (f : Fault) (lent n m : ℕ) → Done m ≡ answer (f or_else no_room lent n) n → (f ≡ none) × (m ≡ n)
-unfolding no_room
-done none lent n m e = room (ltb lent n) e
-  where
-    room : (b : Bool) → Done m ≡ answer (pick b (fault 15 n) none) n → (none ≡ none) × (m ≡ n)
-    room true e = absurd (let z : ◌≡◌ {A = ℕ} 0 1 = cc in omega arith)
-    room false e = (refl, (cc))
-done (fault k p) lent n m e = absurd (let z : ◌≡◌ {A = ℕ} 0 1 = cc in omega arith)
+done : (f : Fault) (lent n m : ℕ) → Ok m ≡ answer (f or_else no_room lent n) n → (f ≡ none) × (m ≡ n)
+done none lent n m e = (refl, sym (given-same _ _ _ (sym e)))
+done (fault k p) lent n m e = absurd (ok-err e)
 
 module _ (r : List ℕ) (n : ℕ) (row : ℕ → List ℕ) (before after : List (List ℕ)) (m : ℕ)
-    (given : RowsRead r n row before (Done m) after) where
+    (given : RowsRead r n row before (Ok m) after) where
   pub read : (reading_fault r ≡ none) × (m ≡ n)
   unfolding rows_answer
   read = done (reading_fault r) (length before) n m given.answered

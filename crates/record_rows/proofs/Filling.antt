@@ -7,9 +7,10 @@ use mathlib.Core.Path.{◌≡◌, refl, ap}
 use mathlib.Core.List.{List, [], ◌∷◌, ◌++◌}
 use lib.ListN.{length, set, drop, length-set}
 use borrow.Author.Tests.{lt-ltb, le-ltb}
-use Rattle.rules.specs.declared.Answer.TheVariants.{Done, Refused}
+use Rattle.std.specs.Prelude.{Ok, Err}
+use Rattle.rules.specs.declared.refusals.Refusal.{Refusal}
+use Rattle.rules.specs.Refusals.{refused, none, fault}
 use Rattle.rules.specs.Bytes.{table}
-use Rattle.rules.specs.Refusals.{none, fault}
 use Rattle.rules.specs.Reading.{reading_fault}
 use Rattle.rules.specs.Seal.{no_room}
 use Rattle.record_rows.specs.Rows.{rows_over, rows_answer, RowsRead}
@@ -45,18 +46,18 @@ module _ (row : ℕ → List ℕ) where
 -- ---- the answers
 
 module _ (r : List ℕ) (n : ℕ) (row : ℕ → List ℕ) (ys : List (List ℕ)) where
-  pub refused : (k p : ℕ) → reading_fault r ≡ fault k p → RowsRead r n row ys (Refused k p) ys
+  pub not-opened : (d : Refusal) → reading_fault r ≡ fault d.number d.place → RowsRead r n row ys (Err d) ys
   unfolding rows_answer
-  refused k p e = record { answered = rw e; given = rw e }
+  not-opened d e = record { answered = rw e; given = rw e }
 
   module _ (accepted : reading_fault r ≡ none) (m : ℕ) (said : m ≡ n) where
-    pub short : length ys < m → RowsRead r n row ys (Refused 15 m) ys
+    pub short : length ys < m → RowsRead r n row ys (refused 15 m) ys
     unfolding rows_answer no_room
     short h =
         let less = lt-ltb (length ys) n (omega arith) in
         record { answered = rw (accepted, less, said); given = rw (accepted, less) }
 
-    pub done : m ≤ length ys → (zs : List (List ℕ)) → zs ≡ rows_over m row ys → RowsRead r n row ys (Done m) zs
+    pub done : m ≤ length ys → (zs : List (List ℕ)) → zs ≡ rows_over m row ys → RowsRead r n row ys (Ok m) zs
     unfolding rows_answer no_room
     done h zs e =
         let room = le-ltb (length ys) n (omega arith) in

@@ -7,16 +7,12 @@ ghost use Rattle.rules.specs.Bytes.{word32 as rule32};
 ghost use Rattle.record_rows.specs.Rows.{unit_figures, scene_figures, unit_row, scene_row, rows_over};
 ghost use Rattle.record_rows.specs.Rows.{UnitsRead, ScenesRead};
 
-use record_reader::Opened;
-use rules::{Answer, SceneRow, UnitRow};
+use rules::{Refusal, SceneRow, UnitRow};
 
 // How many figures a row has.
 pub const UNIT_FIGURES: usize = 6;
 
 pub const SCENE_FIGURES: usize = 7;
-
-// The refusal of lent memory that is too short (document 01, 15).
-const NO_ROOM: u64 = 15;
 
 // A unit row's figures, in document 01's order.
 pub fn unit_figures(u: UnitRow) -> [u64; UNIT_FIGURES]
@@ -52,67 +48,45 @@ fn put_units(bytes: &[u8], units: usize, rows: &mut [[u64; UNIT_FIGURES]])
     requires { (64 + 32 * units ≤ length bytes.now) × (units ≤ length rows.old) }
     ensures { rows.new ≡ rows_over units (unit_row bytes.now) rows.old }
 {
-    let mut j = 0;
-    while j < units {
+    for j in 0..units {
         rows[j] = unit_figures(record_reader::unit_row(bytes, j));
-        j += 1;
     }
 }
 
 // The scene rows of a record that was accepted and has so many units and scenes, over the first of the lent rows.
+// One function for both kinds was tried: its closures need clauses of their own, longer than the loop that they
+// replace.
 fn put_scenes(bytes: &[u8], units: usize, scenes: usize, rows: &mut [[u64; SCENE_FIGURES]])
     requires { (units ≡ rule32 bytes.now 8) × (64 + 32 * (units + scenes) ≤ length bytes.now) ×
         (scenes ≤ length rows.old) }
     ensures { rows.new ≡ rows_over scenes (scene_row bytes.now) rows.old }
 {
-    let mut j = 0;
-    while j < scenes {
+    for j in 0..scenes {
         rows[j] = scene_figures(record_reader::scene_row(bytes, units, j));
-        j += 1;
     }
 }
 
 // All unit rows of a record. Answers their number, or refuses: 16, 17 or 18, then 15 where fewer rows are lent, its
 // place the number of rows needed. Rows past the record's are as they were, and after a refusal all are.
-pub fn read_units(bytes: &[u8], rows: &mut [[u64; UNIT_FIGURES]]) -> Answer
+pub fn read_units(bytes: &[u8], rows: &mut [[u64; UNIT_FIGURES]]) -> Result<u64, Refusal>
     ensures { UnitsRead bytes.now rows.old result rows.new }
 {
-    match record_reader::open(bytes) {
-        Opened::Accepted { units, scenes: _ } => {
-            if rows.len() < units {
-                return Answer::Refused {
-                    number: NO_ROOM,
-                    place: units as u64,
-                };
-            }
-            put_units(bytes, units, rows);
-            Answer::Done(units as u64)
-        }
-        Opened::Refused { number, place } => Answer::Refused {
-            number: number,
-            place: place,
-        },
+    let counts = record_reader::open(bytes)?;
+    if rows.len() < counts.units {
+        return Err(Refusal::no_room(counts.units as u64));
     }
+    put_units(bytes, counts.units, rows);
+    Ok(counts.units as u64)
 }
 
-// All scene rows of a record, likewise.
-pub fn read_scenes(bytes: &[u8], rows: &mut [[u64; SCENE_FIGURES]]) -> Answer
+// All scene rows of a record, likewise: two functions, since the lent rows of each kind have a type of their own.
+pub fn read_scenes(bytes: &[u8], rows: &mut [[u64; SCENE_FIGURES]]) -> Result<u64, Refusal>
     ensures { ScenesRead bytes.now rows.old result rows.new }
 {
-    match record_reader::open(bytes) {
-        Opened::Accepted { units, scenes } => {
-            if rows.len() < scenes {
-                return Answer::Refused {
-                    number: NO_ROOM,
-                    place: scenes as u64,
-                };
-            }
-            put_scenes(bytes, units, scenes, rows);
-            Answer::Done(scenes as u64)
-        }
-        Opened::Refused { number, place } => Answer::Refused {
-            number: number,
-            place: place,
-        },
+    let counts = record_reader::open(bytes)?;
+    if rows.len() < counts.scenes {
+        return Err(Refusal::no_room(counts.scenes as u64));
     }
+    put_scenes(bytes, counts.units, counts.scenes, rows);
+    Ok(counts.scenes as u64)
 }

@@ -7,9 +7,12 @@ use mathlib.Core.Bool.{Bool, true, false}
 use lib.ListN.{length, replicate}
 use lib.Dec.{ltb}
 use borrow.Author.Tests.{lt-ltb, le-ltb, ltb-false}
-use Rattle.rules.specs.declared.Answer.TheVariants.{Done, Refused}
+use Rattle.std.specs.Int.{div_ceil}
+use Rattle.std.specs.Prelude.{Ok, Err}
+use Rattle.rules.specs.declared.refusals.Refusal.{Refusal}
+use Rattle.rules.proofs.Laws.Answers.{ok-same, ok-err}
+use Rattle.rules.specs.Refusals.{refused, Fault, none, fault, ◌or_else◌, answer}
 use Rattle.rules.specs.Bytes.{pick, word32, table, end_to_end}
-use Rattle.rules.specs.Refusals.{Fault, none, fault, ◌or_else◌, answer}
 use Rattle.rules.specs.Editions.{knows_damage}
 use Rattle.rules.specs.Reading.{header_of, unit_at, scene_at, reading_fault}
 use Rattle.rules.specs.Seal.{no_room, over}
@@ -17,8 +20,7 @@ use Rattle.record_reader.proofs.Answers.{AcceptedAs}
 use Rattle.words.proofs.Behind.{over-written}
 use Rattle.record_lines.specs.Put.{Put, lines_to}
 use Rattle.rules.specs.Sheet.{header_line, unit_line, scene_line, blank_line, record_lines, line_count, pages_for}
-use Rattle.rules.specs.Sheet.{blanks_for}
-use Rattle.rules.specs.Sheet.{sheet_lines, sheet_of, sheet_length, sheet_answer, sheet_buffer}
+use Rattle.rules.specs.Sheet.{blanks_for, sheet_lines, sheet_of, sheet_length, sheet_answer, sheet_buffer}
 use Rattle.rules.proofs.Laws.Lists.{end_to_end-append}
 use Rattle.record_lines.proofs.Puts.{join, same-put}
 
@@ -66,12 +68,16 @@ module _ (r : List ℕ) (u v : ℕ) (is-u : u ≡ word32 r 8) (is-v : v ≡ word
       in
       w.puts ∙ over-written (sheet_of r) s
 
+-- the pages, as the library counts them
+pub whole-pages : (n k : ℕ) → k ≡ div_ceil n 60 → (n + 59) / 60 ≡ k
+whole-pages n k e = omega arith
+
 -- ---- the answer of a buffer of n bytes
 
 module _ (r : List ℕ) (n : ℕ) where
-  pub refused-answer : (k p : ℕ) → reading_fault r ≡ fault k p → Refused k p ≡ sheet_answer r n
+  pub refused-answer : (d : Refusal) → reading_fault r ≡ fault d.number d.place → Err d ≡ sheet_answer r n
   unfolding sheet_answer
-  refused-answer k p e = rw e
+  refused-answer d e = rw e
 
   module _ (u v : ℕ) (a : AcceptedAs r u v) where
     pub needed : sheet_length r ≡ 6060 * ((1 + u + v + 59) / 60)
@@ -79,36 +85,36 @@ module _ (r : List ℕ) (n : ℕ) where
     needed = rw (← a.units, ← a.scenes)
 
     pub short-answer : n < 6060 * ((1 + u + v + 59) / 60) →
-        Refused 15 (6060 * ((1 + u + v + 59) / 60)) ≡ sheet_answer r n
+        refused 15 (6060 * ((1 + u + v + 59) / 60)) ≡ sheet_answer r n
     unfolding sheet_answer no_room
     short-answer h = rw (a.fault, needed, lt-ltb n (6060 * ((1 + u + v + 59) / 60)) h)
 
-    pub done-answer : 6060 * ((1 + u + v + 59) / 60) ≤ n → Done (6060 * ((1 + u + v + 59) / 60)) ≡ sheet_answer r n
+    pub done-answer : 6060 * ((1 + u + v + 59) / 60) ≤ n → Ok (6060 * ((1 + u + v + 59) / 60)) ≡ sheet_answer r n
     unfolding sheet_answer no_room
     done-answer h = rw (a.fault, needed, le-ltb n (6060 * ((1 + u + v + 59) / 60)) h)
 
 -- what was done had room
-room : (f : Fault) (n m k : ℕ) → Done k ≡ answer (f or_else no_room n m) m → k ≤ n
+room : (f : Fault) (n m k : ℕ) → Ok k ≡ answer (f or_else no_room n m) m → k ≤ n
 unfolding no_room
-room (fault i p) n m k e = absurd (let z : ◌≡◌ {A = ℕ} 0 1 = cc in omega arith)
+room (fault i p) n m k e = absurd (ok-err e)
 room none n m k e = go (ltb n m) refl e
   where
-    go : (b : Bool) → ltb n m ≡ b → Done k ≡ answer (pick b (fault 15 m) none) m → k ≤ n
-    go true t e = absurd (let z : ◌≡◌ {A = ℕ} 0 1 = cc in omega arith)
-    go false t e = let z : k ≡ m = cc in omega (arith, ltb-false n m t)
+    go : (b : Bool) → ltb n m ≡ b → Ok k ≡ answer (pick b (fault 15 m) none) m → k ≤ n
+    go true t e = absurd (ok-err e)
+    go false t e = let same = ok-same e in omega (arith, same, ltb-false n m t)
 
-pub done-fits : (r : List ℕ) (n k : ℕ) → Done k ≡ sheet_answer r n → k ≤ n
+pub done-fits : (r : List ℕ) (n k : ℕ) → Ok k ≡ sheet_answer r n → k ≤ n
 unfolding sheet_answer
 done-fits r n k e = room (reading_fault r) n (sheet_length r) k e
 
 -- ---- the buffer afterwards
 
 module _ (r b : List ℕ) where
-  pub refused-buffer : (k p : ℕ) → Refused k p ≡ sheet_answer r (length b) → b ≡ sheet_buffer r b
+  pub refused-buffer : (d : Refusal) → Err d ≡ sheet_answer r (length b) → b ≡ sheet_buffer r b
   unfolding sheet_buffer
-  refused-buffer k p e = rw (← e)
+  refused-buffer d e = rw (← e)
 
   pub done-buffer : (n : ℕ) (t : List ℕ) →
-      Done n ≡ sheet_answer r (length b) → t ≡ over (sheet_of r) b → t ≡ sheet_buffer r b
+      Ok n ≡ sheet_answer r (length b) → t ≡ over (sheet_of r) b → t ≡ sheet_buffer r b
   unfolding sheet_buffer
   done-buffer n t e h = rw (← e) h

@@ -7,20 +7,18 @@ use mathlib.Core.Bool.{Bool, true, false}
 use mathlib.Core.List.{List, [], ◌∷◌, ◌++◌}
 use lib.ListN.{length, drop, replicate, length-append, length-replicate}
 use lib.Seq.{drop_at}
-use Rattle.rules.specs.declared.Answer.{Answer}
-use Rattle.rules.specs.declared.Answer.TheVariants.{Done, Refused}
+use Rattle.std.specs.Prelude.{Ok, Err}
+use Rattle.rules.specs.Refusals.{Answer, none}
 use Rattle.rules.specs.declared.Header.{Header}
 use Rattle.rules.specs.declared.UnitRow.{UnitRow}
 use Rattle.rules.specs.declared.SceneRow.{SceneRow}
 use Rattle.rules.specs.Bytes.{pick, word32, table, end_to_end, All, empty, and}
 use Rattle.rules.specs.Editions.{knows_damage}
-use Rattle.rules.specs.Refusals.{none}
 use Rattle.rules.specs.Reading.{header_of, unit_at, scene_at, reading_fault}
 use Rattle.rules.specs.Seal.{over, if_done}
 use Rattle.rules.specs.Digits.{decimal, hex_in}
-use Rattle.rules.specs.Sheet.{aligned, columns, header_fields, unit_fields, scene_fields, ending, line}
-use Rattle.rules.specs.Sheet.{header_line, unit_line, scene_line, blank_line, record_lines, line_count, pages_for}
-use Rattle.rules.specs.Sheet.{blanks_for}
+use Rattle.rules.specs.Sheet.{aligned, columns, header_fields, unit_fields, scene_fields, ending, line, header_line}
+use Rattle.rules.specs.Sheet.{unit_line, scene_line, blank_line, record_lines, line_count, pages_for, blanks_for}
 use Rattle.rules.specs.Sheet.{sheet_lines, sheet_of, sheet_length, sheet_answer, sheet_buffer}
 use Rattle.rules.proofs.Laws.Lists.{length-table}
 use Rattle.record_laws.proofs.Allowed.{record-allowed, unit-fits, scene-fits}
@@ -220,9 +218,9 @@ module _ (r : List ℕ) (bytes : EachByte r) where
   unfolding sheet_buffer
   past-pages b = go (sheet_answer r (length b))
     where
-      go : (a : Answer) → drop (sheet_length r) (if_done a (over (sheet_of r) b) b) ≡ drop (sheet_length r) b
-      go (Refused k p) = refl
-      go (Done m) = past (sheet_of r) b (sheet_length r) sheet-length
+      go : (a : Answer ℕ) → drop (sheet_length r) (if_done a (over (sheet_of r) b) b) ≡ drop (sheet_length r) b
+      go (Err e) = refl
+      go (Ok m) = past (sheet_of r) b (sheet_length r) sheet-length
 
 -- 17 pages are enough for every record that is not refused
 pub most-pages : (r : List ℕ) → reading_fault r ≡ none → sheet_length r ≤ 103020

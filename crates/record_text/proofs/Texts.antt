@@ -5,32 +5,30 @@ use native.Mathlib.Numerals.{add-one}
 use native.Mathlib.Nat.{pow-suc, pow-le-pow_right, div-lt_iff_lt-mul, add-zero, le-div_iff_mul-le}
 use mathlib.Core.Path.{◌≡◌, refl, sym, ap, ◌∙◌}
 use mathlib.Core.Bool.{Bool, true, false}
-use mathlib.Core.List.{List, [], ◌∷◌, ◌++◌, map, map-append, append-nil}
-use lib.ListN.{length, length-set, take-append-drop, take, set, get_or, length-append, length-map, get_or-map}
-use lib.Seq.{take-suc, take_all, length-take-le}
+use mathlib.Core.List.{List, [], ◌∷◌, ◌++◌, map, map-append, append-nil, append_assoc}
+use lib.ListN.{length, length-set, take-append-drop, take, set, get_or, length-append}
+use lib.Seq.{take-suc, drop-drop}
 use lib.Dec.{ltb}
-use borrow.Author.Tests.{lt-ltb, le-ltb, le-leb, lt-leb, ltb-true, ltb-false}
+use borrow.Author.Tests.{lt-ltb, le-ltb, ltb-true, ltb-false}
+use borrow.Rule.Slice.PartMut.{put_mid}
 use Rattle.io.specs.Digits.{last_digits, hex_digit_ascii, IsDigitCount}
 use Rattle.rules.specs.Bytes.{pick, end_to_end}
 use Rattle.rules.proofs.Laws.Lists.{end_to_end-append, by-test}
 use Rattle.words.specs.Written.{written}
-use Rattle.words.proofs.Laws.{written-sets, length-written}
+use Rattle.words.proofs.Laws.{written-sets}
 use Rattle.rules.specs.Seal.{over}
 use Rattle.words.proofs.Behind.{next, over-written, behind}
 use Rattle.rules.specs.Digits.{decimal_in, decimal, hex_digit, hex_in}
 use Rattle.record_text.specs.Lines.{field, fields}
-use Rattle.record_text.specs.Capital.{capital}
+use Rattle.std.specs.Char.{to_ascii_uppercase}
+use Rattle.std.specs.List.{take-map}
 
--- one byte more of a text
-pub byte_more : (s text : List ℕ) (at i : ℕ) → at + length text ≤ length s → i < length text →
-    set (written at (take i text) s) (at + i) (get_or text i 0) ≡ written at (take (i + 1) text) s
-byte_more s text at i k h =
-    let n : length (take i text) ≡ i = length-take-le i text (omega arith) in
-    let w = written at (take i text) s in
-    let fits : at + i + 1 ≤ length w = omega (arith, length-written at (take i text) s (omega arith)) in
-    let joined-up = next at i (take i text) (get_or text i 0 ∷ []) s n (omega arith) refl refl in
-    written-sets (at + i) (get_or text i 0 ∷ []) w fits ∙ (joined-up ∙ rw (add-one i, take-suc text i 0 h))
+-- a text that was copied to the n bytes from a place on
+pub copied : (at n : ℕ) (s text bs : List ℕ) → bs ≡ text → n ≡ length text → put_mid at n s bs ≡ written at text s
+unfolding written
+copied at n s text bs e size = rw (e, size, drop-drop (length text) at s) (sym (append_assoc (take at s) text _))
 
+-- nothing yet
 pub none_yet : (s text : List ℕ) (at : ℕ) → s ≡ written at (take 0 text) s
 unfolding written
 none_yet s text at = rw (append-nil (take at s), add-zero at) (sym (take-append-drop at s))
@@ -95,22 +93,22 @@ sixteen n k h f = go (ltb 16 k) refl
         let up = pow-le-pow_right {n = 16} (omega arith) {i = 16} {j = k - 1} (omega arith) in
         absurd (omega arith)
 
-capital-digit : (d : ℕ) → d < 16 → capital (hex_digit_ascii d) ≡ hex_digit d
+capital-digit : (d : ℕ) → d < 16 → to_ascii_uppercase (hex_digit_ascii d) ≡ hex_digit d
 capital-digit d h = go (ltb d 10) refl
   where
-    go : (b : Bool) → ltb d 10 ≡ b → capital (hex_digit_ascii d) ≡ hex_digit d
+    go : (b : Bool) → ltb d 10 ≡ b → to_ascii_uppercase (hex_digit_ascii d) ≡ hex_digit d
     go true e =
         let g = ltb-true d 10 e in
-        rw (e, lt-leb 97 (48 + d) (omega arith))
+        rw (e, lt-ltb (48 + d) 97 (omega arith))
     go false e =
         let g = ltb-false d 10 e in
-        rw (e, le-leb 97 (87 + d) (omega arith), le-leb (87 + d) 102 (omega arith)) (omega arith)
+        rw (e, le-ltb (87 + d) 97 (omega arith), lt-ltb (87 + d) 123 (omega arith)) (omega arith)
 
-pub capitals : (k n : ℕ) → map capital (last_digits 16 k n) ≡ hex_in k n
+pub capitals : (k n : ℕ) → map to_ascii_uppercase (last_digits 16 k n) ≡ hex_in k n
 unfolding hex_in
 capitals zero n = refl
 capitals (suc k) n = rw (
-  map-append capital (last_digits 16 k (n / 16)) (hex_digit_ascii (n % 16) ∷ []),
+  map-append to_ascii_uppercase (last_digits 16 k (n / 16)) (hex_digit_ascii (n % 16) ∷ []),
   capitals k (n / 16),
   capital-digit (n % 16) (omega arith),
 )
@@ -153,15 +151,6 @@ pub line-more : (p x s s₁ s₂ : List ℕ) (n : ℕ) → s₁ ≡ over p s →
     s₂ ≡ over (p ++ x) s
 line-more p x s s₁ s₂ n e l k f = f ∙ (rw e (behind p x s n (sym l) k))
 
--- one hexadecimal digit more
-pub capital-more : (s text : List ℕ) (at i x : ℕ) → at + length text ≤ length s → i < length text →
-    x ≡ capital (get_or text i 0) →
-    set (written at (take i (map capital text)) s) (at + i) x ≡ written at (take (i + 1) (map capital text)) s
-capital-more s text at i x k h e =
-    let n : length (map capital text) ≡ length text = length-map text capital in
-    let g : x ≡ get_or (map capital text) i 0 = e ∙ sym (get_or-map capital text i 0) in
-    rw g (byte_more s (map capital text) at i (omega arith) (omega arith))
-
 -- ---- a field is written
 
 module _ (s : List ℕ) (at : ℕ) where
@@ -190,27 +179,30 @@ module _ (s : List ℕ) (at : ℕ) where
           next at 1 (32 ∷ []) (decimal n) s refl (omega arith) (space (omega arith)) e₁,
         )
 
-  module _ (n k : ℕ) (t : List ℕ) (fits : n < 2 ^ 64) (few-digits : IsDigitCount 16 16 n k)
+  module _ (n k : ℕ) (t u : List ℕ) (fits : n < 2 ^ 64) (few-digits : IsDigitCount 16 16 n k)
       (is : take k t ≡ last_digits 16 k n)
+      (raised : u ≡ map to_ascii_uppercase t)
       (room : at + 17 ≤ length s) where
-    hex-digits : map capital (take k t) ≡ hex_in 16 n
-    hex-digits = rw (is, sixteen n k fits few-digits) (capitals 16 n)
+    hex-digits : take k u ≡ hex_in 16 n
+    hex-digits =
+        rw (raised, take-map to_ascii_uppercase k t, is, sixteen n k fits few-digits) (capitals 16 n)
 
-    hex-length : length (take k t) ≡ 16
-    hex-length = sym (length-map (take k t) capital) ∙ rw hex-digits (length-hex 16 n)
-
-    pub hex-room : at + 1 + length (take k t) ≤ length (set s at 32)
-    hex-room = rw (hex-length, length-set s at 32) (omega arith)
+    pub hex-room : at + 1 + length (take k u) ≤ length (set s at 32)
+    hex-room = rw (hex-digits, length-hex 16 n, length-set s at 32) (omega arith)
 
     pub hex-written : (r : ℕ) (s₂ : List ℕ) →
-        (r ≡ at + 1 + length (take k t)) × (s₂ ≡ written (at + 1) (map capital (take k t)) (set s at 32)) →
+        (r ≡ at + 1 + length (take k u)) × (s₂ ≡ written (at + 1) (take k u) (set s at 32)) →
         (r ≡ at + 17) × (s₂ ≡ written at (32 ∷ hex_in 16 n) s)
     hex-written r s₂ e =
-        let e₀ : r ≡ at + 1 + 16 = rw hex-length at e.0 in
+        let e₀ : r ≡ at + 1 + 16 = rw (hex-digits, length-hex 16 n) at e.0 in
         let e₁ : s₂ ≡ written (at + 1) (hex_in 16 n) (set s at 32) = rw hex-digits at e.1 in
         (omega arith, next at 1 (32 ∷ []) (hex_in 16 n) s refl (omega arith) (space (omega arith)) e₁)
 
 -- ---- fields one by one
+
+pub one-field : (n : ℕ) → fields (n ∷ []) ≡ field n
+unfolding fields end_to_end
+one-field n = append-nil (field n)
 
 pub no_fields : (s ns : List ℕ) (at : ℕ) →
     (at ≡ at + length (fields (take 0 ns))) × (s ≡ written at (fields (take 0 ns)) s)
@@ -231,9 +223,6 @@ module _ (ns s s₁ s₂ : List ℕ) (at i end r : ℕ) (h : i < length ns) (roo
         rw (field-more ns i h)
             (next at (length p) p x s refl (omega arith) f k₁),
       )
-
-pub all-fields : (ns : List ℕ) (i : ℕ) → length ns ≤ i → fields (take i ns) ≡ fields ns
-all-fields ns i h = ap fields (take_all i ns h)
 
 -- ---- a line of three parts, and of four
 

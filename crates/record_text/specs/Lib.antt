@@ -1,3 +1,2 @@
 -- What document 01 prints of a record.
 pub mod Lines
-pub mod Capital

@@ -13,6 +13,10 @@ field n = 32 ∷ decimal n
 unfoldable pub fields : List ℕ → List ℕ
 fields ns = end_to_end (map field ns)
 
+-- a word, numbers with a space before each, and an end
+unfoldable pub line_of : List ℕ → List ℕ → List ℕ → List ℕ
+line_of word numbers end = word ++ fields numbers ++ end
+
 -- line 1: `sample`, words 24 to 52, the index bits in 16 hexadecimal digits, a line feed
 unfoldable pub sample_line : Header → List ℕ
 sample_line h =

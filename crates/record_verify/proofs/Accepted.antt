@@ -22,14 +22,13 @@ use Rattle.record_reader.proofs.Answers.{AcceptedAs, accepted-as}
 use Rattle.index.specs.Counts.{ExactCounts}
 use Rattle.record_verify.specs.declared.Reached.{Reached}
 use Rattle.record_verify.specs.declared.UnitTotals.{UnitTotals}
-use Rattle.record_verify.specs.declared.Finding.{Finding}
 use Rattle.record_verify.specs.declared.Verdict.{Verdict}
-use Rattle.record_verify.specs.declared.Verdict.TheVariants.{Refused}
+use Rattle.std.specs.Prelude.{Ok, Err}
+use Rattle.rules.specs.declared.refusals.Refusal.{Refusal}
 use Rattle.record_verify.specs.Totals.{repeated_total, packets_total, unrepeated_total, index_of_rows, reached_of}
-use Rattle.record_verify.specs.Within.{first_of, UnitTotalsOf}
-use Rattle.record_verify.specs.Marks.{exactly, counted_in, header_checks, units_checks, scenes_checks, index_checks}
-use Rattle.record_verify.specs.Marks.{checks, first_failing, judged, verdict_of}
-use Rattle.record_verify.proofs.Answers.{of-append}
+use Rattle.record_verify.specs.Within.{UnitTotalsOf}
+use Rattle.record_verify.specs.Marks.{exactly, counted_in, header_checks, index_checks}
+use Rattle.record_verify.specs.Marks.{checks, Found, first_failing, judged, verdict_of}
 
 -- the first unit of some has a packet
 first-packet : (known : Bool) (n : ℕ) (b : List ℕ) → 1 ≤ n → allowed_units known n b ≡ true → 1 ≤ word32 b 20
@@ -57,8 +56,8 @@ module _ (r : List ℕ) (u s : ℕ) (is : (u ≡ word32 r 8) × (s ≡ word32 r 
   pub headed : HeaderAllowed (length r) r
   headed = (record-allowed r taken.allowed).header
 
-  pub units-there : (u ≡ word32 r 8) × (u ≤ 750) × (64 + 32 * u ≤ length r)
-  units-there = (is.0, taken.units_less, omega (arith, taken.size))
+  pub units-there : (u ≤ 750) × (64 + 32 * u ≤ length r)
+  units-there = (taken.units_less, omega (arith, taken.size))
 
   pub scenes-there : (s ≤ 250) × (64 + 32 * (u + s) ≤ length r)
   scenes-there = (taken.scenes_less, omega (arith, taken.size))
@@ -111,13 +110,22 @@ module _ (r : List ℕ) (u s : ℕ) (is : (u ≡ word32 r 8) × (s ≡ word32 r 
     unfolding header_of counted_in
     counted_is = rw (h-is, t-is.packets, t-is.damaged)
 
+    pub header-found : {x : Found} → x ≡ first_failing (header_checks h (h.bad + t.packets + t.damaged)) →
+        x ≡ first_failing (header_checks (header_of r) (counted_in r))
+    header-found e = e ∙ rw (counted_is, h-is)
+
+    pub index-found : {x : Found} (i : Index) (bits : ℕ) → i ≡ index_of_rows r → bits ≡ index_bits i →
+        x ≡ first_failing (exactly 16 0 h.index bits ∷ []) → x ≡ first_failing (index_checks r)
+    unfolding index_checks header_of
+    index-found i bits i-is bits-is e = e ∙ rw (bits-is, i-is, h-is)
+
     module _ (m n : ℕ) (i : Index) (m-is : m ≡ repeated_total r) (n-is : n ≡ h.pictures - m)
         (i-is : i ≡ index_of n h.pictures t.packets t.lost) where
       unrepeated-is : n ≡ unrepeated_total r
       unfolding unrepeated_total
       unrepeated-is = n-is ∙ rw (pictures-is, m-is)
 
-      index_is : i ≡ index_of_rows r
+      pub index_is : i ≡ index_of_rows r
       unfolding index_of_rows
       index_is = i-is ∙ rw (unrepeated-is, pictures-is, t-is.packets, t-is.lost)
 
@@ -125,36 +133,17 @@ module _ (r : List ℕ) (u s : ℕ) (is : (u ≡ word32 r 8) × (s ≡ word32 r 
       reached =
           record { unrepeated = n; pictures = h.pictures; packets = t.packets; lost = t.lost; index = i }
 
-      reached-is : reached ≡ reached_of r
+      pub reached-is : reached ≡ reached_of r
       unfolding reached_of
       reached-is = rw (unrepeated-is, pictures-is, t-is.packets, t-is.lost, index_is)
-
-      module _ (a b c d ab abc abcd : Finding) (bits : ℕ)
-          (a-is : a ≡ first_failing (header_checks h (h.bad + t.packets + t.damaged)))
-          (b-is : b ≡ first_failing (units_checks r)) (c-is : c ≡ first_failing (scenes_checks r))
-          (bits_is : bits ≡ index_bits i) (d-is : d ≡ first_failing (exactly 16 0 h.index bits ∷ []))
-          (ab-is : ab ≡ first_of a b) (abc-is : abc ≡ first_of ab c) (abcd-is : abcd ≡ first_of abc d) where
-        header-found : a ≡ first_failing (header_checks (header_of r) (counted_in r))
-        header-found = a-is ∙ rw (counted_is, h-is)
-
-        index-found : d ≡ first_failing (index_checks r)
-        unfolding index_checks header_of
-        index-found = d-is ∙ rw (bits_is, index_is, h-is)
-
-        found-is : abcd ≡ first_failing (checks r)
-        unfolding checks
-        found-is = rw (of-append, of-append, of-append, abcd-is, abc-is, ab-is, header-found, b-is, c-is, index-found)
-
-        pub answered : (v : Verdict) → v ≡ judged abcd reached → v ≡ judged (first_failing (checks r)) (reached_of r)
-        answered v v-is = v-is ∙ rw (found-is, reached-is)
 
 -- ---- the answer to any bytes
 
 pub accepted-answer : (r : List ℕ) (v : Verdict) → reading_fault r ≡ none →
-    v ≡ judged (first_failing (checks r)) (reached_of r) → v ≡ verdict_of r
+    v ≡ judged (first_failing (checks r)) (reached_of r) → Ok v ≡ verdict_of r
 unfolding verdict_of
-accepted-answer r v e g = rw e g
+accepted-answer r v e g = rw (e, g)
 
-pub refused-answer : (r : List ℕ) (k p : ℕ) → reading_fault r ≡ fault k p → Refused k p ≡ verdict_of r
+pub refused-answer : (r : List ℕ) (d : Refusal) → reading_fault r ≡ fault d.number d.place → Err d ≡ verdict_of r
 unfolding verdict_of
-refused-answer r k p e = rw e
+refused-answer r d e = rw e

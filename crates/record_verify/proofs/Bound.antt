@@ -1,13 +1,13 @@
 -- Of any bytes that the reader does not refuse the index of the rows is a number from 1 to 5, and with it no NaN.
 use Prim.Native.Nat.{ℕ, zero, suc, ◌*◌, ◌≤◌}
 use native.Mathlib.Omega.{arith}
-use native.Mathlib.Nat.{mul-suc}
 use mathlib.Core.Path.{◌≡◌, refl}
 use mathlib.Core.List.{List, [], ◌∷◌}
 use Rattle.rules.specs.declared.UnitRow.{UnitRow}
 use Rattle.rules.specs.Bytes.{word32, total, table, Bytes, empty, and}
-use Rattle.rules.specs.Refusals.{Fault, none, fault}
+use Rattle.rules.specs.Refusals.{Fault, none, fault, answer}
 use Rattle.rules.specs.Reading.{header_of, unit_at, reading_fault}
+use Rattle.record_reader.proofs.Sums.{table-most}
 use Rattle.index.specs.Counts.{ExactCounts, NoNan}
 use Rattle.index.proofs.Bound.{no_nan, at_least_one, at-most-five}
 use Rattle.record_laws.proofs.Words.{EachByte}
@@ -15,27 +15,18 @@ use Rattle.record_laws.proofs.Record.{UnitFits}
 use Rattle.record_laws.proofs.Allowed.{unit-fits}
 use Rattle.record_verify.specs.declared.Reached.{Reached}
 use Rattle.record_verify.specs.declared.UnitTotals.{UnitTotals}
-use Rattle.record_verify.specs.declared.Finding.{Finding}
-use Rattle.record_verify.specs.declared.Finding.TheVariants.{Holds, Fails}
+use Rattle.std.specs.Prelude.{Ok, Err}
 use Rattle.record_verify.specs.declared.Verdict.TheVariants.{CouldBeSealed}
 use Rattle.record_verify.specs.Within.{UnitTotalsOf}
 use Rattle.record_verify.specs.Totals.{repeated_total, packets_total, lost_total, damaged_total, unrepeated_total}
 use Rattle.record_verify.specs.Totals.{index_of_rows, reached_of, OneToFive, RowsOneToFive}
-use Rattle.record_verify.specs.Marks.{checks, first_failing, judged, or_judged, verdict_of}
+use Rattle.record_verify.specs.Marks.{checks, Found, first_failing, judged, verdict_of}
 use Rattle.record_verify.proofs.Accepted.{taken, counts}
 
 each-byte : (s : List ℕ) → Bytes s → EachByte s
 each-byte [] empty i = omega arith
 each-byte (b ∷ s) (and h hs) zero = h
 each-byte (b ∷ s) (and h hs) (suc i) = each-byte s hs i
-
-table-most : (f : ℕ → ℕ) (most : ℕ) → ((j : ℕ) → f j ≤ most) → (n from : ℕ) → total (table n from f) ≤ most * n
-unfolding total table
-table-most f most h zero from = omega arith
-table-most f most h (suc n) from =
-    let a = table-most f most h n (suc from) in
-    let b = h from in
-    rw (mul-suc most n) (omega arith)
 
 module _ (r : List ℕ) (b : EachByte r) (e : reading_fault r ≡ none) where
   fits : (j : ℕ) → UnitFits (unit_at r j)
@@ -67,7 +58,7 @@ module _ (r : List ℕ) (b : EachByte r) (e : reading_fault r ≡ none) where
   unfolding unrepeated_total header_of totals
   rows-counts = counts r _ _ (refl, refl) e (header_of r) refl totals totals-are (repeated_total r) _ refl
 
-  rows-numbers : NoNan (index_of_rows r)
+  pub rows-numbers : NoNan (index_of_rows r)
   unfolding index_of_rows
   rows-numbers = no_nan rows-counts
 
@@ -85,12 +76,12 @@ rows-one-to-five r b e = bounded r (each-byte r b) e
 
 -- ---- of a verdict that gives an index, none of the three is a NaN
 
-given : (f : Fault) (g : Finding) (x y : Reached) → or_judged f (judged g y) ≡ CouldBeSealed x → (f ≡ none) × (x ≡ y)
-given none Holds x y e = (refl, (cc))
-given none (Fails mark row found limit) x y e = absurd (let z : ◌≡◌ {A = ℕ} 0 1 = cc in omega arith)
+given : (f : Fault) (g : Found) (x y : Reached) → answer f (judged g y) ≡ Ok (CouldBeSealed x) → (f ≡ none) × (x ≡ y)
+given none (Ok u) x y e = (refl, (cc))
+given none (Err d) x y e = absurd (let z : ◌≡◌ {A = ℕ} 0 1 = cc in omega arith)
 given (fault k p) g x y e = absurd (let z : ◌≡◌ {A = ℕ} 0 1 = cc in omega arith)
 
-pub could-be-numbers : (r : List ℕ) → EachByte r → (x : Reached) → verdict_of r ≡ CouldBeSealed x → NoNan x.index
+pub could-be-numbers : (r : List ℕ) → EachByte r → (x : Reached) → verdict_of r ≡ Ok (CouldBeSealed x) → NoNan x.index
 unfolding verdict_of reached_of
 could-be-numbers r b x e =
     let g = given (reading_fault r) (first_failing (checks r)) x (reached_of r) e in

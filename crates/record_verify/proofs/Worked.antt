@@ -17,26 +17,26 @@ use Rattle.rules.specs.Reading.{header_of, unit_place, scene_place, unit_in, sce
 use Rattle.rules.specs.Reading.{reading_fault}
 use Rattle.rules.specs.Reading.{allowed_header, allowed_unit, allowed_units, allowed_scene, allowed_scenes}
 use Rattle.rules.specs.Reading.{allowed_rows, allowed}
-use Rattle.record_verify.specs.declared.Finding.{Finding}
-use Rattle.record_verify.specs.declared.Finding.TheVariants.{Holds, Fails}
+use Rattle.std.specs.Prelude.{Ok, Err}
+use Rattle.rules.specs.Refusals.{Answer}
 use Rattle.record_verify.specs.declared.Verdict.{Verdict}
-use Rattle.record_verify.specs.declared.Verdict.TheVariants.{CouldBeSealed, CouldNotBeSealed, Refused}
+use Rattle.record_verify.specs.declared.Verdict.TheVariants.{CouldBeSealed, CouldNotBeSealed}
 use Rattle.record_verify.specs.Totals.{repeated_total, packets_total, lost_total, damaged_total, unrepeated_total}
 use Rattle.record_verify.specs.Totals.{index_of_rows, reached_of}
 use Rattle.record_verify.specs.Marks.{Check, in_first, counted_in, header_checks, unit_checks, repeat_checks}
 use Rattle.record_verify.specs.Marks.{sum_checks, start_checks, length_checks, scene_checks, units_checks}
-use Rattle.record_verify.specs.Marks.{scenes_checks, index_checks, checks, first_failing, verdict_of}
+use Rattle.record_verify.specs.Marks.{scenes_checks, index_checks, checks, Found, first_failing, verdict_of}
 
 bits : Float → ℕ
 bits x = to_bits binary64 x
 
 -- a verdict in numbers: 0 with the counts and the three f64; 1 with mark, row, found and limit; 2 for a refusal
-said : Verdict → List ℕ
-said (CouldBeSealed x) =
+said : Answer Verdict → List ℕ
+said (Ok (CouldBeSealed x)) =
     0 ∷ x.unrepeated ∷ x.pictures ∷ x.packets ∷ x.lost ∷ bits x.index.ic ∷ bits x.index.ip
     ∷ bits x.index.value ∷ []
-said (CouldNotBeSealed mark row found limit) = 1 ∷ mark ∷ row ∷ found ∷ limit ∷ []
-said (Refused k p) = 2 ∷ k ∷ p ∷ []
+said (Ok (CouldNotBeSealed f)) = 1 ∷ f.mark ∷ f.row ∷ f.found ∷ f.limit ∷ []
+said (Err e) = 2 ∷ e.number ∷ e.place ∷ []
 
 -- units of 1 and 2 packets, each with so many lost
 unit_rows : ℕ → ℕ → List UnitRow
@@ -116,9 +116,9 @@ answered = refl
 -- ---- every limit: a header or a row that is at it, and one that is past it
 
 -- what checks find, in numbers: nothing, or mark, row, found and limit
-found : Finding → List ℕ
-found Holds = []
-found (Fails mark row has limit) = mark ∷ row ∷ has ∷ limit ∷ []
+found : Found → List ℕ
+found (Ok u) = []
+found (Err f) = f.mark ∷ f.row ∷ f.found ∷ f.limit ∷ []
 
 abbrev asked : List Check → List ℕ → Case
 asked cs ns = record { rule = found (first_failing cs); paper = ns }

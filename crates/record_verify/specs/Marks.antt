@@ -1,19 +1,18 @@
 -- The marks of a sealed record: what document 01's rules leave in every record, though its reader does not ask for it.
 -- `sealed_facts` proves each of every seal. The subject is the record's bytes r.
-use Rattle.std.specs.Prelude.{ℕ, ◌+◌, ◌-◌, ◌*◌, List, [], ◌∷◌, ◌++◌, Bool, leb, ltb, eqb}
+use Rattle.std.specs.Prelude.{ℕ, ◌+◌, ◌-◌, ◌*◌, List, [], ◌∷◌, ◌++◌, Bool, leb, ltb, eqb, Result, Ok, Err}
 use Rattle.rules.specs.declared.Header.{Header}
 use Rattle.rules.specs.declared.UnitRow.{UnitRow}
 use Rattle.rules.specs.declared.SceneRow.{SceneRow}
 use Rattle.rules.specs.Bytes.{pick, word32, word64, table, end_to_end}
-use Rattle.rules.specs.Refusals.{Fault, none, fault}
+use Rattle.rules.specs.Refusals.{Answer, answer}
 use Rattle.rules.specs.Index.{index_bits}
 use Rattle.rules.specs.Busiest.{most_scenes}
 use Rattle.rules.specs.Reading.{header_of, unit_at, scene_at, reading_fault}
 use Rattle.record_verify.specs.declared.Reached.{Reached}
-use Rattle.record_verify.specs.declared.Finding.{Finding}
-use Rattle.record_verify.specs.declared.Finding.TheVariants.{Holds, Fails}
+use Rattle.record_verify.specs.declared.Failing.{Failing}
 use Rattle.record_verify.specs.declared.Verdict.{Verdict}
-use Rattle.record_verify.specs.declared.Verdict.TheVariants.{CouldBeSealed, CouldNotBeSealed, Refused}
+use Rattle.record_verify.specs.declared.Verdict.TheVariants.{CouldBeSealed, CouldNotBeSealed}
 use Rattle.record_verify.specs.Totals.{packets_total, damaged_total, index_of_rows, reached_of}
 
 -- a check of a mark: its number, the row (0 where none is meant), what the record has, the limit (the most, the least,
@@ -124,21 +123,25 @@ checks r = header_checks (header_of r) (counted_in r) ++ units_checks r ++ scene
 
 -- ---- the verdict
 
+-- what checks find: all hold, or one fails
+abbrev pub Found : Type 0
+Found = Result (Unit {0}) Failing
+
+-- what is said of a check that does not hold
+abbrev pub failing : Check → Failing
+failing c = record { mark = c.mark; row = c.row; found = c.found; limit = c.limit }
+
 -- the first that does not hold
-unfoldable pub first_failing : List Check → Finding
-first_failing [] = Holds
+unfoldable pub first_failing : List Check → Found
+first_failing [] = Ok tt
 first_failing (c ∷ cs) =
     let later = first_failing cs in
-    pick c.holds later (Fails c.mark c.row c.found c.limit)
+    pick c.holds later (Err (failing c))
 
-abbrev pub judged : Finding → Reached → Verdict
-judged Holds x = CouldBeSealed x
-judged (Fails mark row found limit) x = CouldNotBeSealed mark row found limit
-
-abbrev pub or_judged : Fault → Verdict → Verdict
-or_judged none v = v
-or_judged (fault k p) v = Refused k p
+abbrev pub judged : Found → Reached → Verdict
+judged (Ok u) x = CouldBeSealed x
+judged (Err f) x = CouldNotBeSealed f
 
 -- the reader's refusal (16, 17, 18), the first mark that fails, or what the rows reach
-unfoldable pub verdict_of : List ℕ → Verdict
-verdict_of r = or_judged (reading_fault r) (judged (first_failing (checks r)) (reached_of r))
+unfoldable pub verdict_of : List ℕ → Answer Verdict
+verdict_of r = answer (reading_fault r) (judged (first_failing (checks r)) (reached_of r))

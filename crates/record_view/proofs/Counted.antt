@@ -7,23 +7,17 @@ use mathlib.Core.List.{List}
 use lib.Dec.{leb, eqb}
 use lib.ListN.{length}
 use borrow.Author.Tests.{le-ltb, lt-ltb, le-leb, lt-leb, leb-true, eq-eqb, eqb-true}
-use Rattle.rules.specs.declared.HeaderAnswer.{HeaderAnswer}
-use Rattle.rules.specs.declared.UnitAnswer.{UnitAnswer}
-use Rattle.rules.specs.declared.SceneAnswer.{SceneAnswer}
+use Rattle.std.specs.Prelude.{Ok}
+use Rattle.rules.specs.Refusals.{Answer, answer, refused, Fault, none, fault}
 use Rattle.rules.specs.declared.Header.{Header}
 use Rattle.rules.specs.declared.UnitRow.{UnitRow}
 use Rattle.rules.specs.declared.SceneRow.{SceneRow}
-use Rattle.rules.specs.declared.HeaderAnswer.TheVariants as of-header
-use Rattle.rules.specs.declared.UnitAnswer.TheVariants as of-unit
-use Rattle.rules.specs.declared.SceneAnswer.TheVariants as of-scene
 use Rattle.rules.specs.Bytes.{pick, word32}
-use Rattle.rules.specs.Refusals.{Fault, none, fault}
 use Rattle.rules.specs.Record.{record_length}
-use Rattle.rules.specs.Reading.{header_of, unit_at, scene_at, or_unit, or_scene, reading_fault, row_fault, unit_fault}
+use Rattle.rules.specs.Reading.{header_of, unit_at, scene_at, reading_fault, row_fault, unit_fault}
 use Rattle.rules.specs.Reading.{scene_fault, header_answer, unit_answer, scene_answer}
-use Rattle.record_reader.specs.declared.Opened.TheVariants.{Accepted}
 use Rattle.record_reader.specs.Opened.{opened_as}
-use Rattle.record_reader.proofs.Answers.{accepted-as}
+use Rattle.record_reader.proofs.Answers.{counted, accepted-as}
 use Rattle.record_view.specs.Seen.{units_of, scenes_of, fits, HeaderSeen, UnitSeen, SceneSeen}
 
 -- ---- counts that fit
@@ -76,7 +70,7 @@ module _ (r : List ℕ) (u s : ℕ) where
             rw (le-leb 1 u h₁, le-leb u 750 h₂, le-leb s 250 h₃, le-leb (64 + 32 * (u + s)) (length r) h, e)
 
 -- an accepted record passes with its own counts; 0 and 0 never pass
-pub accepted-fits : (r : List ℕ) (u s : ℕ) → opened_as r ≡ Accepted u s → fits r u s ≡ true
+pub accepted-fits : (r : List ℕ) (u s : ℕ) → opened_as r ≡ Ok (counted u s) → fits r u s ≡ true
 accepted-fits r u s e =
     let a = accepted-as r u s e in
     sym (so-long r u s a.units_more a.units_less a.scenes_less (omega (arith, a.size)) (word32 r 8) refl) ∙
@@ -88,40 +82,41 @@ none-fits r = no-unit r 0 0 (omega arith)
 -- ---- what is answered by the counts
 
 module _ (r : List ℕ) (u s : ℕ) where
-  pub header_read : (a : HeaderAnswer) → fits r u s ≡ false → a ≡ header_answer r → HeaderSeen r u s a
+  pub header_read : (a : Answer Header) → fits r u s ≡ false → a ≡ header_answer r → HeaderSeen r u s a
   header_read a f e = rw f e
 
-  pub header-there : (h : Header) → fits r u s ≡ true → h ≡ header_of r → HeaderSeen r u s (of-header.Given h)
+  pub header-there : (h : Header) → fits r u s ≡ true → h ≡ header_of r → HeaderSeen r u s (Ok h)
   header-there h f e = rw (f, e)
 
   module _ (j : ℕ) where
-    pub unit-read : (a : UnitAnswer) → fits r u s ≡ false → a ≡ unit_answer r j → UnitSeen r u s j a
+    pub unit-read : (a : Answer UnitRow) → fits r u s ≡ false → a ≡ unit_answer r j → UnitSeen r u s j a
     unit-read a f e = rw f e
 
-    pub unit-missing : fits r u s ≡ true → u ≤ j → UnitSeen r u s j (of-unit.Refused 19 0)
+    pub unit-missing : fits r u s ≡ true → u ≤ j → UnitSeen r u s j (refused 19 0)
     unfolding row_fault
     unit-missing f h = rw (f, le-ltb j u h)
 
-    pub unit-there : (x : UnitRow) → fits r u s ≡ true → j < u → x ≡ unit_at r j → UnitSeen r u s j (of-unit.Given x)
+    pub unit-there : (x : UnitRow) → fits r u s ≡ true → j < u → x ≡ unit_at r j → UnitSeen r u s j (Ok x)
     unfolding row_fault
     unit-there x f h e = rw (f, lt-ltb j u h, e)
 
-    pub scene-read : (a : SceneAnswer) → fits r u s ≡ false → a ≡ scene_answer r j → SceneSeen r u s j a
+    pub scene-read : (a : Answer SceneRow) → fits r u s ≡ false → a ≡ scene_answer r j → SceneSeen r u s j a
     scene-read a f e = rw f e
 
-    pub scene-missing : fits r u s ≡ true → s ≤ j → SceneSeen r u s j (of-scene.Refused 19 0)
+    pub scene-missing : fits r u s ≡ true → s ≤ j → SceneSeen r u s j (refused 19 0)
     unfolding row_fault
     scene-missing f h = rw (f, le-ltb j s h)
 
     pub scene-there : (x : SceneRow) → fits r u s ≡ true → j < s → x ≡ scene_at r j → SceneSeen r u s j
-        (of-scene.Given x)
+        (Ok x)
     unfolding row_fault
     scene-there x f h e = rw (f, lt-ltb j s h, e)
 
 -- ---- the counts that a view holds
 
 -- an accepted record's counts are those that opening it gives
-pub counts-opened : (r : List ℕ) (u s : ℕ) → opened_as r ≡ Accepted u s → (u ≡ units_of r) × (s ≡ scenes_of r)
+pub counts-opened : (r : List ℕ) (u s : ℕ) → opened_as r ≡ Ok (counted u s) →
+    (u ≡ units_of r) × (s ≡ scenes_of r)
 unfolding units_of scenes_of
 counts-opened r u s e =
     let a = accepted-as r u s e in
@@ -140,36 +135,36 @@ module _ (r : List ℕ) where
   own none e P x y = rw e (x e)
   own (fault k p) e P x y = rw e y
 
-  pub header-own : (a : HeaderAnswer) → HeaderSeen r (units_of r) (scenes_of r) a → a ≡ header_answer r
+  pub header-own : (a : Answer Header) → HeaderSeen r (units_of r) (scenes_of r) a → a ≡ header_answer r
   unfolding header_answer
   header-own a =
       own (reading_fault r) refl (λ (u s : ℕ). HeaderSeen r u s a → a ≡ header_answer r)
       (λ e h. either (fits r (word32 r 8) (word32 r 16)) e h) (λ h. rw (← none-fits r) at h)
     where
-      either : (b : Bool) → reading_fault r ≡ none → a ≡ pick b (of-header.Given (header_of r)) (header_answer r) →
+      either : (b : Bool) → reading_fault r ≡ none → a ≡ pick b (Ok (header_of r)) (header_answer r) →
           a ≡
           header_answer r
       either true e h = rw e h
       either false e h = h
 
-  pub unit-own : (j : ℕ) (a : UnitAnswer) → UnitSeen r (units_of r) (scenes_of r) j a → a ≡ unit_answer r j
+  pub unit-own : (j : ℕ) (a : Answer UnitRow) → UnitSeen r (units_of r) (scenes_of r) j a → a ≡ unit_answer r j
   unfolding unit_answer unit_fault
   unit-own j a =
       own (reading_fault r) refl (λ (u s : ℕ). UnitSeen r u s j a → a ≡ unit_answer r j)
       (λ e h. either (fits r (word32 r 8) (word32 r 16)) e h) (λ h. rw (← none-fits r) at h)
     where
-      either : (b : Bool) → reading_fault r ≡ none → a ≡ pick b (or_unit (row_fault (word32 r 8) j) (unit_at r j))
+      either : (b : Bool) → reading_fault r ≡ none → a ≡ pick b (answer (row_fault (word32 r 8) j) (unit_at r j))
           (unit_answer r j) → a ≡ unit_answer r j
       either true e h = rw e h
       either false e h = h
 
-  pub scene-own : (j : ℕ) (a : SceneAnswer) → SceneSeen r (units_of r) (scenes_of r) j a → a ≡ scene_answer r j
+  pub scene-own : (j : ℕ) (a : Answer SceneRow) → SceneSeen r (units_of r) (scenes_of r) j a → a ≡ scene_answer r j
   unfolding scene_answer scene_fault
   scene-own j a =
       own (reading_fault r) refl (λ (u s : ℕ). SceneSeen r u s j a → a ≡ scene_answer r j)
       (λ e h. either (fits r (word32 r 8) (word32 r 16)) e h) (λ h. rw (← none-fits r) at h)
     where
-      either : (b : Bool) → reading_fault r ≡ none → a ≡ pick b (or_scene (row_fault (word32 r 16) j) (scene_at r j))
+      either : (b : Bool) → reading_fault r ≡ none → a ≡ pick b (answer (row_fault (word32 r 16) j) (scene_at r j))
           (scene_answer r j) → a ≡ scene_answer r j
       either true e h = rw e h
       either false e h = h

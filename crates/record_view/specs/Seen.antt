@@ -1,16 +1,15 @@
 -- What a view answers: what reading its record answers, refusals with it.
-use Rattle.std.specs.Prelude.{ℕ, ◌≡◌, Bool, ◌&&◌, List, leb, eqb, length}
+use Rattle.std.specs.Prelude.{ℕ, ◌≡◌, Bool, ◌&&◌, List, leb, eqb, length, Ok}
 use Rattle.std.specs.Borrow.{Bor}
-use Rattle.rules.specs.declared.HeaderAnswer.{HeaderAnswer}
-use Rattle.rules.specs.declared.UnitAnswer.{UnitAnswer}
-use Rattle.rules.specs.declared.SceneAnswer.{SceneAnswer}
-use Rattle.rules.specs.declared.HeaderAnswer.TheVariants as of-header
+use Rattle.rules.specs.declared.SceneRow.{SceneRow}
+use Rattle.rules.specs.declared.Header.{Header}
+use Rattle.rules.specs.declared.UnitRow.{UnitRow}
+use Rattle.rules.specs.Refusals.{Answer, answer}
 use Rattle.rules.specs.Bytes.{pick, within, word32}
 use Rattle.rules.specs.Pictures.{if_opened}
 use Rattle.rules.specs.Record.{record_length}
-use Rattle.rules.specs.Reading.{header_of, unit_at, scene_at, reading_fault, row_fault, or_unit, or_scene}
-use Rattle.rules.specs.Reading.{header_answer}
-use Rattle.rules.specs.Reading.{unit_answer, scene_answer}
+use Rattle.rules.specs.Reading.{header_of, unit_at, scene_at, reading_fault, row_fault}
+use Rattle.rules.specs.Reading.{header_answer, unit_answer, scene_answer}
 use Rattle.record_view.specs.declared.View.{View}
 
 -- the counts that a view of the record r holds: 0 where r is refused
@@ -28,16 +27,16 @@ fits r units scenes =
 -- what is answered of r by any counts. By those that r's view holds it is what reading r answers (proofs/Answers); by
 -- others that fit it is what stands there;
 -- by others again r is read
-abbrev pub HeaderSeen : List ℕ → ℕ → ℕ → HeaderAnswer → Type 0
-HeaderSeen r units scenes a = a ≡ pick (fits r units scenes) (of-header.Given (header_of r)) (header_answer r)
+abbrev pub HeaderSeen : List ℕ → ℕ → ℕ → Answer Header → Type 0
+HeaderSeen r units scenes a = a ≡ pick (fits r units scenes) (Ok (header_of r)) (header_answer r)
 
-abbrev pub UnitSeen : List ℕ → ℕ → ℕ → ℕ → UnitAnswer → Type 0
+abbrev pub UnitSeen : List ℕ → ℕ → ℕ → ℕ → Answer UnitRow → Type 0
 UnitSeen r units scenes j a =
-    a ≡ pick (fits r units scenes) (or_unit (row_fault units j) (unit_at r j)) (unit_answer r j)
+    a ≡ pick (fits r units scenes) (answer (row_fault units j) (unit_at r j)) (unit_answer r j)
 
-abbrev pub SceneSeen : List ℕ → ℕ → ℕ → ℕ → SceneAnswer → Type 0
+abbrev pub SceneSeen : List ℕ → ℕ → ℕ → ℕ → Answer SceneRow → Type 0
 SceneSeen r units scenes j a =
-    a ≡ pick (fits r units scenes) (or_scene (row_fault scenes j) (scene_at r j)) (scene_answer r j)
+    a ≡ pick (fits r units scenes) (answer (row_fault scenes j) (scene_at r j)) (scene_answer r j)
 
 -- v is the view that opening the slice s makes
 abbrev pub ViewOf : Bor (List ℕ) → View → Type 0
@@ -47,6 +46,6 @@ ViewOf s v = (v.bytes ≡ s) × (v.units ≡ units_of s.now) × (v.scenes ≡ sc
 abbrev pub Answers : Type 0
 Answers =
     (s : Bor (List ℕ)) (v : View) → ViewOf s v →
-    ((a : HeaderAnswer) → HeaderSeen v.bytes.now v.units v.scenes a → a ≡ header_answer s.now)
-    × ((j : ℕ) (a : UnitAnswer) → UnitSeen v.bytes.now v.units v.scenes j a → a ≡ unit_answer s.now j)
-    × ((j : ℕ) (a : SceneAnswer) → SceneSeen v.bytes.now v.units v.scenes j a → a ≡ scene_answer s.now j)
+    ((a : Answer Header) → HeaderSeen v.bytes.now v.units v.scenes a → a ≡ header_answer s.now)
+    × ((j : ℕ) (a : Answer UnitRow) → UnitSeen v.bytes.now v.units v.scenes j a → a ≡ unit_answer s.now j)
+    × ((j : ℕ) (a : Answer SceneRow) → SceneSeen v.bytes.now v.units v.scenes j a → a ≡ scene_answer s.now j)

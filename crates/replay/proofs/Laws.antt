@@ -9,14 +9,16 @@ use lib.ListN.{length, take, drop, length-append, length-drop, drop_of_length-le
 use lib.Seq.{take_all, append_snoc, take_at, drop_at, drop-drop, length-take-le}
 use borrow.Author.Tests.{leb-true}
 use borrow.Rule.Slice.PartMut.{mid_of, put_mid, Post-is}
-use Rattle.rules.specs.declared.Answer.{Answer}
+use Rattle.std.specs.Prelude.{Some, None}
+use Rattle.rules.specs.Refusals.{Answer}
 use Rattle.rules.specs.Calls.{Call, Outcome}
 use Rattle.sample_questions.specs.State.{State}
 use Rattle.sample.specs.Contract.{OpenPost}
 use Rattle.sample.specs.Calls.{Runs, done, next}
 use Rattle.sample.proofs.Lists.{every-list}
+use Rattle.replay_script.specs.declared.Head.{Head}
 use Rattle.replay_script.specs.Script.{opening_of, head_at, calls_with, calls_by, calls_of, room, room_for, size_of}
-use Rattle.replay_script.proofs.Laws.{calls-on, calls-end, room-append, no_call, takes}
+use Rattle.replay_script.proofs.Laws.{calls-on, calls-end, room-append, takes}
 use Rattle.replay_outcomes.specs.Codes.{code, code_of, codes}
 use Rattle.replay_outcomes.proofs.Laws.{code-size, codes-snoc}
 use Rattle.replay.specs.Run.{replayed, Replayed, CallPost, Played, All}
@@ -64,12 +66,13 @@ ended st₀ script out₀ at to st out f all =
 
 module _ (st₀ : State) (script out₀ : List ℕ) (at to : ℕ) (st : State) (out : List ℕ)
     (f : Sofar st₀ script out₀ at to st out) (inside : at < length script) where
-  pub go_on : (at' end : ℕ) (st' : State) (part : List ℕ) → end ≡ to + size_of (head_at script at) → end ≤ length out →
+  pub go_on : (h : Head) (at' end : ℕ) (st' : State) (part : List ℕ) → head_at script at ≡ Some h →
+      end ≡ to + size_of h → end ≤ length out →
       length part ≡ end - to →
-      CallPost st script at (head_at script at) at' st' part →
+      CallPost st script at h at' st' part →
       Sofar st₀ script out₀ at' end st' (put_mid to (end - to) out part)
   unfolding room
-  go_on at' end st' part z r size n =
+  go_on h at' end st' part here z r size n =
       let s = calls-on f.fuel script at inside f.enough in
       let p = take to out ++ code_of n.outcome in
       let q = drop end out in
@@ -91,6 +94,7 @@ module _ (st₀ : State) (script out₀ : List ℕ) (at to : ℕ) (st : State) (
         enough = omega (arith, s.1, f.enough, n.on);
         split = f.split ∙ rw (
           s.2,
+          here,
           n.first (calls_by s.0 script),
           append_snoc f.before n.call (calls_by s.0 script at'),
         );
@@ -103,23 +107,22 @@ module _ (st₀ : State) (script out₀ : List ℕ) (at to : ℕ) (st : State) (
       }
 
   -- the list ends here
-  pub stops : size_of (head_at script at) ≡ 0 → All st₀ script out₀ out
-  stops z room-there =
+  pub stops : head_at script at ≡ None → All st₀ script out₀ out
+  stops none room-there =
       let s = calls-on f.fuel script at inside f.enough in
-      let none : calls_with (head_at script at) script at (calls_by s.0 script) ≡ [] =
-      no_call (head_at script at) script at (calls_by s.0 script) z in
       ended st₀ script out₀ at to st out f (f.split ∙ rw (s.2, none, append-nil f.before))
 
   -- there is no room for the call that is left
-  pub full : (x : List ℕ) → length out₀ - to < size_of (head_at script at) → to ≤ length out₀ → All st₀ script out₀ x
+  pub full : (h : Head) (x : List ℕ) → head_at script at ≡ Some h → length out₀ - to < size_of h → to ≤ length out₀ →
+      All st₀ script out₀ x
   unfolding room
-  full x less inside-out room-there =
+  full h x here less inside-out room-there =
       let s = calls-on f.fuel script at inside f.enough in
       let all : room (calls_of script)
-      ≡ room f.before + room (calls_with (head_at script at) script at (calls_by s.0 script)) =
-      ap room f.split ∙ room-append f.before (calls_by f.fuel script at) ∙ rw s.2
+      ≡ room f.before + room (calls_with (Some h) script at (calls_by s.0 script)) =
+      ap room f.split ∙ room-append f.before (calls_by f.fuel script at) ∙ rw (s.2, here)
       in
-      absurd (omega (arith, takes (head_at script at) script at (calls_by s.0 script), f.count))
+      absurd (omega (arith, takes h script at (calls_by s.0 script), f.count))
 
 -- nothing is left of the script
 pub finish : (st₀ : State) (script out₀ : List ℕ) (at to : ℕ) (st : State) (out : List ℕ) →
@@ -131,7 +134,7 @@ abbrev Wrote : List ℕ → List ℕ → List ℕ → Type 0
 Wrote script out out' = room_for script ≤ length out → out' ≡ replayed script out
 
 -- DEMAND 3, of a run that was made: the opening's answer is at the front, and the calls' outcomes behind it
-run-made : (a : Answer) (st : State) (script out part : List ℕ) → OpenPost (opening_of script) a st → 17 ≤ length out →
+run-made : (a : Answer ℕ) (st : State) (script out part : List ℕ) → OpenPost (opening_of script) a st → 17 ≤ length out →
     All st script (drop 17 out) part → Wrote script out (code a ++ part)
 unfolding codes
 run-made a st script out part o h f enough =
@@ -141,7 +144,7 @@ run-made a st script out part o h f enough =
     rw (p.wrote, t.outcomes, t.opening, drop-drop (room (calls_of script)) 17 out, append_assoc)
 
 -- and so of the part of out that is lent for the calls
-pub replays : (a : Answer) (st : State) (script out out' part : List ℕ) (k : ℕ) → OpenPost (opening_of script) a st →
+pub replays : (a : Answer ℕ) (st : State) (script out out' part : List ℕ) (k : ℕ) → OpenPost (opening_of script) a st →
     17 ≤ length out →
     out' ≡ code a ++ drop 17 out → length out' ≤ 17 + k → All st script (mid_of 17 k out') part →
     Wrote script out (put_mid 17 k out' part)

@@ -6,13 +6,14 @@ use mathlib.Core.List.{List, ◌∷◌, ◌++◌, append-nil}
 use lib.ListN.{length, take, drop, replicate, length-drop, length-replicate, drop_of_length-le}
 use lib.Seq.{take_all, drop_at, length-take-le}
 use borrow.Rule.Slice.PartMut.{mid_of, post_of, put_mid}
-use Rattle.rules.specs.declared.Answer.{Answer}
+use Rattle.std.specs.Prelude.{Some}
+use Rattle.rules.specs.Refusals.{Answer}
 use Rattle.rules.specs.Calls.{Question, seal, index, repeats, sealed_into, Call, feed_capture, feed_luma, ask, fed}
 use Rattle.rules.specs.Calls.{replied}
-use Rattle.capture.specs.State.{Arrays}
 use Rattle.sample_questions.specs.State.{State, Words, words_of}
 use Rattle.sample_seal.specs.Contract.{SealPost}
-use Rattle.sample.specs.Calls.{feeds_capture, feeds_luma, asks}
+use Rattle.sample.specs.Calls.{asks}
+use Rattle.sample.proofs.Feeds.{ran-capture, ran-luma}
 use Rattle.replay_script.specs.declared.Head.{Head}
 use Rattle.replay_script.specs.declared.Head.TheVariants.{Capture, Luma, Seal, Index, Repeats}
 use Rattle.replay_script.specs.Script.{calls_with, reply_room, size_of}
@@ -31,7 +32,7 @@ part-back out part k h g =
     drop_at (take 17 out) (part ++ post_of 17 k out) 17 (length-take-le 17 out h)
     ∙ rw (drop_of_length-le (drop 17 out) {i = k} (omega arith), append-nil part)
 
-pub sealed-law : (w : Words) (out filled buffer out' : List ℕ) (a : Answer) (m : ℕ) → 17 ≤ length out →
+pub sealed-law : (w : Words) (out filled buffer out' : List ℕ) (a : Answer ℕ) (m : ℕ) → 17 ≤ length out →
     filled ≡ replicate (length (mid_of 17 (length out - 17) out)) 165 →
     m ≡ length out - 17 →
     SealPost w (mid_of 17 m (put_mid 17 (length out - 17) out filled)) a buffer →
@@ -54,47 +55,31 @@ sealed-law v out filled buffer out' a m h f z p w lo hi =
 
 -- ---- feeds and questions
 
-pub after-capture : (capture : Arrays) (luma sums bins picture : List ℕ) (capture' : Arrays) (script out' : List ℕ)
-    (at n from end : ℕ) (h : Head) → h ≡ Capture n → from ≡ at + 5 → end ≡ from + n →
-    FedCapture capture (take (end - from) (drop from script)) capture' out' →
-    CallPost
-    (record { capture = capture; luma = luma; sums = sums; bins = bins; picture = picture })
-    script
-    at
-    h
-    end
-    (record { capture = capture'; luma = luma; sums = sums; bins = bins; picture = picture })
-    out'
-after-capture capture luma sums bins picture capture' script out' at n from end h e f z p =
+pub after-capture : (st st' : State) (script out' : List ℕ) (at n from end : ℕ) (h : Head) → h ≡ Capture n →
+    from ≡ at + 5 → end ≡ from + n → FedCapture st (take (end - from) (drop from script)) st' out' →
+    CallPost st script at h end st' out'
+after-capture st st' script out' at n from end h e f z p =
     let k : end - from ≡ n = omega arith in
     record {
       call = feed_capture (take (end - from) (drop from script));
       outcome = fed p.answer;
       first = λ more. rw (e, k, z, f);
-      ran = feeds_capture p.post;
+      ran = ran-capture p.post;
       wrote = p.wrote;
       size = rw e;
       on = omega arith;
     }
 
-pub after-luma : (capture : Arrays) (luma sums bins picture luma' sums' bins' picture' script out' : List ℕ)
-    (at n from end : ℕ) (h : Head) → h ≡ Luma n → from ≡ at + 5 → end ≡ from + n →
-    FedLuma luma sums bins picture (take (end - from) (drop from script)) luma' sums' bins' picture' out' →
-    CallPost
-    (record { capture = capture; luma = luma; sums = sums; bins = bins; picture = picture })
-    script
-    at
-    h
-    end
-    (record { capture = capture; luma = luma'; sums = sums'; bins = bins'; picture = picture' })
-    out'
-after-luma capture luma sums bins picture luma' sums' bins' picture' script out' at n from end h e f z p =
+pub after-luma : (st st' : State) (script out' : List ℕ) (at n from end : ℕ) (h : Head) → h ≡ Luma n →
+    from ≡ at + 5 → end ≡ from + n → FedLuma st (take (end - from) (drop from script)) st' out' →
+    CallPost st script at h end st' out'
+after-luma st st' script out' at n from end h e f z p =
     let k : end - from ≡ n = omega arith in
     record {
       call = feed_luma (take (end - from) (drop from script));
       outcome = fed p.answer;
       first = λ more. rw (e, k, z, f);
-      ran = feeds_luma p.post;
+      ran = ran-luma p.post;
       wrote = p.wrote;
       size = rw e;
       on = omega arith;
@@ -102,7 +87,7 @@ after-luma capture luma sums bins picture luma' sums' bins' picture' script out'
 
 -- a question changes no state; the next call stands at `next`
 pub after-question : (st : State) (script out' : List ℕ) (at next : ℕ) (h : Head) (q : Question) →
-    ((more : ℕ → List Call) → calls_with h script at more ≡ ask q ∷ more next) →
+    ((more : ℕ → List Call) → calls_with (Some h) script at more ≡ ask q ∷ more next) →
     size_of h ≡ reply_room q → at < next → Replied (words_of st) q out' → CallPost st script at h next st out'
 after-question st script out' at next h q first size on p =
     record {

@@ -1,14 +1,12 @@
 -- What running a script comes to, and what `replay` promises: demand 3's equation about the whole list of calls.
-use Rattle.std.specs.Prelude.{ℕ, ◌≤◌, ◌<◌, ◌≡◌, List, [], ◌∷◌, ◌++◌, Bool, leb, length, drop}
-use Rattle.rules.specs.declared.Answer.{Answer}
+use Rattle.std.specs.Prelude.{ℕ, ◌≤◌, ◌<◌, ◌≡◌, List, [], ◌∷◌, ◌++◌, Bool, leb, length, drop, Some}
+use Rattle.rules.specs.Refusals.{Answer}
 use Rattle.rules.specs.Bytes.{pick}
 use Rattle.rules.specs.Opening.{open_answer}
-use Rattle.rules.specs.Calls.{Question, index, repeats, Reply, Call, Outcome, fed, expected}
-use Rattle.capture.specs.State.{Arrays}
-use Rattle.capture.specs.Contract as side-capture
-use Rattle.luma.specs.Contract as side-luma
+use Rattle.rules.specs.Calls.{Question, Reply, Call, Outcome, fed, expected}
 use Rattle.sample_questions.specs.State.{State, Words}
 use Rattle.sample_questions.specs.Contract.{Asked}
+use Rattle.sample.specs.Owned.{CaptureFed, LumaFed}
 use Rattle.sample.specs.Calls.{Ran, Runs}
 use Rattle.replay_script.specs.declared.Head.{Head}
 use Rattle.replay_script.specs.Script.{opening_of, head_at, calls_with, calls_of, room_of, room, room_for, size_of}
@@ -30,15 +28,15 @@ pub record Replayed (script out : List ℕ) (r : Bool) (out' : List ℕ) : Type 
 -- ---- of the functions within
 
 -- a feed of the capture side, and its code
-pub record FedCapture (capture : Arrays) (piece : List ℕ) (capture' : Arrays) (out' : List ℕ) : Type 0 where
-  pub answer : Answer
-  pub post : side-capture.FeedPost capture piece answer capture'
+pub record FedCapture (st : State) (piece : List ℕ) (st' : State) (out' : List ℕ) : Type 0 where
+  pub answer : Answer ℕ
+  pub post : CaptureFed st piece answer st'
   pub wrote : out' ≡ code answer
 
 -- a feed of the luma side, and its code
-pub record FedLuma (luma sums bins picture piece luma' sums' bins' picture' out' : List ℕ) : Type 0 where
-  pub answer : Answer
-  pub post : side-luma.FeedPost luma sums bins picture piece answer luma' sums' bins' picture'
+pub record FedLuma (st : State) (piece : List ℕ) (st' : State) (out' : List ℕ) : Type 0 where
+  pub answer : Answer ℕ
+  pub post : LumaFed st piece answer st'
   pub wrote : out' ≡ code answer
 
 -- a question, and the code of its reply
@@ -47,31 +45,18 @@ pub record Replied (w : Words) (q : Question) (out' : List ℕ) : Type 0 where
   pub post : Asked w q reply
   pub wrote : out' ≡ reply_code reply
 
--- an index that is asked for, whatever stands in the other arrays, and the code of its answer
-abbrev pub IndexReplied : List ℕ → List ℕ → List ℕ → Type 0
-IndexReplied numbers luma out' =
-    (walk kept table : List ℕ) →
-    Replied (record { capture = record { walk = walk; kept = kept; numbers = numbers; table = table }; luma = luma })
-    index out'
-
--- a count of repeats that is asked for, whatever stands in the capture side's arrays, and the code of its answer
-abbrev pub CountReplied : List ℕ → ℕ → ℕ → List ℕ → Type 0
-CountReplied luma a b out' =
-    (capture : Arrays) → Replied (record { capture = capture; luma = luma }) (repeats a b) out'
-
 -- a call's head stands there, and its outcome takes n bytes
 pub record Called (script : List ℕ) (at : ℕ) (h : Head) (n : ℕ) : Type 0 where
-  pub here : h ≡ head_at script at
+  pub here : Some h ≡ head_at script at
   pub inside : at < length script
   pub size : n ≡ size_of h
-  pub some : 0 < n
 
 -- the call that the script has there, what it came to, and where the next one stands
 pub record CallPost (st : State) (script : List ℕ) (at : ℕ) (h : Head) (next : ℕ) (st' : State)
     (out' : List ℕ) : Type 0 where
   pub call : Call
   pub outcome : Outcome
-  pub first : (more : ℕ → List Call) → calls_with h script at more ≡ call ∷ more next
+  pub first : (more : ℕ → List Call) → calls_with (Some h) script at more ≡ call ∷ more next
   pub ran : Ran st call outcome st'
   pub wrote : out' ≡ code_of outcome
   pub size : size_of h ≡ room_of call

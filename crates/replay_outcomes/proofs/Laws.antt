@@ -1,12 +1,10 @@
 -- What an answer's, an index's and a filled buffer's stores leave; codes one behind the other.
-use Prim.Native.Nat.{ℕ, ◌+◌, ◌≤◌, ◌<◌}
+use Prim.Native.Nat.{ℕ, ◌≤◌}
 use native.Mathlib.Omega.{arith}
-use native.Mathlib.Numerals.{add-one}
 use mathlib.Core.Path.{◌≡◌, sym, ap, ◌∙◌}
 use mathlib.Core.List.{List, [], ◌∷◌, ◌++◌, append-nil, append_assoc}
-use lib.ListN.{length, take, drop, set, replicate, length-append, drop_of_length-le, replicate-append-replicate}
-use lib.Seq.{take-suc-set}
-use Rattle.rules.specs.declared.Answer.{Answer}
+use lib.ListN.{length, drop, set, length-append, drop_of_length-le}
+use Rattle.rules.specs.Refusals.{Answer}
 use Rattle.rules.specs.Bytes.{bytes_of}
 use Rattle.rules.specs.Calls.{Outcome}
 use Rattle.words.specs.Written.{written}
@@ -14,7 +12,7 @@ use Rattle.words.proofs.Laws.{written-sets, written-append, length-bytes_of}
 use Rattle.replay_outcomes.specs.Codes.{kind_of, first_of, second_of, code, three_words, code_of, codes}
 
 -- an answer's three stores
-pub put-law : (out : List ℕ) (a : Answer) → 17 ≤ length out →
+pub put-law : (out : List ℕ) (a : Answer ℕ) → 17 ≤ length out →
     written 9 (bytes_of 8 (second_of a)) (written 1 (bytes_of 8 (first_of a)) (set out 0 (kind_of a)))
     ≡ code a ++ drop 17 out
 unfolding bytes_of written code
@@ -42,13 +40,7 @@ three-law out kind a b c h =
     ∙ written-append 0 (k ++ x ++ y) out (omega arith) z
     ∙ rw (drop_of_length-le out {i = 25} (omega arith))
 
--- one byte more is filled
-pub fill-law : (out : List ℕ) (i : ℕ) → i < length out → take i out ≡ replicate i 165 →
-    take (i + 1) (set out i 165) ≡ replicate (i + 1) 165
-fill-law out i h e = ap (λ (n : ℕ). take n (set out i 165)) (add-one i) ∙ take-suc-set out i 165 h
-    ∙ rw e (replicate-append-replicate i 1 165)
-
-pub code-size : (a : Answer) → length (code a) ≡ 17
+pub code-size : (a : Answer ℕ) → length (code a) ≡ 17
 unfolding code
 code-size a = simp (length-append, length-bytes_of)
 

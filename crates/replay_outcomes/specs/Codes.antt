@@ -1,33 +1,31 @@
 -- Outcomes as bytes.
-use Rattle.std.specs.Prelude.{ℕ, ◌≡◌, List, [], ◌∷◌, ◌++◌}
+use Rattle.std.specs.Prelude.{ℕ, ◌≡◌, List, [], ◌∷◌, ◌++◌, Ok, Err}
 use Rattle.std.specs.Float.{binary64}
 use Rattle.std.specs.Float.Ieee.{to_bits}
-use Rattle.rules.specs.declared.Answer.{Answer}
-use Rattle.rules.specs.declared.Answer.TheVariants.{Done, Refused}
-use Rattle.rules.specs.declared.IndexAnswer.{IndexAnswer}
-use Rattle.rules.specs.declared.IndexAnswer.TheVariants as of-index
+use Rattle.rules.specs.declared.Index.{Index}
+use Rattle.rules.specs.Refusals.{Answer}
 use Rattle.rules.specs.declared.Index as of-rules
 use Rattle.index.specs.Counts.{NoNan}
 use Rattle.rules.specs.Bytes.{bytes_of}
 use Rattle.rules.specs.Calls.{Reply, sealed_into, indexed, counted, Outcome, fed, replied}
 
 -- whether an answer is a refusal
-abbrev pub kind_of : Answer → ℕ
-kind_of (Done n) = 0
-kind_of (Refused number place) = 1
+abbrev pub kind_of : Answer ℕ → ℕ
+kind_of (Ok n) = 0
+kind_of (Err e) = 1
 
 -- the length, or the refusal's number
-abbrev pub first_of : Answer → ℕ
-first_of (Done n) = n
-first_of (Refused number place) = number
+abbrev pub first_of : Answer ℕ → ℕ
+first_of (Ok n) = n
+first_of (Err e) = e.number
 
 -- the refusal's place; a length has none
-abbrev pub second_of : Answer → ℕ
-second_of (Done n) = 0
-second_of (Refused number place) = place
+abbrev pub second_of : Answer ℕ → ℕ
+second_of (Ok n) = 0
+second_of (Err e) = e.place
 
 -- an answer's 17 bytes: one of its kind, eight of its length or number, eight of its place
-unfoldable pub code : Answer → List ℕ
+unfoldable pub code : Answer ℕ → List ℕ
 code a = kind_of a ∷ bytes_of 8 (first_of a) ++ bytes_of 8 (second_of a)
 
 -- a byte of its kind and three times eight bytes
@@ -35,10 +33,10 @@ unfoldable pub three_words : ℕ → ℕ → ℕ → ℕ → List ℕ
 three_words kind a b c = kind ∷ bytes_of 8 a ++ bytes_of 8 b ++ bytes_of 8 c
 
 -- an index's 25 bytes: the bits of Ic, Ip and the index; or the refusal's number, its place and 0
-abbrev pub index_code : IndexAnswer → List ℕ
-index_code (of-index.Given i) =
+abbrev pub index_code : Answer Index → List ℕ
+index_code (Ok i) =
     three_words 0 (to_bits binary64 i.ic) (to_bits binary64 i.ip) (to_bits binary64 i.value)
-index_code (of-index.Refused number place) = three_words 1 number place 0
+index_code (Err e) = three_words 1 e.number e.place 0
 
 -- a question's reply. Of a seal: its answer and the whole buffer behind it
 abbrev pub reply_code : Reply → List ℕ
@@ -59,5 +57,5 @@ codes (o ∷ os) = code_of o ++ codes os
 -- ---- of the functions within
 
 -- the three of an index that is given have bits
-abbrev pub HasBits : IndexAnswer → Type 0
-HasBits a = (i : of-rules.Index) → a ≡ of-index.Given i → NoNan i
+abbrev pub HasBits : Answer Index → Type 0
+HasBits a = (i : of-rules.Index) → a ≡ Ok i → NoNan i

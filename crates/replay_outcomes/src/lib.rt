@@ -1,49 +1,23 @@
-// Writing what a call comes to: an answer, an index, and a buffer before a seal.
+// Writing what a call comes to: an answer or an index.
 #![tactic(auto)]
 
-ghost use Rattle.std.specs.Prelude.{◌≡◌, ◌++◌, ◌≤◌, length, drop, replicate};
-ghost use Rattle.replay_outcomes.specs.Codes.{kind_of, first_of, second_of, code, three_words, index_code, HasBits};
+ghost use Rattle.std.specs.Prelude.{◌≡◌, ◌++◌, ◌≤◌, length, drop};
+ghost use Rattle.replay_outcomes.specs.Codes.{code, three_words, index_code, HasBits};
 
-use rules::{Answer, IndexAnswer};
-
-fn kind(a: Answer) -> u8
-    ensures { result ≡ kind_of a }
-{
-    match a {
-        Answer::Done(_) => 0,
-        Answer::Refused {
-            number: _,
-            place: _,
-        } => 1,
-    }
-}
-
-fn first(a: Answer) -> u64
-    ensures { result ≡ first_of a }
-{
-    match a {
-        Answer::Done(n) => n,
-        Answer::Refused { number, place: _ } => number,
-    }
-}
-
-fn second(a: Answer) -> u64
-    ensures { result ≡ second_of a }
-{
-    match a {
-        Answer::Done(_) => 0,
-        Answer::Refused { number: _, place } => place,
-    }
-}
+use rules::{Index, Refusal};
 
 // An answer, as 17 bytes at the front of out.
-pub fn put(out: &mut [u8], a: Answer)
+pub fn put(out: &mut [u8], a: Result<u64, Refusal>)
     requires { 17 ≤ length out.old }
     ensures { out.new ≡ code a ++ drop 17 out.old }
 {
-    out[0] = kind(a);
-    words::put64(out, 1, first(a));
-    words::put64(out, 9, second(a));
+    let (kind, first, second) = match a {
+        Ok(n) => (0, n, 0),
+        Err(e) => (1, e.number, e.place),
+    };
+    out[0] = kind;
+    words::put64(out, 1, first);
+    words::put64(out, 9, second);
 }
 
 fn put_three(out: &mut [u8], kind: u8, a: u64, b: u64, c: u64)
@@ -57,27 +31,12 @@ fn put_three(out: &mut [u8], kind: u8, a: u64, b: u64, c: u64)
 }
 
 // An index's answer, as the 25 bytes of out.
-pub fn put_index(out: &mut [u8], a: IndexAnswer)
+pub fn put_index(out: &mut [u8], a: Result<Index, Refusal>)
     requires { (length out.old ≡ 25) × HasBits a }
     ensures { out.new ≡ index_code a }
 {
     match a {
-        IndexAnswer::Given(i) => {
-            let ic = f64::to_bits(i.ic);
-            let ip = f64::to_bits(i.ip);
-            let value = f64::to_bits(i.value);
-            put_three(out, 0, ic, ip, value);
-        }
-        IndexAnswer::Refused { number, place } => put_three(out, 1, number, place, 0),
-    }
-}
-
-pub fn fill(out: &mut [u8])
-    ensures { out.new ≡ replicate (length out.old) 165 }
-{
-    let mut i: usize = 0;
-    while i < out.len() {
-        out[i] = 165;
-        i += 1;
+        Ok(i) => put_three(out, 0, i.ic.to_bits(), i.ip.to_bits(), i.value.to_bits()),
+        Err(e) => put_three(out, 1, e.number, e.place, 0),
     }
 }

@@ -1,10 +1,11 @@
 -- What a script says, and the room that its calls' outcomes take.
 use Rattle.std.specs.Prelude.{ℕ, zero, suc, ◌+◌, ◌-◌, List, [], ◌∷◌, ltb, eqb, length, take, drop, replicate}
+use Rattle.std.specs.Prelude.{Option, Some, None}
 use Rattle.rules.specs.declared.Opening.{Opening}
 use Rattle.rules.specs.Bytes.{pick, byte, word32}
 use Rattle.rules.specs.Calls.{Question, seal, index, repeats, Call, feed_capture, feed_luma, ask}
 use Rattle.replay_script.specs.declared.Head.{Head}
-use Rattle.replay_script.specs.declared.Head.TheVariants.{Stop, Capture, Luma, Seal, Index, Repeats}
+use Rattle.replay_script.specs.declared.Head.TheVariants.{Capture, Luma, Seal, Index, Repeats}
 
 -- ---- what a script says
 
@@ -24,32 +25,32 @@ opening_of script =
     }
 
 -- the call that begins with the byte `kind` and the length n, where `left` bytes of the script are left, those five
--- among them: S, C, L
-unfoldable pub head_by : ℕ → ℕ → ℕ → Head
+-- among them: S, C, L; none where the script ends before the call does
+unfoldable pub head_by : ℕ → ℕ → ℕ → Option Head
 head_by left kind n =
-    pick (ltb left 5) Stop (pick (eqb kind 83) (Seal n)
-    (pick (ltb (left - 5) n) Stop (pick (eqb kind 67) (Capture n) (pick (eqb kind 76) (Luma n) Stop))))
+    pick (ltb left 5) None (pick (eqb kind 83) (Some (Seal n))
+    (pick (ltb (left - 5) n) None (pick (eqb kind 67) (Some (Capture n)) (pick (eqb kind 76) (Some (Luma n)) None))))
 
 -- the call that begins with R and the words a and b, where `left` bytes of the script are left, those nine among them
-unfoldable pub passage_by : ℕ → ℕ → ℕ → Head
-passage_by left a b = pick (ltb left 9) Stop (Repeats a b)
+unfoldable pub passage_by : ℕ → ℕ → ℕ → Option Head
+passage_by left a b = pick (ltb left 9) None (Some (Repeats a b))
 
 -- the head that the script has at a place: I is a call by itself, R has two words
-abbrev pub head_at : List ℕ → ℕ → Head
+abbrev pub head_at : List ℕ → ℕ → Option Head
 head_at script at =
-    pick (eqb (byte script at) 73) Index
+    pick (eqb (byte script at) 73) (Some Index)
     (pick (eqb (byte script at) 82)
     (passage_by (length script - at) (word32 script (at + 1)) (word32 script (at + 5)))
     (head_by (length script - at) (byte script at) (word32 script (at + 1))))
 
--- the calls from a place on, of which the first has this head
-abbrev pub calls_with : Head → List ℕ → ℕ → (ℕ → List Call) → List Call
-calls_with Stop script at more = []
-calls_with (Capture n) script at more = feed_capture (take n (drop (at + 5) script)) ∷ more (at + 5 + n)
-calls_with (Luma n) script at more = feed_luma (take n (drop (at + 5) script)) ∷ more (at + 5 + n)
-calls_with (Seal n) script at more = ask (seal (replicate n 0xA5)) ∷ more (at + 5)
-calls_with Index script at more = ask index ∷ more (at + 1)
-calls_with (Repeats a b) script at more = ask (repeats a b) ∷ more (at + 9)
+-- the calls from a place on, of which the first has this head; none where there is no head
+abbrev pub calls_with : Option Head → List ℕ → ℕ → (ℕ → List Call) → List Call
+calls_with None script at more = []
+calls_with (Some (Capture n)) script at more = feed_capture (take n (drop (at + 5) script)) ∷ more (at + 5 + n)
+calls_with (Some (Luma n)) script at more = feed_luma (take n (drop (at + 5) script)) ∷ more (at + 5 + n)
+calls_with (Some (Seal n)) script at more = ask (seal (replicate n 0xA5)) ∷ more (at + 5)
+calls_with (Some Index) script at more = ask index ∷ more (at + 1)
+calls_with (Some (Repeats a b)) script at more = ask (repeats a b) ∷ more (at + 9)
 
 -- at most as many calls as the first number says
 unfoldable pub calls_by : ℕ → List ℕ → ℕ → List Call
@@ -86,16 +87,14 @@ room_for script = 17 + room (calls_of script)
 
 -- where the next call stands
 abbrev pub next_of : Head → ℕ → ℕ
-next_of Stop at = at + 5
 next_of (Capture n) at = at + 5 + n
 next_of (Luma n) at = at + 5 + n
 next_of (Seal n) at = at + 5
 next_of Index at = at + 1
 next_of (Repeats a b) at = at + 9
 
--- how many bytes the outcome of a call with this head takes, 0 of no call
+-- how many bytes the outcome of a call with this head takes
 abbrev pub size_of : Head → ℕ
-size_of Stop = 0
 size_of (Capture n) = 17
 size_of (Luma n) = 17
 size_of (Seal n) = 17 + n

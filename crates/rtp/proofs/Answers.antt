@@ -6,8 +6,7 @@ use mathlib.Core.List.{List}
 use lib.ListN.{length}
 use lib.Dec.{eqb}
 use borrow.Author.Tests.{eqb-true}
-use Rattle.rules.specs.declared.Answer.{Answer}
-use Rattle.rules.specs.declared.Answer.TheVariants.{Refused}
+use Rattle.rules.specs.Refusals.{Answer, refused}
 use Rattle.rules.specs.Bytes.{within}
 use Rattle.rules.proofs.Laws.Lists.{both, inside}
 use Rattle.rules.specs.Rtp.{RtpLists, ordered, rtp_units_in, rtp_units, good_lists, rtp_fault, rtp_answer, rtp_buffer}
@@ -39,11 +38,11 @@ module _ (s : List ℕ) (l : RtpLists) where
       }
 
   pub bad-lists : (buffer : List ℕ) (b : Bool) → b ≡ good_lists s l → b ≡ false →
-      Read s l buffer (Refused 25 0) buffer
+      Read s l buffer (refused 25 0) buffer
   unfolding rtp_answer rtp_buffer rtp_fault
   bad-lists buffer b d e = record { told = rw (← d, e); left = rw (← d, e) }
 
-  pub as-told : (rows buffer after : List ℕ) (r : Answer) → good_lists s l ≡ true → rows ≡ ordered s →
+  pub as-told : (rows buffer after : List ℕ) (r : Answer ℕ) → good_lists s l ≡ true → rows ≡ ordered s →
       Told (rtp_units_in l rows) buffer r after →
       Read s l buffer r after
   unfolding rtp_answer rtp_buffer rtp_fault rtp_units

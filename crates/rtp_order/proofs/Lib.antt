@@ -2,5 +2,4 @@
 pub mod Order
 pub mod Firsts
 pub mod Rows
-pub mod Merging
 pub mod Stayed

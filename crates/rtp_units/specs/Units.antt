@@ -1,11 +1,16 @@
 -- What the steps from rows in order to units promise each other; the rule itself is Rtp.
 use Rattle.std.specs.Prelude.{ℕ, ◌+◌, ◌*◌, ◌≡◌, Bool, true, not, List, map, length, get_or, eqb}
+use Rattle.rtp_units.specs.declared.lists.Lists.{Lists}
 use Rattle.rules.specs.declared.UnitRow.{UnitRow}
-use Rattle.rules.specs.declared.Answer.{Answer}
+use Rattle.rules.specs.Refusals.{Answer}
 use Rattle.rules.specs.Bytes.{pick, smaller, larger, end_to_end}
 use Rattle.rules.specs.Record.{unit_bytes}
 use Rattle.rules.specs.Seal.{no_room, over}
-use Rattle.rules.specs.Rtp.{RtpLists, arrival_of, rtp_units_in, answer_of, buffer_of}
+use Rattle.rules.specs.Rtp.{RtpLists, rtp_lists, arrival_of, rtp_units_in, answer_of, buffer_of}
+
+-- what the lists say
+abbrev pub told : Lists → RtpLists
+told l = rtp_lists l.marker.now l.time.now l.size.now
 
 abbrev pub no_unit : UnitRow
 no_unit = record { least = 0; greatest = 0; size = 0; packets = 0; lost = 0; damaged = 0 }
@@ -40,6 +45,6 @@ abbrev pub Front : List UnitRow → List ℕ → List ℕ → Type 0
 Front us buffer after = after ≡ over (rows_bytes us) buffer
 
 -- what is answered of some units, and what their buffer holds then
-pub record Told (us : List UnitRow) (buffer : List ℕ) (r : Answer) (after : List ℕ) : Type 0 where
+pub record Told (us : List UnitRow) (buffer : List ℕ) (r : Answer ℕ) (after : List ℕ) : Type 0 where
   pub told : r ≡ answer_of (no_room (length buffer) (32 * length us)) us
   pub left : after ≡ buffer_of (no_room (length buffer) (32 * length us)) us buffer

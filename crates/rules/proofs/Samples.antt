@@ -9,11 +9,9 @@ use mathlib.Core.List.{List, [], ◌∷◌, ◌++◌, map}
 use lib.ListN.{length, replicate, set}
 use lib.Ieee.{binary64, add, mul, div, of_int, to_bits}
 use Rattle.rules.specs.declared.Opening.{Opening}
-use Rattle.rules.specs.declared.Answer.{Answer}
-use Rattle.rules.specs.declared.Answer.TheVariants.{Done, Refused}
-use Rattle.rules.specs.declared.IndexAnswer.{IndexAnswer}
-use Rattle.rules.specs.declared.IndexAnswer.TheVariants as of-index
-use Rattle.rules.specs.Refusals.{Fault, none, fault}
+use Rattle.std.specs.Prelude.{Ok, Err}
+use Rattle.rules.specs.declared.Index.{Index}
+use Rattle.rules.specs.Refusals.{Answer, Fault, none, fault}
 use Rattle.rules.specs.Bytes.{word32, word64, network16, bytes_of, total, greatest_of, least_of, count, only, table}
 use Rattle.rules.specs.Bytes.{parts, end_to_end}
 use Rattle.rules.specs.Editions.{is_edition, heeds_splices, rounds_to_nearest, knows_damage}
@@ -37,16 +35,16 @@ use Rattle.rules.specs.Cuts.{bins_apart, per_million, tile_difference, tile_diff
 use Rattle.rules.specs.Cuts.{difference, least_of_six, cut_score, cut_scores}
 use Rattle.rules.specs.Scenes.{starts_scene, is_start, starts_from, starts, longest_from, scene_of, scenes_at}
 use Rattle.rules.specs.Scenes.{scenes_of}
-use Rattle.rules.specs.Changes.{same, squares, spread, root_from, root, nearest, change_from, change}
-use Rattle.rules.specs.Changes.{repeats_after, changes_after, repeats, changes}
+use Rattle.rules.specs.Changes.{same, squares, spread, root_from, root, nearest, change_from, change, repeats_after}
+use Rattle.rules.specs.Changes.{changes_after, repeats, changes}
 use Rattle.rules.specs.Index.{ic_of, ip_of, value_of, index_of, index_bits}
 use Rattle.rules.specs.Record.{le32, record_length, scene_offset, header_bytes, unit_bytes, scene_bytes, record_bytes}
 use Rattle.rules.specs.Reading.{scene_place, unit_place, allowed_header, allowed_unit, allowed_units, allowed_scene}
 use Rattle.rules.specs.Reading.{allowed_scenes, allowed_rows, allowed, reading_fault, row_fault, unit_fault}
 use Rattle.rules.specs.Reading.{scene_fault}
-use Rattle.rules.specs.Seal.{reduced, scenes_in, scenes, unrepeated, index_from, index, header, sealed}
-use Rattle.rules.specs.Seal.{sealed_length, capture_unfinished, no_packet, luma_unfinished, no_picture, no_room}
-use Rattle.rules.specs.Seal.{seal_fault, capture_answer, luma_answer, seal_answer, over, sealed_buffer}
+use Rattle.rules.specs.Seal.{reduced, scenes_in, scenes, unrepeated, index_from, index, header, sealed, sealed_length}
+use Rattle.rules.specs.Seal.{capture_unfinished, no_packet, luma_unfinished, no_picture, no_room, seal_fault}
+use Rattle.rules.specs.Seal.{capture_answer, luma_answer, seal_answer, over, sealed_buffer}
 use Rattle.rules.specs.Calls.{Call, feed_capture, feed_luma, ask, seal, Outcome, fed, replied, Reply, sealed_into}
 use Rattle.rules.specs.Calls.{indexed, counted, expected}
 use Rattle.rules.proofs.Worked.{Case}
@@ -109,14 +107,14 @@ words ns = end_to_end (map le32 ns)
 -- ---- what calls come to, as numbers: 0 and the length, or a refusal's number and place;
 -- behind a seal's the whole buffer
 
-abbrev pub told : Answer → List ℕ
-told (Done n) = 0 ∷ n ∷ []
-told (Refused k p) = k ∷ p ∷ []
+abbrev pub told : Answer ℕ → List ℕ
+told (Ok n) = 0 ∷ n ∷ []
+told (Err e) = e.number ∷ e.place ∷ []
 
 -- of an index: 0 and the bits of Ic, Ip and the index
-abbrev told_index : IndexAnswer → List ℕ
-told_index (of-index.Given i) = 0 ∷ to_bits binary64 i.ic ∷ to_bits binary64 i.ip ∷ to_bits binary64 i.value ∷ []
-told_index (of-index.Refused k p) = k ∷ p ∷ []
+abbrev told_index : Answer Index → List ℕ
+told_index (Ok i) = 0 ∷ to_bits binary64 i.ic ∷ to_bits binary64 i.ip ∷ to_bits binary64 i.value ∷ []
+told_index (Err e) = e.number ∷ e.place ∷ []
 
 abbrev told_in : Reply → List ℕ
 told_in (sealed_into a buffer) = told a ++ buffer

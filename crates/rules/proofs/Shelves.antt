@@ -3,10 +3,10 @@ use Prim.Native.Nat.{ℕ}
 use mathlib.Core.Path.{◌≡◌, refl}
 use mathlib.Core.List.{List, [], ◌∷◌, ◌++◌, map}
 use lib.ListN.{replicate, set}
-use Rattle.rules.specs.declared.ShelfAnswer.{ShelfAnswer}
-use Rattle.rules.specs.declared.PartAnswer.{PartAnswer}
-use Rattle.rules.specs.declared.ShelfAnswer.TheVariants as of-shelf
-use Rattle.rules.specs.declared.PartAnswer.TheVariants as of_part
+use Rattle.std.specs.Prelude.{Ok, Err}
+use Rattle.rules.specs.declared.Part.{Part}
+use Rattle.rules.specs.declared.ShelfTotals.{ShelfTotals}
+use Rattle.rules.specs.Refusals.{Answer}
 use Rattle.rules.specs.Bytes.{word32, word64, bytes_of, total, table, end_to_end}
 use Rattle.rules.specs.Editions.{is_edition, knows_damage}
 use Rattle.rules.specs.Opening.{good_size, good_time, good_pid}
@@ -20,13 +20,13 @@ use Rattle.rules.proofs.Worked.{Case}
 
 -- ---- answers as numbers: 0 and what is given, or a refusal's number and place
 
-opened : ShelfAnswer → List ℕ
-opened (of-shelf.Given n lost) = 0 ∷ n ∷ lost ∷ []
-opened (of-shelf.Refused k p) = k ∷ p ∷ []
+opened : Answer ShelfTotals → List ℕ
+opened (Ok x) = 0 ∷ x.records ∷ x.lost ∷ []
+opened (Err e) = e.number ∷ e.place ∷ []
 
-taken : PartAnswer → List ℕ
-taken (of_part.Given start end) = 0 ∷ start ∷ end ∷ []
-taken (of_part.Refused k p) = k ∷ p ∷ []
+taken : Answer Part → List ℕ
+taken (Ok x) = 0 ∷ x.start ∷ x.end ∷ []
+taken (Err e) = e.number ∷ e.place ∷ []
 
 -- ---- the parts that shelves are made of
 

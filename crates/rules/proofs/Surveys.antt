@@ -3,8 +3,9 @@ use Prim.Native.Nat.{ℕ}
 use mathlib.Core.Path.{◌≡◌, refl}
 use mathlib.Core.List.{List, [], ◌∷◌, ◌++◌, map}
 use lib.ListN.{take, set}
-use Rattle.rules.specs.declared.SurveyAnswer.{SurveyAnswer}
-use Rattle.rules.specs.declared.SurveyAnswer.TheVariants.{Most, Refused}
+use Rattle.std.specs.Prelude.{Ok, Err}
+use Rattle.rules.specs.declared.Most.{Most}
+use Rattle.rules.specs.Refusals.{Answer}
 use Rattle.rules.specs.Bytes.{word32, network16, bytes_of, count, only, end_to_end}
 use Rattle.rules.specs.Frames.{seconds, microseconds, stored_length, frame_time, body, frame_size, frames_up_to}
 use Rattle.rules.specs.Frames.{rest_up_to, frames, rest, behind_header}
@@ -14,16 +15,14 @@ use Rattle.rules.specs.Capture.{whole_frames, unfinished, all_frames, showing, t
 use Rattle.rules.specs.Capture.{wrong_frame_header, wrong_frame, format_fault, capture_inside}
 use Rattle.rules.specs.Seal.{capture_unfinished}
 use Rattle.rules.specs.Survey.{good_of, good_packets, with_most, survey_feed_answer, no_good, survey_fault}
-use Rattle.rules.specs.Survey.{survey_answer, SurveyOutcome, fed_survey, found}
-use Rattle.rules.specs.Survey.{survey_expected}
+use Rattle.rules.specs.Survey.{survey_answer, SurveyOutcome, fed_survey, found, survey_expected}
 use Rattle.rules.proofs.Worked.{Case}
-use Rattle.rules.proofs.Samples.{told, told_fault, file_header, good_header}
-use Rattle.rules.proofs.Samples.{frame_header, frame_with, packet_of}
+use Rattle.rules.proofs.Samples.{told, told_fault, file_header, good_header, frame_header, frame_with, packet_of}
 
 -- 0, identifier and count; or a refusal's number and place
-abbrev pub told_most : SurveyAnswer → List ℕ
-told_most (Most id n) = 0 ∷ id ∷ n ∷ []
-told_most (Refused k p) = k ∷ p ∷ []
+abbrev pub told_most : Answer Most → List ℕ
+told_most (Ok x) = 0 ∷ x.identifier ∷ x.count ∷ []
+told_most (Err e) = e.number ∷ e.place ∷ []
 
 abbrev pub told_of : SurveyOutcome → List ℕ
 told_of (fed_survey a) = told a

@@ -3,10 +3,9 @@
 use Rattle.std.specs.Prelude.{ℕ, zero, suc, ◌+◌, ◌-◌, ◌*◌, ◌/◌, ◌%◌, ◌≤◌, ◌≡◌, Bool, true, ◌&&◌, List, [], ◌∷◌, map}
 use Rattle.std.specs.Prelude.{length, take, drop, replicate, leb, ltb, eqb}
 use Rattle.rules.specs.declared.Opening.{Opening}
-use Rattle.rules.specs.declared.Answer.{Answer}
+use Rattle.rules.specs.Refusals.{Answer, Fault, none, unless, ◌or_else◌, answer}
 use Rattle.rules.specs.declared.SceneRow.{SceneRow}
 use Rattle.rules.specs.Bytes.{pick, within, table, end_to_end, Bytes}
-use Rattle.rules.specs.Refusals.{Fault, none, unless, ◌or_else◌, answer}
 use Rattle.rules.specs.Opening.{good_size, good_time, opening_fault}
 use Rattle.rules.specs.Pictures.{picture_size, picture_count}
 use Rattle.rules.specs.Seal.{no_picture, scenes, over, if_done}
@@ -32,7 +31,7 @@ most_scenes d n = pick (ltb n 3) 1 (1 + (n - 3) / least_between d)
 unfoldable pub most_fault : ℕ → ℕ → Fault
 most_fault d n = unless (good_time d) 2 or_else no_picture n or_else unless (leb n 750) 10
 
-unfoldable pub most_answer : ℕ → ℕ → Answer
+unfoldable pub most_answer : ℕ → ℕ → Answer ℕ
 most_answer d n = answer (most_fault d n) (most_scenes d n)
 
 -- ---- a sample that has that many
@@ -58,7 +57,7 @@ unfoldable pub busiest_part : ℕ → ℕ → ℕ → ℕ → ℕ → ℕ → Li
 busiest_part w h d n at size = take size (drop at (busiest_luma w h d n))
 
 -- the call that fills a lent piece: it answers how many bytes it wrote
-unfoldable pub busiest_answer : ℕ → ℕ → ℕ → ℕ → ℕ → ℕ → Answer
+unfoldable pub busiest_answer : ℕ → ℕ → ℕ → ℕ → ℕ → ℕ → Answer ℕ
 busiest_answer w h d n at size = answer (busiest_fault w h d n) (length (busiest_part w h d n at size))
 
 -- the piece after it: those bytes and behind them the bytes as they were; after a refusal all bytes as they were

@@ -1,15 +1,13 @@
 -- How far a loss spreads (R-8): 001's effective loss for streams without B frames, in document 02's order.
 -- Each operation is one of binary64, rounded once.
 use Rattle.std.specs.Prelude.{ℕ, suc, ◌+◌, ◌*◌, ◌≤◌, ◌<◌, ◌^◌, ◌≡◌, List, [], ◌∷◌, ◌++◌, map, Bool, true, false, not}
-use Rattle.std.specs.Prelude.{◌&&◌, length, take, drop, replicate, T, ltb, eqb, Float}
+use Rattle.std.specs.Prelude.{◌&&◌, length, take, drop, replicate, T, ltb, eqb, Float, Ok}
 use Rattle.std.specs.Float.{binary64}
 use Rattle.std.specs.Float.Ieee.{round, add, sub, mul, lt, le, is_nan}
 use Rattle.rules.specs.Bytes.{pick, within, All}
-use Rattle.rules.specs.Refusals.{Fault, none, fault, unless, ◌or_else◌, answer}
+use Rattle.rules.specs.Refusals.{Fault, none, fault, unless, ◌or_else◌, answer, Answer}
 use Rattle.rules.specs.Index.{float}
 use Rattle.rules.specs.Scenes.{span}
-use Rattle.rules.specs.declared.Answer.{Answer}
-use Rattle.rules.specs.declared.Answer.TheVariants.{Done}
 use Rattle.rules.specs.declared.Loss.{Loss}
 use Rattle.rules.specs.declared.Loss.TheVariants.{KeyFrame, Plain}
 
@@ -119,7 +117,7 @@ loss_fault n losses probabilities l =
     or_else unless (are_probabilities probabilities) 23
 
 -- the answer is the refusal, or N
-unfoldable pub loss_answer : ℕ → List ℕ → List Float → Lists → Answer
+unfoldable pub loss_answer : ℕ → List ℕ → List Float → Lists → Answer ℕ
 loss_answer n losses probabilities l = answer (loss_fault n losses probabilities l) n
 
 abbrev pub if_filled : Fault → Lists → Lists → Lists
@@ -134,7 +132,7 @@ filled n losses probabilities l =
 
 -- what a call promises of its answer and of both lists as they are afterwards
 pub record Filled (n : ℕ) (losses : List ℕ) (probabilities : List Float) (before : Lists)
-    (r : Answer) (after : Lists) : Type 0 where
+    (r : Answer ℕ) (after : Lists) : Type 0 where
   pub answer : r ≡ loss_answer n losses probabilities before
   pub lists : after ≡ filled n losses probabilities before
 
@@ -158,7 +156,7 @@ AlwaysSound =
 abbrev pub CallsSound : Type 0
 CallsSound =
     (n : ℕ) (losses : List ℕ) (probabilities : List Float) (before : Lists) (m : ℕ) (after : Lists) →
-    Filled n losses probabilities before (Done m) after → All (λ (loss : ℕ). loss < 2 ^ 32) losses →
+    Filled n losses probabilities before (Ok m) after → All (λ (loss : ℕ). loss < 2 ^ 32) losses →
     All Sound after.key_frame × All Sound after.plain
 
 -- without a loss both lists are zero

@@ -2,11 +2,10 @@
 -- are listed and counted.
 use Rattle.std.specs.Prelude.{ℕ, zero, suc, ◌+◌, ◌-◌, ◌*◌, ◌%◌, ◌^◌, ◌<◌, ◌≡◌, List, [], ◌∷◌, map, length, leb, eqb}
 use Rattle.rules.specs.Bytes.{total, count, table, end_to_end, All}
-use Rattle.rules.specs.Refusals.{Fault, unless, ◌or_else◌, answer}
+use Rattle.rules.specs.Refusals.{Fault, unless, ◌or_else◌, answer, Answer}
 use Rattle.rules.specs.Units.{gap_loss}
 use Rattle.rules.specs.Changes.{same}
 use Rattle.rules.specs.Seal.{no_room, over, if_done}
-use Rattle.rules.specs.declared.Answer.{Answer}
 
 -- what a gap g loses: what document 01 charges for two counters so far apart
 unfoldable pub gap_lost : ℕ → ℕ
@@ -44,7 +43,7 @@ unfoldable pub gap_fault : ℕ → ℕ → Fault
 gap_fault n room = unless (leb n 15) 24 or_else no_room room (entry_count n)
 
 -- the answer is the refusal, or the number of entries
-unfoldable pub gap_answer : ℕ → ℕ → Answer
+unfoldable pub gap_answer : ℕ → ℕ → Answer ℕ
 gap_answer n room = answer (gap_fault n room) (entry_count n)
 
 -- the table afterwards: its first entries, and behind them what was there; after a refusal all as it was
@@ -52,7 +51,7 @@ unfoldable pub table_after : ℕ → List ℕ → List ℕ
 table_after n old = let new = over (gap_table n) old in if_done (gap_answer n (length old)) new old
 
 -- what a call promises: n, the table before, the answer, the table after
-pub record TableGiven (n : ℕ) (before : List ℕ) (r : Answer) (after : List ℕ) : Type 0 where
+pub record TableGiven (n : ℕ) (before : List ℕ) (r : Answer ℕ) (after : List ℕ) : Type 0 where
   pub answer : r ≡ gap_answer n (length before)
   pub entries : after ≡ table_after n before
 

@@ -1,10 +1,9 @@
 -- Opening: refusals 1 to 3 and 20, the level k and the reduced size w by h.
 use Rattle.std.specs.Prelude.{ℕ, zero, suc, ◌*◌, ◌/◌, ◌^◌, Bool, ◌&&◌, leb}
 use Rattle.rules.specs.declared.Opening.{Opening}
-use Rattle.rules.specs.declared.Answer.{Answer}
+use Rattle.rules.specs.Refusals.{Answer, Fault, unless, ◌or_else◌, answer}
 use Rattle.rules.specs.Bytes.{pick, within}
 use Rattle.rules.specs.Editions.{is_edition}
-use Rattle.rules.specs.Refusals.{Fault, unless, ◌or_else◌, answer}
 
 -- not refused by 1, by 2, by 3
 unfoldable pub good_size : ℕ → ℕ → Bool
@@ -25,7 +24,7 @@ opening_fault o =
     or_else unless (is_edition o.edition) 20
 
 -- what an opening answers
-unfoldable pub open_answer : Opening → Answer
+unfoldable pub open_answer : Opening → Answer ℕ
 open_answer o = answer (opening_fault o) 0
 
 -- the greatest k up to n with H / 2^k at least 30

@@ -1,9 +1,8 @@
 -- Repeats in a passage (document 02, R-12): the repeated pictures from a up to but without b, and refusal 26.
 use Rattle.std.specs.Prelude.{ℕ, List, Bool, ◌&&◌, leb}
 use Rattle.rules.specs.declared.Opening.{Opening}
-use Rattle.rules.specs.declared.Answer.{Answer}
+use Rattle.rules.specs.Refusals.{Answer, Fault, unless, ◌or_else◌, answer}
 use Rattle.rules.specs.Bytes.{count}
-use Rattle.rules.specs.Refusals.{Fault, unless, ◌or_else◌, answer}
 use Rattle.rules.specs.Opening.{opening_fault}
 use Rattle.rules.specs.Pictures.{picture_count}
 use Rattle.rules.specs.Changes.{repeats}
@@ -24,5 +23,5 @@ unfoldable pub repeats_fault : Opening → List ℕ → ℕ → ℕ → Fault
 repeats_fault o luma a b = opening_fault o or_else passage_fault (picture_count o luma) a b
 
 -- what a count answers: the repeated ones of the passage's whole pictures
-unfoldable pub repeats_answer : Opening → List ℕ → ℕ → ℕ → Answer
+unfoldable pub repeats_answer : Opening → List ℕ → ℕ → ℕ → Answer ℕ
 repeats_answer o luma a b = answer (repeats_fault o luma a b) (repeated_in a b (repeats (reduced o luma)))

@@ -4,14 +4,8 @@ use Rattle.std.specs.Prelude.{eqb}
 use Rattle.rules.specs.declared.Header.{Header}
 use Rattle.rules.specs.declared.UnitRow.{UnitRow}
 use Rattle.rules.specs.declared.SceneRow.{SceneRow}
-use Rattle.rules.specs.declared.HeaderAnswer.{HeaderAnswer}
-use Rattle.rules.specs.declared.UnitAnswer.{UnitAnswer}
-use Rattle.rules.specs.declared.SceneAnswer.{SceneAnswer}
-use Rattle.rules.specs.declared.HeaderAnswer.TheVariants as of-header
-use Rattle.rules.specs.declared.UnitAnswer.TheVariants as of-unit
-use Rattle.rules.specs.declared.SceneAnswer.TheVariants as of-scene
 use Rattle.rules.specs.Bytes.{pick, within, word32, word64}
-use Rattle.rules.specs.Refusals.{Fault, none, fault, unless, ◌or_else◌}
+use Rattle.rules.specs.Refusals.{Fault, unless, ◌or_else◌, Answer, answer}
 use Rattle.rules.specs.Editions.{is_edition, knows_damage}
 use Rattle.rules.specs.Opening.{good_size, good_time, good_pid}
 use Rattle.rules.specs.Record.{record_length, scene_offset}
@@ -134,23 +128,11 @@ scene_fault r j = reading_fault r or_else row_fault (word32 r 16) j
 
 -- ---- what reading answers: the figures, or the refusal
 
-abbrev pub or_header : Fault → Header → HeaderAnswer
-or_header none h = of-header.Given h
-or_header (fault k p) h = of-header.Refused k p
+unfoldable pub header_answer : List ℕ → Answer Header
+header_answer r = answer (reading_fault r) (header_of r)
 
-abbrev pub or_unit : Fault → UnitRow → UnitAnswer
-or_unit none u = of-unit.Given u
-or_unit (fault k p) u = of-unit.Refused k p
+unfoldable pub unit_answer : List ℕ → ℕ → Answer UnitRow
+unit_answer r j = answer (unit_fault r j) (unit_at r j)
 
-abbrev pub or_scene : Fault → SceneRow → SceneAnswer
-or_scene none s = of-scene.Given s
-or_scene (fault k p) s = of-scene.Refused k p
-
-unfoldable pub header_answer : List ℕ → HeaderAnswer
-header_answer r = or_header (reading_fault r) (header_of r)
-
-unfoldable pub unit_answer : List ℕ → ℕ → UnitAnswer
-unit_answer r j = or_unit (unit_fault r j) (unit_at r j)
-
-unfoldable pub scene_answer : List ℕ → ℕ → SceneAnswer
-scene_answer r j = or_scene (scene_fault r j) (scene_at r j)
+unfoldable pub scene_answer : List ℕ → ℕ → Answer SceneRow
+scene_answer r j = answer (scene_fault r j) (scene_at r j)

@@ -16,9 +16,8 @@
 --   gaps     24, then 15: GapRuns.gap_fault
 --   RTP      25, then 15: Rtp.rtp_fault
 --   shelf    27, 28: Shelf.shelf_fault, then 19: Shelf.part_fault
-use Rattle.std.specs.Prelude.{ℕ, ◌≤◌, Bool, true, false}
-use Rattle.rules.specs.declared.Answer.{Answer}
-use Rattle.rules.specs.declared.Answer.TheVariants.{Done, Refused}
+use Rattle.std.specs.Prelude.{ℕ, ◌≤◌, Bool, true, false, Result, Ok, Err}
+use Rattle.rules.specs.declared.refusals.Refusal.{Refusal}
 use Rattle.rules.specs.Bytes.{pick, within}
 
 -- a refusal's number and its place (0 where document 01 names none), or none
@@ -37,10 +36,18 @@ abbrev pub ◌or_else◌ : Fault → Fault → Fault
 none or_else f = f
 fault k p or_else f = fault k p
 
--- the refusal, or else the length n
-abbrev pub answer : Fault → ℕ → Answer
-answer none n = Done n
-answer (fault k p) n = Refused k p
+-- what a call answers: what it gives, or the refusal
+abbrev pub Answer : Type 0 → Type 0
+Answer X = Result X Refusal
+
+-- refusal k at place p
+abbrev pub refused : {X : Type 0} → ℕ → ℕ → Answer X
+refused k p = Err (record { number = k; place = p })
+
+-- the refusal, or else what is given: a length, figures, a row
+abbrev pub answer : {X : Type 0} → Fault → X → Answer X
+answer none x = Ok x
+answer (fault k p) x = refused k p
 
 -- ---- the table's numbers, from 1 on
 

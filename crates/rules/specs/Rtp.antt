@@ -1,12 +1,10 @@
 -- Small-screen streams (document 02, R-11): RTP packets as rows in arrival order, each with a sequence number, a
--- marker,
--- a time and a length. Their places, their order, and their units.
+-- marker, a time and a length. Their places, their order, and their units.
 use Rattle.std.specs.Prelude.{ℕ, ◌+◌, ◌-◌, ◌*◌, ◌/◌, ◌%◌, ◌≤◌, ◌≡◌, List, [], ◌∷◌, map, Bool, ◌&&◌, not, length}
 use Rattle.std.specs.Prelude.{get_or, ltb, eqb, ℤ, pos, ◌+ℤ◌, ◌-ℤ◌}
 use Rattle.rules.specs.declared.UnitRow.{UnitRow}
-use Rattle.rules.specs.declared.Answer.{Answer}
+use Rattle.rules.specs.Refusals.{Answer, Fault, unless, ◌or_else◌, answer}
 use Rattle.rules.specs.Bytes.{pick, within, total, greatest_of, least_of, count, only, table, end_to_end}
-use Rattle.rules.specs.Refusals.{Fault, unless, ◌or_else◌, answer}
 use Rattle.rules.specs.Cuts.{sorted}
 use Rattle.rules.specs.Record.{unit_bytes}
 use Rattle.rules.specs.Seal.{no_room, over, if_done}
@@ -22,8 +20,7 @@ abbrev pub moved : ℕ → ℕ → ℕ
 moved place d = pick (ltb d 32768) (place + d) (place - (65536 - d))
 
 -- Places are counted from 4,096 × 32,768 below 0, so that none of 4,096 rows lies below; only differences of places
--- are
--- told. Document 02's own places, which may lie below 0, are `signed_places`, and `PlacesAreSigned` ties the two
+-- are told. Document 02's own places, which may lie below 0, are `signed_places`, and `PlacesAreSigned` ties the two
 abbrev pub origin : ℕ
 origin = 134217728
 
@@ -150,20 +147,20 @@ rtp_fault sequence l room =
 
 -- ---- the answer is the number of unit rows, which stand at the buffer's front; a refusal leaves it as it was
 
-abbrev pub answer_of : Fault → List UnitRow → Answer
+abbrev pub answer_of : Fault → List UnitRow → Answer ℕ
 answer_of f us = answer f (length us)
 
 abbrev pub buffer_of : Fault → List UnitRow → List ℕ → List ℕ
 buffer_of f us buffer = if_done (answer_of f us) (over (end_to_end (map unit_bytes us)) buffer) buffer
 
-unfoldable pub rtp_answer : List ℕ → RtpLists → ℕ → Answer
+unfoldable pub rtp_answer : List ℕ → RtpLists → ℕ → Answer ℕ
 rtp_answer sequence l room = answer_of (rtp_fault sequence l room) (rtp_units sequence l)
 
 unfoldable pub rtp_buffer : List ℕ → RtpLists → List ℕ → List ℕ
 rtp_buffer sequence l buffer = buffer_of (rtp_fault sequence l (length buffer)) (rtp_units sequence l) buffer
 
 -- r is answered, and `after` is what the buffer holds then
-pub record Read (sequence : List ℕ) (l : RtpLists) (buffer : List ℕ) (r : Answer) (after : List ℕ) : Type 0 where
+pub record Read (sequence : List ℕ) (l : RtpLists) (buffer : List ℕ) (r : Answer ℕ) (after : List ℕ) : Type 0 where
   pub told : r ≡ rtp_answer sequence l (length buffer)
   pub left : after ≡ rtp_buffer sequence l buffer
 

@@ -1,14 +1,12 @@
 -- Sealing: the record of what was fed, refusals 11 to 15, and the answers of feeds and seals.
-use Rattle.std.specs.Prelude.{ℕ, ◌%◌, List, [], ◌∷◌, ◌++◌, map, not, length, drop, ltb, eqb}
+use Rattle.std.specs.Prelude.{ℕ, ◌%◌, List, [], ◌∷◌, ◌++◌, map, not, length, drop, ltb, eqb, Ok, Err}
 use Rattle.rules.specs.declared.Opening.{Opening}
-use Rattle.rules.specs.declared.Answer.{Answer}
-use Rattle.rules.specs.declared.Answer.TheVariants.{Done, Refused}
+use Rattle.rules.specs.Refusals.{Answer, Fault, none, fault, ◌or_else◌, answer}
 use Rattle.rules.specs.declared.Header.{Header}
 use Rattle.rules.specs.declared.UnitRow.{UnitRow}
 use Rattle.rules.specs.declared.SceneRow.{SceneRow}
 use Rattle.rules.specs.declared.Index.{Index}
 use Rattle.rules.specs.Bytes.{pick, total, count}
-use Rattle.rules.specs.Refusals.{Fault, none, fault, ◌or_else◌, answer}
 use Rattle.rules.specs.Editions.{rounds_to_nearest}
 use Rattle.rules.specs.Opening.{opening_fault}
 use Rattle.rules.specs.Capture.{units, frame_count, skipped_count, bad_count, capture_fault, capture_inside}
@@ -108,23 +106,23 @@ seal_fault o capture luma buffer =
 -- ---- answers
 
 -- of a feed of n bytes, after which its side's joined bytes are these
-unfoldable pub capture_answer : Opening → List ℕ → ℕ → Answer
+unfoldable pub capture_answer : Opening → List ℕ → ℕ → Answer ℕ
 capture_answer o capture n = answer (opening_fault o or_else capture_fault o capture) n
 
-unfoldable pub luma_answer : Opening → List ℕ → ℕ → Answer
+unfoldable pub luma_answer : Opening → List ℕ → ℕ → Answer ℕ
 luma_answer o luma n = answer (opening_fault o or_else luma_fault o luma) n
 
 -- of a seal into a buffer of n bytes
-unfoldable pub seal_answer : Opening → List ℕ → List ℕ → ℕ → Answer
+unfoldable pub seal_answer : Opening → List ℕ → List ℕ → ℕ → Answer ℕ
 seal_answer o capture luma n = answer (seal_fault o capture luma n) (sealed_length o capture luma)
 
 -- the record over the first bytes of a buffer
 unfoldable pub over : List ℕ → List ℕ → List ℕ
 over r buffer = r ++ drop (length r) buffer
 
-abbrev pub if_done : Answer → List ℕ → List ℕ → List ℕ
-if_done (Done n) new old = new
-if_done (Refused k p) new old = old
+abbrev pub if_done : {A X : Type 0} → Answer A → X → X → X
+if_done (Ok n) new old = new
+if_done (Err e) new old = old
 
 -- the buffer after a seal: the record and behind it the bytes as they were; after a refusal all bytes as they were
 unfoldable pub sealed_buffer : Opening → List ℕ → List ℕ → List ℕ → List ℕ

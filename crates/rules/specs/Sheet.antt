@@ -1,13 +1,12 @@
 -- R-1, a page for the reading room: a record as lines of 100 columns, on pages of 60 lines.
 use Rattle.std.specs.Prelude.{ℕ, ◌+◌, ◌-◌, ◌*◌, ◌/◌, List, [], ◌∷◌, ◌++◌, map, Bool, length, replicate}
-use Rattle.rules.specs.declared.Answer.{Answer}
+use Rattle.rules.specs.Refusals.{Answer, ◌or_else◌, answer}
 use Rattle.rules.specs.declared.Header.{Header}
 use Rattle.rules.specs.declared.UnitRow.{UnitRow}
 use Rattle.rules.specs.declared.SceneRow.{SceneRow}
 use Rattle.rules.specs.Bytes.{pick, word32, table, end_to_end}
 use Rattle.rules.specs.Digits.{decimal, hex_in}
 use Rattle.rules.specs.Editions.{knows_damage}
-use Rattle.rules.specs.Refusals.{◌or_else◌, answer}
 use Rattle.rules.specs.Reading.{header_of, unit_at, scene_at, reading_fault}
 use Rattle.rules.specs.Seal.{no_room, over, if_done}
 
@@ -100,7 +99,7 @@ left_out h = h.edition ∷ h.time ∷ h.pid ∷ h.frames ∷ h.skipped ∷ h.bad
 -- ---- the call
 
 -- reading's refusals, then 15 with the length needed, for a buffer of n bytes; otherwise the pages' length
-unfoldable pub sheet_answer : List ℕ → ℕ → Answer
+unfoldable pub sheet_answer : List ℕ → ℕ → Answer ℕ
 sheet_answer r n = answer (reading_fault r or_else no_room n (sheet_length r)) (sheet_length r)
 
 -- the buffer afterwards: the pages and behind them the bytes as they were; after a refusal all bytes as they were

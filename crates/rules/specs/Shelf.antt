@@ -1,18 +1,14 @@
 -- R-13, the shelf: a head of counts and offsets, then records without gaps. Of a record it asks only what its reader
 -- promises.
 use Rattle.std.specs.Prelude.{ℕ, zero, suc, ◌+◌, ◌-◌, ◌*◌, ◌≤◌, ◌≡◌, List, [], ◌∷◌, ◌++◌, map, Bool, true, ◌&&◌}
-use Rattle.std.specs.Prelude.{length, take, drop, leb, ltb, eqb}
-use Rattle.rules.specs.declared.HeaderAnswer.{HeaderAnswer}
-use Rattle.rules.specs.declared.UnitAnswer.{UnitAnswer}
-use Rattle.rules.specs.declared.HeaderAnswer.TheVariants as of-header
-use Rattle.rules.specs.declared.UnitAnswer.TheVariants as of-unit
-use Rattle.rules.specs.declared.ShelfAnswer.{ShelfAnswer}
-use Rattle.rules.specs.declared.PartAnswer.{PartAnswer}
-use Rattle.rules.specs.declared.ShelfAnswer.TheVariants as of-shelf
-use Rattle.rules.specs.declared.PartAnswer.TheVariants as of_part
+use Rattle.std.specs.Prelude.{length, take, drop, leb, ltb, eqb, Ok, Err}
+use Rattle.rules.specs.declared.Header.{Header}
+use Rattle.rules.specs.declared.Part.{Part}
+use Rattle.rules.specs.declared.UnitRow.{UnitRow}
+use Rattle.rules.specs.declared.ShelfTotals.{ShelfTotals}
+use Rattle.rules.specs.Refusals.{Answer, answer, Fault, none, fault, unless, ◌or_else◌}
 use Rattle.rules.specs.Bytes.{pick, word32, total, table, end_to_end, All}
 use Rattle.rules.specs.Record.{le32}
-use Rattle.rules.specs.Refusals.{Fault, none, fault, unless, ◌or_else◌}
 use Rattle.rules.specs.Reading.{reading_fault, header_answer, unit_answer}
 
 -- ---- how a shelf is laid out
@@ -51,13 +47,13 @@ records s = table (record_count s) 0 (part s)
 
 -- ---- lost cells, as the record reader gives them
 
-abbrev pub units_given : HeaderAnswer → ℕ
-units_given (of-header.Given h) = h.units
-units_given (of-header.Refused k p) = 0
+abbrev pub units_given : Answer Header → ℕ
+units_given (Ok h) = h.units
+units_given (Err e) = 0
 
-abbrev pub lost_given : UnitAnswer → ℕ
-lost_given (of-unit.Given u) = u.lost
-lost_given (of-unit.Refused k p) = 0
+abbrev pub lost_given : Answer UnitRow → ℕ
+lost_given (Ok u) = u.lost
+lost_given (Err e) = 0
 
 -- over all units of a record, and over all records of a shelf
 unfoldable pub record_lost : List ℕ → ℕ
@@ -86,21 +82,13 @@ part_fault s j = shelf_fault s or_else unless (ltb j (record_count s)) 19
 
 -- ---- what the reader of a shelf answers
 
-abbrev pub or_shelf : Fault → ℕ → ℕ → ShelfAnswer
-or_shelf none n lost = of-shelf.Given n lost
-or_shelf (fault k p) n lost = of-shelf.Refused k p
-
-abbrev pub or_part : Fault → ℕ → ℕ → PartAnswer
-or_part none start end = of_part.Given start end
-or_part (fault k p) start end = of_part.Refused k p
-
 -- how many records it holds and how many cells they lost
-unfoldable pub shelf_answer : List ℕ → ShelfAnswer
-shelf_answer s = or_shelf (shelf_fault s) (record_count s) (shelf_lost s)
+unfoldable pub shelf_answer : List ℕ → Answer ShelfTotals
+shelf_answer s = answer (shelf_fault s) (record { records = record_count s; lost = shelf_lost s })
 
 -- where record j starts and ends
-unfoldable pub part_answer : List ℕ → ℕ → PartAnswer
-part_answer s j = or_part (part_fault s j) (edge s j) (edge s (j + 1))
+unfoldable pub part_answer : List ℕ → ℕ → Answer Part
+part_answer s j = answer (part_fault s j) (record { start = edge s j; end = edge s (j + 1) })
 
 -- ---- the shelf of some records
 

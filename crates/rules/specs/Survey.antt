@@ -1,11 +1,9 @@
 -- Document 02, R-4: which stream is the picture. A survey is fed a capture in pieces, knows no PID and no edition, and
 -- gives the identifier with most good packets (document 02: good cells), the lowest among equals, with its count.
 use Rattle.std.specs.Prelude.{ℕ, zero, suc, ◌≤◌, ◌<◌, ◌≡◌, List, [], ◌∷◌, ◌++◌, ◌&&◌, length, ltb, eqb}
-use Rattle.rules.specs.declared.Answer.{Answer}
-use Rattle.rules.specs.declared.SurveyAnswer.{SurveyAnswer}
-use Rattle.rules.specs.declared.SurveyAnswer.TheVariants.{Most, Refused}
+use Rattle.rules.specs.declared.Most.{Most}
+use Rattle.rules.specs.Refusals.{Answer, Fault, none, fault, ◌or_else◌, answer}
 use Rattle.rules.specs.Bytes.{pick, count}
-use Rattle.rules.specs.Refusals.{Fault, none, fault, ◌or_else◌, answer}
 use Rattle.rules.specs.Packets.{Packet, packets, whole, condition, is_good, identifier}
 use Rattle.rules.specs.Capture.{all_frames, format_fault}
 use Rattle.rules.specs.Seal.{capture_unfinished}
@@ -42,7 +40,7 @@ pub record HasMost (counts : ℕ → ℕ) (n id : ℕ) : Type 0 where
 -- ---- answers
 
 -- of a feed of n bytes, after which the joined bytes are these: 4 to 8, or the length
-unfoldable pub survey_feed_answer : List ℕ → ℕ → Answer
+unfoldable pub survey_feed_answer : List ℕ → ℕ → Answer ℕ
 survey_feed_answer capture n = answer (format_fault capture) n
 
 -- 21: a complete capture without a good packet
@@ -53,16 +51,12 @@ no_good most = pick (eqb most 0) (fault 21 0) none
 unfoldable pub survey_fault : List ℕ → ℕ → Fault
 survey_fault capture most = format_fault capture or_else capture_unfinished capture or_else no_good most
 
-abbrev pub or_most : Fault → ℕ → ℕ → SurveyAnswer
-or_most none id n = Most id n
-or_most (fault k p) id n = Refused k p
-
 -- what the survey of these joined bytes answers
-unfoldable pub survey_answer : List ℕ → SurveyAnswer
+unfoldable pub survey_answer : List ℕ → Answer Most
 survey_answer capture =
     let counts = good_packets capture in
     let best = with_most counts identifiers in
-    or_most (survey_fault capture (counts best)) best (counts best)
+    answer (survey_fault capture (counts best)) (record { identifier = best; count = counts best })
 
 -- what an identifier that is answered says of the capture (capture_laws/Survey)
 pub record MostIn (capture : List ℕ) (id n : ℕ) : Type 0 where
@@ -79,8 +73,8 @@ pub data SurveyCall : Type 0 where
 
 -- what a call comes to
 pub data SurveyOutcome : Type 0 where
-  fed_survey : Answer → SurveyOutcome
-  found : SurveyAnswer → SurveyOutcome
+  fed_survey : Answer ℕ → SurveyOutcome
+  found : Answer Most → SurveyOutcome
 
 -- what the calls come to that are made after these joined bytes; the question changes nothing
 unfoldable pub survey_expected : List ℕ → List SurveyCall → List SurveyOutcome

@@ -3,9 +3,7 @@
 use Rattle.std.specs.Prelude.{ℕ, List}
 use Rattle.rules.specs.declared.Opening.{Opening}
 use Rattle.rules.specs.declared.Index.{Index}
-use Rattle.rules.specs.declared.IndexAnswer.{IndexAnswer}
-use Rattle.rules.specs.declared.IndexAnswer.TheVariants.{Given, Refused}
-use Rattle.rules.specs.Refusals.{Fault, none, fault, ◌or_else◌}
+use Rattle.rules.specs.Refusals.{Fault, ◌or_else◌, Answer, answer}
 use Rattle.rules.specs.Opening.{opening_fault}
 use Rattle.rules.specs.Capture.{units, capture_fault}
 use Rattle.rules.specs.Pictures.{picture_count, luma_fault}
@@ -21,13 +19,8 @@ index_fault o capture luma =
     or_else no_packet (units o capture)
     or_else no_picture (picture_count o luma)
 
--- the index, or the refusal
-abbrev pub or_index : Fault → Index → IndexAnswer
-or_index none i = Given i
-or_index (fault k p) i = Refused k p
-
 -- what an index call answers: the index worked out afresh (`Seal.index`), from every unit of the joined capture and
 -- every whole picture. Units are made of all whole cells, those of a record that is not whole yet among them
 -- (`Capture.whole_wanted`)
-unfoldable pub index_answer : Opening → List ℕ → List ℕ → IndexAnswer
-index_answer o capture luma = or_index (index_fault o capture luma) (index o capture luma)
+unfoldable pub index_answer : Opening → List ℕ → List ℕ → Answer Index
+index_answer o capture luma = answer (index_fault o capture luma) (index o capture luma)

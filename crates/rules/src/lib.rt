@@ -2,6 +2,10 @@
 // chapter, in document 01's order.
 #![tactic(auto)]
 
+mod refusals;
+
+pub use refusals::{LAST_NUMBER, Refusal};
+
 // What a sample is opened with: width W, height H, display time d of a picture in microseconds, packet identifier PID,
 // and the edition of the rules that it is measured by (document 02, R-2).
 #[derive(Clone, Copy)]
@@ -13,19 +17,9 @@ pub struct Opening {
     pub edition: u32,
 }
 
-// The last number of the table of refusals.
-pub const LAST_NUMBER: u64 = 28;
-
-// What a call answers: done, with its length, or refused, with document 01's number and the place.
-#[derive(Clone, Copy)]
-pub enum Answer {
-    Done(u64),
-    Refused { number: u64, place: u64 },
-}
-
 // What reading a cell says of it (document 02, R-6): it starts with 0x47 and is undamaged, it starts with 0x47 and is
 // marked as damaged, or it does not start with 0x47.
-#[derive(Clone, Copy)]
+#[derive(Clone, Copy, Debug, PartialEq, Eq)]
 pub enum Condition {
     Good,
     Damaged,
@@ -80,37 +74,11 @@ pub struct Header {
     pub index: u64, // 56: the index's f64 bits
 }
 
-// What reading a record answers: its header's figures, a row, or a refusal.
+// What a survey finds: the identifier with most good packets and how many it has (document 02, R-4).
 #[derive(Clone, Copy)]
-pub enum HeaderAnswer {
-    Given(Header),
-    Refused { number: u64, place: u64 },
-}
-
-#[derive(Clone, Copy)]
-pub enum UnitAnswer {
-    Given(UnitRow),
-    Refused { number: u64, place: u64 },
-}
-
-#[derive(Clone, Copy)]
-pub enum SceneAnswer {
-    Given(SceneRow),
-    Refused { number: u64, place: u64 },
-}
-
-// What an index call answers (document 02, R-7): the index with its two parts, or a refusal.
-#[derive(Clone, Copy)]
-pub enum IndexAnswer {
-    Given(Index),
-    Refused { number: u64, place: u64 },
-}
-
-// What a survey answers: the identifier with most good packets and how many it has, or a refusal (document 02, R-4).
-#[derive(Clone, Copy)]
-pub enum SurveyAnswer {
-    Most { identifier: u64, count: u64 },
-    Refused { number: u64, place: u64 },
+pub struct Most {
+    pub identifier: u64,
+    pub count: u64,
 }
 
 // A loss that spreads over units (document 02, R-8) is either a key-frame loss or a plain loss, each with its amount.
@@ -120,16 +88,16 @@ pub enum Loss {
     Plain(f64),
 }
 
-// What reading a shelf answers (R-13): how many records it holds and how many cells they lost, or a refusal.
+// What a shelf holds (R-13): how many records, and how many cells they lost.
 #[derive(Clone, Copy)]
-pub enum ShelfAnswer {
-    Given { records: usize, lost: u64 },
-    Refused { number: u64, place: u64 },
+pub struct ShelfTotals {
+    pub records: usize,
+    pub lost: u64,
 }
 
-// Where a record starts and ends in its shelf, or a refusal.
+// Where a record starts and ends in its shelf.
 #[derive(Clone, Copy)]
-pub enum PartAnswer {
-    Given { start: usize, end: usize },
-    Refused { number: u64, place: u64 },
+pub struct Part {
+    pub start: usize,
+    pub end: usize,
 }

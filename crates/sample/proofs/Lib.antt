@@ -1,3 +1,4 @@
 pub mod Lists
 pub mod Opened
+pub mod Feeds
 pub mod ReadBack

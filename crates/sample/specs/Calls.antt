@@ -3,9 +3,8 @@
 -- getting the state that the call before it left.
 use Rattle.std.specs.Prelude.{ℕ, ◌+◌, ◌^◌, ◌≤◌, ◌<◌, ◌≡◌, List, [], ◌∷◌, ◌++◌, get_or}
 use Rattle.rules.specs.declared.Opening.{Opening}
-use Rattle.rules.specs.declared.Answer.{Answer}
+use Rattle.rules.specs.Refusals.{Answer, none}
 use Rattle.rules.specs.Opening.{open_answer}
-use Rattle.rules.specs.Refusals.{none}
 use Rattle.rules.specs.Pictures.{picture_count, luma_fault}
 use Rattle.rules.specs.Histograms.{histograms}
 use Rattle.rules.specs.Seal.{reduced}
@@ -25,14 +24,14 @@ use Rattle.sample.specs.Contract.{OpenPost}
 -- one call on a state, which leaves another: no more and no less than the function's own contract. A feed changes its
 -- own side alone, a question nothing
 pub data Ran : State → Call → Outcome → State → Type 0 where
-  feeds_capture : {side side' : Arrays} {luma sums bins picture piece : List ℕ} {a : Answer} →
+  feeds_capture : {side side' : Arrays} {luma sums bins picture piece : List ℕ} {a : Answer ℕ} →
       side-capture.FeedPost side piece a side' →
       Ran
       (record { capture = side; luma = luma; sums = sums; bins = bins; picture = picture })
       (feed_capture piece)
       (fed a)
       (record { capture = side'; luma = luma; sums = sums; bins = bins; picture = picture })
-  feeds_luma : {side : Arrays} {luma sums bins picture luma' sums' bins' picture' piece : List ℕ} {a : Answer} →
+  feeds_luma : {side : Arrays} {luma sums bins picture luma' sums' bins' picture' piece : List ℕ} {a : Answer ℕ} →
       side-luma.FeedPost luma sums bins picture piece a luma' sums' bins' picture' →
       Ran
       (record { capture = side; luma = luma; sums = sums; bins = bins; picture = picture })
@@ -64,21 +63,21 @@ pub record InHistograms (o : Opening) (luma : List ℕ) (st : State) : Type 0 wh
 
 -- THE STATEMENT: the opening's answer; every answer and every reply of the list; and the histograms of every whole
 -- picture
-pub record AsTheRulesSay (o : Opening) (a : Answer) (cs : List Call) (os : List Outcome) (end : State) : Type 0 where
+pub record AsTheRulesSay (o : Opening) (a : Answer ℕ) (cs : List Call) (os : List Outcome) (end : State) : Type 0 where
   pub opening : a ≡ open_answer o
   pub outcomes : os ≡ expected o [] [] cs
   pub counted : InHistograms o (luma_fed cs) end
 
 abbrev pub EveryList : Type 0
 EveryList =
-    (o : Opening) (a : Answer) (st : State) (cs : List Call) (os : List Outcome) (end : State) → OpenPost o a st →
+    (o : Opening) (a : Answer ℕ) (st : State) (cs : List Call) (os : List Outcome) (end : State) → OpenPost o a st →
     Runs st cs os end → AsTheRulesSay o a cs os end
 
 -- and so a question at the end of two lists that feed equal joined strings after like openings comes to the same,
 -- whatever their pieces, questions and order
 abbrev pub RepliesAlike : Type 0
 RepliesAlike =
-    (o : Opening) (a a' : Answer) (st st' end end' : State) (cs cs' : List Call) (os os' : List Outcome)
+    (o : Opening) (a a' : Answer ℕ) (st st' end end' : State) (cs cs' : List Call) (os os' : List Outcome)
     (s s' : Outcome) (q : Question) →
     OpenPost o a st → OpenPost o a' st' → capture_fed cs ≡ capture_fed cs' → luma_fed cs ≡ luma_fed cs' →
     Runs st (cs ++ ask q ∷ []) (os ++ s ∷ []) end → Runs st' (cs' ++ ask q ∷ []) (os' ++ s' ∷ []) end' → s ≡ s'

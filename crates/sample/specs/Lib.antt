@@ -1,3 +1,4 @@
 pub mod Contract
+pub mod Owned
 pub mod Calls
 pub mod ReadBack

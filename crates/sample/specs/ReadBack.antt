@@ -1,13 +1,9 @@
 -- Demand 2, as one statement: what a seal left in its buffer, read, gives the figures of the rule.
-use Rattle.std.specs.Prelude.{ℕ, ◌<◌, ◌≡◌, List, [], ◌∷◌, ◌++◌, length, take, get_or}
+use Rattle.std.specs.Prelude.{ℕ, ◌<◌, ◌≡◌, List, [], ◌∷◌, ◌++◌, length, take, get_or, Ok}
 use Rattle.rules.specs.declared.Opening.{Opening}
-use Rattle.rules.specs.declared.Answer.{Answer}
-use Rattle.rules.specs.declared.Answer.TheVariants.{Done}
+use Rattle.rules.specs.Refusals.{Answer}
 use Rattle.rules.specs.declared.UnitRow.{UnitRow}
 use Rattle.rules.specs.declared.SceneRow.{SceneRow}
-use Rattle.rules.specs.declared.HeaderAnswer.TheVariants as of-header
-use Rattle.rules.specs.declared.UnitAnswer.TheVariants as of-unit
-use Rattle.rules.specs.declared.SceneAnswer.TheVariants as of-scene
 use Rattle.rules.specs.Bytes.{Bytes}
 use Rattle.rules.specs.Capture.{units}
 use Rattle.rules.specs.Reading.{header_answer, unit_answer, scene_answer}
@@ -19,16 +15,16 @@ use Rattle.sample.specs.Calls.{Runs}
 
 -- r reads as the figures of an opening and of the joined bytes of the two sides
 pub record ReadsAs (o : Opening) (capture luma r : List ℕ) : Type 0 where
-  pub header : header_answer r ≡ of-header.Given (rule.header o capture luma)
+  pub header : header_answer r ≡ Ok (rule.header o capture luma)
   pub unit : (j : ℕ) (z : UnitRow) → j < length (units o capture) →
-      unit_answer r j ≡ of-unit.Given (get_or (units o capture) j z)
+      unit_answer r j ≡ Ok (get_or (units o capture) j z)
   pub scene : (j : ℕ) (z : SceneRow) → j < length (rule.scenes o luma) →
-      scene_answer r j ≡ of-scene.Given (get_or (rule.scenes o luma) j z)
+      scene_answer r j ≡ Ok (get_or (rule.scenes o luma) j z)
 
 -- THE STATEMENT: after any list of calls, a seal that is done answers n, and the first n bytes of its buffer read so
 abbrev pub SealReadsBack : Type 0
 SealReadsBack =
-    (o : Opening) (a : Answer) (st end : State) (cs : List Call) (os : List Outcome) (before after : List ℕ) (n : ℕ) →
+    (o : Opening) (a : Answer ℕ) (st end : State) (cs : List Call) (os : List Outcome) (before after : List ℕ) (n : ℕ) →
     OpenPost o a st → Bytes (capture_fed cs) → Bytes (luma_fed cs) →
-    Runs st (cs ++ ask (seal before) ∷ []) (os ++ replied (sealed_into (Done n) after) ∷ []) end →
+    Runs st (cs ++ ask (seal before) ∷ []) (os ++ replied (sealed_into (Ok n) after) ∷ []) end →
     ReadsAs o (capture_fed cs) (luma_fed cs) (take n after)

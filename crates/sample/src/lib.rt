@@ -9,14 +9,17 @@ ghost use Rattle.capture.specs.Contract as side-capture;
 ghost use Rattle.luma.specs.Contract as side-luma;
 ghost use Rattle.sample.specs.Contract.{OpenPost};
 
+mod owned;
+
 use capture::Numbers;
 use capture_units::Table;
 use capture_walk::{Collected, WalkWords};
-use rules::{Answer, Opening};
+pub use owned::Sample;
+use rules::{Opening, Refusal};
 pub use sample_questions::{index, repeats};
 pub use sample_seal::seal;
 
-// Opens a sample, and answers Done with 0, or refusal 1, 2, 3 or 20, which all calls after it repeat.
+// Opens a sample, and answers 0, or refusal 1, 2, 3 or 20, which all calls after it repeat.
 pub fn open(
     walk: &mut WalkWords,
     kept: &mut Collected,
@@ -27,7 +30,7 @@ pub fn open(
     bins: &mut luma::Bins,
     picture: &mut luma::Picture,
     o: Opening,
-) -> Answer
+) -> Result<u64, Refusal>
     ensures { OpenPost o result (sample_of
         (arrays_of walk.new kept.new numbers.new table.new)
         luma.new sums.new bins.new picture.new) }
@@ -52,7 +55,7 @@ pub fn feed_capture(
     numbers: &mut Numbers,
     table: &mut Table,
     piece: &[u8],
-) -> Answer
+) -> Result<u64, Refusal>
     ensures { side-capture.FeedPost
         (arrays_of walk.old kept.old numbers.old table.old)
         piece.now result
@@ -68,7 +71,7 @@ pub fn feed_luma(
     bins: &mut luma::Bins,
     picture: &mut luma::Picture,
     piece: &[u8],
-) -> Answer
+) -> Result<u64, Refusal>
     ensures { side-luma.FeedPost luma.old sums.old bins.old
         picture.old piece.now result luma.new sums.new bins.new
         picture.new }

@@ -7,15 +7,15 @@ use mathlib.Core.Bool.{Bool, true, false, ◌&&◌}
 use lib.ListN.{get_or}
 use lib.Dec.{leb}
 use Rattle.rules.specs.declared.Opening.{Opening}
-use Rattle.rules.specs.declared.Answer.{Answer}
-use Rattle.rules.specs.declared.Answer.TheVariants.{Done, Refused}
-use Rattle.rules.specs.Refusals.{none, fault, unless, listed}
+use Rattle.std.specs.Prelude.{Err}
+use Rattle.rules.specs.Refusals.{Answer, none, fault, unless, listed}
 use Rattle.rules.specs.Opening.{opening_fault}
 use Rattle.rules.specs.Pictures.{picture_count}
 use Rattle.rules.specs.Seal.{reduced}
 use Rattle.rules.specs.Passage.{passage_fault, repeats_answer}
 use Rattle.rules.specs.Calls.{counted}
 use Rattle.rules.proofs.Laws.Listed.{listed_in}
+use Rattle.rules.proofs.Laws.Answers.{ok-err}
 use Rattle.rules.proofs.Laws.Passage.{opening-first, repeats-numbered}
 use Rattle.figures.specs.Opening.{OpeningFault}
 use Rattle.luma_laws.proofs.Full.{full-count}
@@ -71,7 +71,7 @@ opening-none : (o : Opening) (number : ℕ) → OpeningFault o number → number
 opening-none o zero w h = w.shown
 opening-none o (suc k) w h = absurd (omega arith)
 
-module _ (luma : List ℕ) (a b : ℕ) (r : Answer) (p : Opening) (pe : p ≡ opening_in luma) (number : ℕ)
+module _ (luma : List ℕ) (a b : ℕ) (r : Answer ℕ) (p : Opening) (pe : p ≡ opening_in luma) (number : ℕ)
     (w : OpeningFault p number) where
   -- the opening in the words is the one that a state stands for
   opened : (st : State) (o : Opening) (fed_capture fed_luma : List ℕ) → st.luma ≡ luma →
@@ -80,7 +80,7 @@ module _ (luma : List ℕ) (a b : ℕ) (r : Answer) (p : Opening) (pe : p ≡ op
   opened st o fc fl x m =
       subst (λ (q : Opening). OpeningFault q number) (pe ∙ ap opening_in (sym x) ∙ m.drawn.opening) w
 
-  pub post-opening : r ≡ Refused (listed number) 0 → (number ≡ 0 → ⊥) → RepeatsPost luma a b r
+  pub post-opening : r ≡ Err (record { number = listed number; place = 0 }) → (number ≡ 0 → ⊥) → RepeatsPost luma a b r
   unfolding repeats_answer
   post-opening e h =
       record {
@@ -92,7 +92,7 @@ module _ (luma : List ℕ) (a b : ℕ) (r : Answer) (p : Opening) (pe : p ≡ op
                   let some = opening-some o number (opened st o fc fl (ap (λ (v : Words). v.luma) x) m) h in
                   let g = opening-first o fl a b number 0 some in
                   let i : listed number ≡ number = rw g at (repeats-numbered o fl a b) in
-                  rw g (ap counted (e ∙ ap (λ (n : ℕ). Refused n 0) i));
+                  rw g (ap counted (e ∙ ap (λ (n : ℕ). Err (record { number = n; place = 0 })) i));
               refusals =
                   record {
                     kept = λ n q y. refl;
@@ -107,14 +107,11 @@ module _ (luma : List ℕ) (a b : ℕ) (r : Answer) (p : Opening) (pe : p ≡ op
             let first = opening-first p [] a b number 0 some in
             let i : listed number ≡ number = rw first at (repeats-numbered p [] a b) in
             rw (e, ← pe, some) (ap (λ (n : ℕ). fault n 0) i);
-        most = λ m y. absurd (never m (sym e ∙ y));
+        most = λ m y. absurd (ok-err (sym y ∙ e));
       }
     where
       same : (k q n s : ℕ) → fault k q ≡ fault n s → k ≡ n
       same k q n s y = cc
-
-      never : (m : ℕ) → Refused (listed number) 0 ≡ Done m → ⊥
-      never m y = let z : ◌≡◌ {A = ℕ} 0 1 = cc in omega arith
 
   pub post-counted : (l : Totals) → l ≡ totals_in luma → number ≡ 0 → AnswerPost luma l.pictures a b r →
       RepeatsPost luma a b r

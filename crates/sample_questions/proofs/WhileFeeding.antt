@@ -8,12 +8,11 @@ use lib.ListN.{length}
 use borrow.Author.Tests.{eq-eqb, ne_eqb}
 use Rattle.rules.specs.declared.Opening.{Opening}
 use Rattle.rules.specs.declared.Index.{Index}
-use Rattle.rules.specs.declared.IndexAnswer.{IndexAnswer}
-use Rattle.rules.specs.declared.IndexAnswer.TheVariants.{Given, Refused}
+use Rattle.std.specs.Prelude.{Ok}
+use Rattle.rules.specs.Refusals.{Answer, refused, none, fault, ◌or_else◌, listed}
 use Rattle.rules.specs.declared.UnitRow.{UnitRow}
 use Rattle.rules.specs.Bytes.{pick, total, only}
 use Rattle.rules.specs.Editions.{heeds_splices, knows_damage}
-use Rattle.rules.specs.Refusals.{none, fault, ◌or_else◌, listed}
 use Rattle.rules.specs.Opening.{opening_fault}
 use Rattle.rules.specs.Packets.{Packet}
 use Rattle.rules.specs.Units.{Arrival, set_apart, first_arrival, arrivals_after, arrivals, groups, cells_of, unit_of}
@@ -25,6 +24,7 @@ use Rattle.rules.specs.Seal.{no_packet, no_picture}
 use Rattle.rules.specs.WhileFeeding.{index_fault, index_answer}
 use Rattle.rules.specs.Calls.{indexed}
 use Rattle.rules.proofs.Laws.Listed.{listed_in}
+use Rattle.rules.proofs.Laws.Answers.{ok-same, ok-err}
 use Rattle.capture_laws.proofs.UnitsMore.{all_packets, groups-end_to_end, rows-packets}
 use Rattle.rules.proofs.Laws.WhileFeeding.{index-numbered}
 use Rattle.index.specs.Counts.{NoNan, IndexFrom}
@@ -202,7 +202,7 @@ ways st o fc fl m =
 
 -- the numbers and the luma words, what they total to, the answer
 module _ (numbers luma : List ℕ) (t : capture-totals.Totals) (u : luma-totals.Totals)
-    (te : t ≡ of-capture.totals_in numbers) (ue : u ≡ of-luma.totals_in luma) (r : IndexAnswer) where
+    (te : t ≡ of-capture.totals_in numbers) (ue : u ≡ of-luma.totals_in luma) (r : Answer Index) where
   -- of every state that has them
   known-ways : (st : State) (o : Opening) (fed_capture fed_luma : List ℕ) → st.capture.numbers ≡ numbers →
       st.luma ≡ luma → Means st o fed_capture fed_luma →
@@ -218,7 +218,7 @@ module _ (numbers luma : List ℕ) (t : capture-totals.Totals) (u : luma-totals.
       e ∙ ap (λ (t : capture-totals.Totals). index_by t u) te
       ∙ ap (λ (u : luma-totals.Totals). index_by (of-capture.totals_in numbers) u) ue
 
-  refused_post : (k p : ℕ) → r ≡ Refused (listed k) p → index_by t u ≡ Refused (listed k) p →
+  refused_post : (k p : ℕ) → r ≡ refused (listed k) p → index_by t u ≡ refused (listed k) p →
       ((o : Opening) (fed_capture fed_luma : List ℕ) → Ways o fed_capture fed_luma t u →
       index_fault o fed_capture fed_luma ≡ fault k p) →
       IndexPost numbers luma r
@@ -235,7 +235,7 @@ module _ (numbers luma : List ℕ) (t : capture-totals.Totals) (u : luma-totals.
                   let y = ap (λ (v : Words). v.luma) w in
                   let g = f o fc fl (known-ways st o fc fl x y m) in
                   let i : listed k ≡ k = rw g at (index-numbered o fc fl) in
-                  rw g (ap indexed (e ∙ ap (λ (n : ℕ). Refused n p) i));
+                  rw g (ap indexed (e ∙ ap (λ (n : ℕ). refused n p) i));
               refusals =
                   record {
                     kept = λ n q y. refl;
@@ -244,32 +244,29 @@ module _ (numbers luma : List ℕ) (t : capture-totals.Totals) (u : luma-totals.
                         let i : listed k ≡ n = number (listed k) p n q (rw e at y) in rw i at (listed_in k);
                   };
             };
-        given = λ i y. absurd (never i (sym e ∙ y));
+        given = λ i y. absurd (ok-err (sym y ∙ e));
       }
     where
       number : (k p n q : ℕ) → fault k p ≡ fault n q → k ≡ n
       number k p n q e = cc
 
-      never : (i : Index) → Refused (listed k) p ≡ Given i → ⊥
-      never i y = let z : ◌≡◌ {A = ℕ} 0 1 = cc in omega arith
-
-  pub post-capture : r ≡ Refused (listed t.number) t.place → (t.number ≡ 0 → ⊥) → IndexPost numbers luma r
+  pub post-capture : r ≡ refused (listed t.number) t.place → (t.number ≡ 0 → ⊥) → IndexPost numbers luma r
   post-capture e h = refused_post t.number t.place e (rw (ne_eqb t.number 0 h)) (λ o fc fl v. v.by_capture h)
 
   module _ (h₁ : t.number ≡ 0) where
-    pub post-luma : r ≡ Refused (listed u.number) u.place → (u.number ≡ 0 → ⊥) → IndexPost numbers luma r
+    pub post-luma : r ≡ refused (listed u.number) u.place → (u.number ≡ 0 → ⊥) → IndexPost numbers luma r
     post-luma e h =
         refused_post u.number u.place e (rw (eq-eqb t.number 0 h₁, ne_eqb u.number 0 h))
         (λ o fc fl v. v.by_luma h₁ h)
 
     module _ (h₂ : u.number ≡ 0) where
-      pub post-cells : r ≡ Refused 12 0 → t.packets ≡ 0 → IndexPost numbers luma r
+      pub post-cells : r ≡ refused 12 0 → t.packets ≡ 0 → IndexPost numbers luma r
       post-cells e h =
           refused_post 12 0 e (rw (eq-eqb t.number 0 h₁, eq-eqb u.number 0 h₂, eq-eqb t.packets 0 h))
           (λ o fc fl v. v.by_cells h₁ h₂ h)
 
       module _ (h₃ : t.packets ≡ 0 → ⊥) where
-        pub post-pictures : r ≡ Refused 14 0 → u.pictures ≡ 0 → IndexPost numbers luma r
+        pub post-pictures : r ≡ refused 14 0 → u.pictures ≡ 0 → IndexPost numbers luma r
         post-pictures e h =
             refused_post 14 0 e
             (rw (eq-eqb t.number 0 h₁, eq-eqb u.number 0 h₂, ne_eqb t.packets 0 h₃, eq-eqb u.pictures 0 h))
@@ -277,14 +274,14 @@ module _ (numbers luma : List ℕ) (t : capture-totals.Totals) (u : luma-totals.
 
         pub post-given : (u.pictures ≡ 0 → ⊥) → (i : Index) →
             IndexFrom (u.fresh % 2 ^ 32) (u.pictures % 2 ^ 32) (t.packets % 2 ^ 32) (t.lost % 2 ^ 32) i →
-            r ≡ Given i → IndexPost numbers luma r
+            r ≡ Ok i → IndexPost numbers luma r
         unfolding index_answer
         post-given h i x e =
             record {
               reads =
                   let a = eq-eqb t.number 0 h₁ in
                   let b = eq-eqb u.number 0 h₂ in
-                  read (e ∙ ap Given x.is ∙ sym (rw (a, b, ne_eqb t.packets 0 h₃, ne_eqb u.pictures 0 h)));
+                  read (e ∙ ap Ok x.is ∙ sym (rw (a, b, ne_eqb t.packets 0 h₃, ne_eqb u.pictures 0 h)));
               asked =
                   λ walk kept table.
                   record {
@@ -293,18 +290,15 @@ module _ (numbers luma : List ℕ) (t : capture-totals.Totals) (u : luma-totals.
                         let y = ap (λ (v : Words). v.capture.numbers) w in
                         let z = ap (λ (v : Words). v.luma) w in
                         let v = known-ways st o fc fl y z m in
-                        rw (v.free_way h₁ h₂ h₃ h) (ap indexed (e ∙ ap Given (v.is_index h₁ h₂ h₃ h i x)));
+                        rw (v.free_way h₁ h₂ h₃ h) (ap indexed (e ∙ ap Ok (v.is_index h₁ h₂ h₃ h i x)));
                     refusals =
                         record {
                           kept = λ n q y. refl;
                           listed = λ n q y. absurd (never n q (rw e at y));
                         };
                   };
-              given = λ j y. subst NoNan (one i j (sym e ∙ y)) x.numbers;
+              given = λ j y. subst NoNan (ok-same (sym e ∙ y)) x.numbers;
             }
           where
             never : (n q : ℕ) → none ≡ fault n q → ⊥
             never n q y = let z : ◌≡◌ {A = ℕ} 0 1 = cc in omega arith
-
-            one : (i j : Index) → Given i ≡ Given j → i ≡ j
-            one i j y = cc

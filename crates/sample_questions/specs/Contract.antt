@@ -15,8 +15,7 @@ pub record Leaves (q : Question) (r : Reply) : Type 0 where
   pub listed : (k p : ℕ) → refusal_in r ≡ fault k p → InTable k
 
 -- what every question promises: the words that it looks at, the question, the reply. Words that stand for an opening
--- and for joined strings get the rule's
--- reply; `refusals` is promised of any words, somebody else's too
+-- and for joined strings get the rule's reply; `refusals` is promised of any words, somebody else's too
 pub record Asked (w : Words) (q : Question) (r : Reply) : Type 0 where
   pub rule : (st : State) (o : Opening) (fed_capture fed_luma : List ℕ) → words_of st ≡ w → Means st o fed_capture
       fed_luma →

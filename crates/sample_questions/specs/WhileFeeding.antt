@@ -1,11 +1,8 @@
 -- What `index` promises (document 02, R-7).
-use Rattle.std.specs.Prelude.{ℕ, ◌%◌, ◌^◌, ◌≡◌, List, eqb}
+use Rattle.std.specs.Prelude.{ℕ, ◌%◌, ◌^◌, ◌≡◌, List, eqb, Ok}
 use Rattle.rules.specs.declared.Index.{Index}
-use Rattle.rules.specs.declared.IndexAnswer.{IndexAnswer}
-use Rattle.rules.specs.declared.IndexAnswer.TheVariants.{Given}
+use Rattle.rules.specs.Refusals.{Answer, answer, Fault, none, fault, ◌or_else◌, listed}
 use Rattle.rules.specs.Bytes.{pick}
-use Rattle.rules.specs.Refusals.{Fault, none, fault, ◌or_else◌, listed}
-use Rattle.rules.specs.WhileFeeding.{or_index}
 use Rattle.rules.specs.Calls.{index, indexed}
 use Rattle.index.specs.Counts.{NoNan, taken}
 use Rattle.capture.specs.declared.Totals as of-capture
@@ -23,9 +20,9 @@ abbrev pub none_of : ℕ → ℕ → Fault
 none_of k count = pick (eqb count 0) (fault k 0) none
 
 -- the answer from the totals and the refusals kept, and from nothing else: of any state, somebody else's too
-abbrev pub index_by : of-capture.Totals → of-luma.Totals → IndexAnswer
+abbrev pub index_by : of-capture.Totals → of-luma.Totals → Answer Index
 index_by c l =
-    or_index
+    answer
     (kept_as c.number c.place
     or_else kept_as l.number l.place
     or_else none_of 12 c.packets
@@ -33,7 +30,7 @@ index_by c l =
     (taken (l.fresh % 2 ^ 32) (l.pictures % 2 ^ 32) (c.packets % 2 ^ 32) (c.lost % 2 ^ 32))
 
 -- `index`: the capture side's numbers, the luma words, the answer
-pub record IndexPost (numbers luma : List ℕ) (r : IndexAnswer) : Type 0 where
+pub record IndexPost (numbers luma : List ℕ) (r : Answer Index) : Type 0 where
   -- it reads the totals and the refusals kept, and no other word
   pub reads : r ≡ index_by (side-capture.totals_in numbers) (side-luma.totals_in luma)
   -- whatever stands in the other arrays, it is the rule's reply
@@ -41,4 +38,4 @@ pub record IndexPost (numbers luma : List ℕ) (r : IndexAnswer) : Type 0 where
       Asked (record { capture = record { walk = walk; kept = kept; numbers = numbers; table = table }; luma = luma })
       index (indexed r)
   -- none of the three that it gives is a NaN, of any state
-  pub given : (i : Index) → r ≡ Given i → NoNan i
+  pub given : (i : Index) → r ≡ Ok i → NoNan i

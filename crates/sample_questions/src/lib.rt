@@ -3,23 +3,28 @@
 #![tactic(auto)]
 
 ghost use Rattle.std.specs.Prelude.{◌%◌, ◌^◌, ◌≡◌};
-ghost use Rattle.rules.specs.Refusals.{listed};
+ghost use Rattle.rules.specs.Refusals.{answer};
+ghost use Rattle.sample_questions.specs.WhileFeeding.{kept_as};
 ghost use Rattle.index.specs.Counts.{IndexFrom};
 
 mod passage;
 mod while_feeding;
 
 pub use passage::repeats;
-use rules::{Answer, Index};
+use rules::{Index, Refusal};
 pub use while_feeding::index;
 
-pub fn refused(number: u64, place: u64) -> Answer
-    ensures { result ≡ Answer.Refused (listed number) place }
+// The refusal that is kept on a side, with a number of the table; number 0 says that none is.
+pub fn standing(number: u64, place: u64) -> Result<(), Refusal>
+    ensures { result ≡ answer (kept_as number place) tt }
 {
-    Answer::Refused {
-        number: figures::listed_number(number),
-        place: place,
+    if number != 0 {
+        return Err(Refusal {
+            number: figures::listed_number(number),
+            place,
+        });
     }
+    Ok(())
 }
 
 // The index of what was fed, from what the two sides count: a seal and an index call take it here. Zeros of counts
@@ -27,9 +32,10 @@ pub fn refused(number: u64, place: u64) -> Answer
 pub fn index_in(unrepeated: u64, pictures: u64, packets: u64, lost: u64) -> Index
     ensures { IndexFrom (unrepeated % 2 ^ 32) (pictures % 2 ^ 32) (packets % 2 ^ 32) (lost % 2 ^ 32) result }
 {
-    let u = figures::low(unrepeated);
-    let n = figures::low(pictures);
-    let p = figures::low(packets);
-    let l = figures::low(lost);
-    index::index_from(u, n, p, l)
+    index::index_from(
+        figures::low(unrepeated),
+        figures::low(pictures),
+        figures::low(packets),
+        figures::low(lost),
+    )
 }

@@ -7,16 +7,14 @@ use mathlib.Core.Bool.{true, false}
 use lib.ListN.{length}
 use borrow.Author.Tests.{eq-eqb, ne_eqb}
 use Rattle.rules.specs.declared.Opening.{Opening}
-use Rattle.rules.specs.declared.Answer.{Answer}
-use Rattle.rules.specs.declared.Answer.TheVariants.{Done, Refused}
+use Rattle.std.specs.Prelude.{Ok}
+use Rattle.rules.specs.Refusals.{Answer, refused, none, fault, ◌or_else◌, listed}
 use Rattle.rules.specs.declared.UnitRow.{UnitRow}
-use Rattle.rules.specs.Refusals.{none, fault, ◌or_else◌, listed}
 use Rattle.rules.specs.Opening.{opening_fault}
 use Rattle.rules.specs.Capture.{units, capture_fault}
 use Rattle.rules.specs.Pictures.{picture_count, luma_fault}
 use Rattle.rules.specs.Seal.{capture_unfinished, no_packet, luma_unfinished, no_picture, no_room, seal_fault}
-use Rattle.rules.specs.Seal.{seal_answer}
-use Rattle.rules.specs.Seal.{sealed_length, sealed_buffer}
+use Rattle.rules.specs.Seal.{seal_answer, sealed_length, sealed_buffer}
 use Rattle.rules.specs.Calls.{seal, sealed_into, answer_to}
 use Rattle.rules.proofs.Laws.Listed.{listed_in, seal as in-the-table}
 use Rattle.capture.specs.declared.Summary.{Summary}
@@ -124,7 +122,7 @@ module _ (st : State) (o : Opening) (fed_capture fed_luma : List ℕ) (m : Means
 -- ---- what a seal promises
 
 -- a refusal that writes nothing, and a seal that is done
-pub refused-leaves : (before : List ℕ) (a : Answer) (k p : ℕ) → a ≡ Refused (listed k) p → Leaves (seal before)
+pub refused-leaves : (before : List ℕ) (a : Answer ℕ) (k p : ℕ) → a ≡ refused (listed k) p → Leaves (seal before)
     (sealed_into a before)
 refused-leaves before a k p e =
     record {
@@ -135,7 +133,7 @@ refused-leaves before a k p e =
     number : (k p l q : ℕ) → fault k p ≡ fault l q → k ≡ l
     number k p l q e = cc
 
-pub done-leaves : (before after : List ℕ) (a : Answer) (n : ℕ) → a ≡ Done n →
+pub done-leaves : (before after : List ℕ) (a : Answer ℕ) (n : ℕ) → a ≡ Ok n →
     Leaves (seal before) (sealed_into a after)
 done-leaves before after a n e =
     record { kept = λ l q f. absurd (never l q (rw e at f)); listed = λ l q f. absurd (never l q (rw e at f)) }
@@ -143,7 +141,7 @@ done-leaves before after a n e =
     never : (l q : ℕ) → none ≡ fault l q → ⊥
     never l q f = let z : ◌≡◌ {A = ℕ} 0 1 = cc in omega arith
 
-refuse-post : (w : Words) (before : List ℕ) (a : Answer) (k p : ℕ) → a ≡ Refused (listed k) p →
+refuse-post : (w : Words) (before : List ℕ) (a : Answer ℕ) (k p : ℕ) → a ≡ refused (listed k) p →
     ((st : State) (o : Opening) (fed_capture fed_luma : List ℕ) → words_of st ≡ w → Means st o fed_capture fed_luma →
     seal_fault o fed_capture fed_luma (length before) ≡ fault k p) →
     SealPost w before a before
@@ -152,50 +150,50 @@ refuse-post w before a k p e f =
     record {
       rule =
           λ st o fc fl x m. let i : listed k ≡ k = rw (f st o fc fl x m) at (in-the-table o fc fl (length before)) in
-          rw (f st o fc fl x m) (same (e ∙ ap (λ (n : ℕ). Refused n p) i));
+          rw (f st o fc fl x m) (same (e ∙ ap (λ (n : ℕ). refused n p) i));
       refusals = refused-leaves before a k p e;
     }
   where
-    same : {b : Answer} → a ≡ b → sealed_into a before ≡ sealed_into b before
+    same : {b : Answer ℕ} → a ≡ b → sealed_into a before ≡ sealed_into b before
     same x = cc
 
 module _ (w : Words) (before : List ℕ) (c : Summary) (l : of-luma.Summary)
-    (cp : SumsUp w.capture.walk w.capture.numbers c) (lp : SummaryPost w.luma l) (a : Answer) where
+    (cp : SumsUp w.capture.walk w.capture.numbers c) (lp : SummaryPost w.luma l) (a : Answer ℕ) where
   cp-of : (v : Words) → v ≡ w → SumsUp v.capture.walk v.capture.numbers c
   cp-of v x = subst⁻¹ (λ (v : Words). SumsUp v.capture.walk v.capture.numbers c) x cp
 
   lp-of : (v : Words) → v ≡ w → SummaryPost v.luma l
   lp-of v x = subst⁻¹ (λ (v : Words). SummaryPost v.luma l) x lp
 
-  pub post-capture : a ≡ Refused (listed c.number) c.place → (c.number ≡ 0 → ⊥) → SealPost w before a before
+  pub post-capture : a ≡ refused (listed c.number) c.place → (c.number ≡ 0 → ⊥) → SealPost w before a before
   post-capture e h =
       refuse-post w before a _ _ e
       (λ st o fc fl x m. of-capture st o fc fl m c l (cp-of (words_of st) x) (lp-of (words_of st) x)
       (length before) h)
 
   module _ (h₁ : c.number ≡ 0) where
-    pub post-luma : a ≡ Refused (listed l.status) l.place → (l.status ≡ 0 → ⊥) → SealPost w before a before
+    pub post-luma : a ≡ refused (listed l.status) l.place → (l.status ≡ 0 → ⊥) → SealPost w before a before
     post-luma e h =
         refuse-post w before a _ _ e
         (λ st o fc fl x m. of-luma-side st o fc fl m c l (cp-of (words_of st) x) (lp-of (words_of st) x) h₁
         (length before) h)
 
     module _ (h₂ : l.status ≡ 0) where
-      pub post-inside-capture : a ≡ Refused 11 c.fed → c.inside ≡ true → SealPost w before a before
+      pub post-inside-capture : a ≡ refused 11 c.fed → c.inside ≡ true → SealPost w before a before
       post-inside-capture e h =
           refuse-post w before a _ _ e
           (λ st o fc fl x m. inside-capture st o fc fl m c l (cp-of (words_of st) x) (lp-of (words_of st) x) h₁ h₂
           (length before) h)
 
       module _ (h₃ : c.inside ≡ false) where
-        pub post-no-packet : a ≡ Refused 12 0 → c.units ≡ 0 → SealPost w before a before
+        pub post-no-packet : a ≡ refused 12 0 → c.units ≡ 0 → SealPost w before a before
         post-no-packet e h =
             refuse-post w before a _ _ e
             (λ st o fc fl x m. no-packet st o fc fl m c l (cp-of (words_of st) x) (lp-of (words_of st) x) h₁ h₂ h₃
             (length before) h)
 
         module _ (h₄ : c.units ≡ 0 → ⊥) where
-          pub post-inside-luma : a ≡ Refused 13 l.fed → l.inside ≡ true → SealPost w before a before
+          pub post-inside-luma : a ≡ refused 13 l.fed → l.inside ≡ true → SealPost w before a before
           post-inside-luma e h =
               refuse-post w before a _ _ e
               (λ st o fc fl x m. inside-luma st o fc fl m c l (cp-of (words_of st) x)
@@ -203,7 +201,7 @@ module _ (w : Words) (before : List ℕ) (c : Summary) (l : of-luma.Summary)
               (length before) h)
 
           module _ (h₅ : l.inside ≡ false) where
-            pub post-no-picture : a ≡ Refused 14 0 → l.pictures ≡ 0 → SealPost w before a before
+            pub post-no-picture : a ≡ refused 14 0 → l.pictures ≡ 0 → SealPost w before a before
             post-no-picture e h =
                 refuse-post w before a _ _ e
                 (λ st o fc fl x m. no-picture st o fc fl m c l (cp-of (words_of st) x)

@@ -7,13 +7,12 @@ use mathlib.Core.Bool.{Bool}
 use lib.ListN.{length}
 use borrow.Author.Tests.{lt-ltb, le-ltb}
 use Rattle.rules.specs.declared.Opening.{Opening}
-use Rattle.rules.specs.declared.Answer.{Answer}
-use Rattle.rules.specs.declared.Answer.TheVariants.{Done, Refused}
+use Rattle.std.specs.Prelude.{Ok}
+use Rattle.rules.specs.Refusals.{Answer, refused, none, fault}
 use Rattle.rules.specs.declared.Header.{Header}
 use Rattle.rules.specs.declared.Index.{Index}
 use Rattle.rules.specs.declared.UnitRow.{UnitRow}
 use Rattle.rules.specs.declared.SceneRow.{SceneRow}
-use Rattle.rules.specs.Refusals.{none, fault}
 use Rattle.rules.specs.Editions.{rounds_to_nearest}
 use Rattle.rules.specs.Capture.{units}
 use Rattle.rules.specs.Pictures.{picture_count}
@@ -23,8 +22,8 @@ use Rattle.rules.specs.Changes.{repeats, changes}
 use Rattle.rules.specs.Scenes.{scenes_of}
 use Rattle.rules.specs.Index.{index_bits}
 use Rattle.rules.specs.Record.{record_length, record_bytes}
-use Rattle.rules.specs.Seal.{reduced, scenes_in, scenes, header, sealed, sealed_length}
-use Rattle.rules.specs.Seal.{over, no_room, seal_fault, seal_answer, sealed_buffer}
+use Rattle.rules.specs.Seal.{reduced, scenes_in, scenes, header, sealed, sealed_length, over, no_room, seal_fault}
+use Rattle.rules.specs.Seal.{seal_answer, sealed_buffer}
 use Rattle.rules.specs.Calls.{seal, sealed_into, answer_to}
 use Rattle.luma_laws.proofs.Sizes.{good}
 use Rattle.luma_laws.proofs.Scenes.{pictures-most}
@@ -42,7 +41,7 @@ use Rattle.sample_questions.specs.Contract.{IndexIn}
 use Rattle.sample_questions.proofs.Taken.{index-is-rule}
 use Rattle.sample_seal.specs.Contract.{header_by, Ready}
 
-both : {a b : Answer} {x y : List ℕ} → a ≡ b → x ≡ y → sealed_into a x ≡ sealed_into b y
+both : {a b : Answer ℕ} {x y : List ℕ} → a ≡ b → x ≡ y → sealed_into a x ≡ sealed_into b y
 both e f = cc
 
 -- every picture's cut score, repeat and change
@@ -101,14 +100,14 @@ module _ (table luma : List ℕ) (o : Opening) (fed_capture fed_luma : List ℕ)
     unfolding sealed_length record_length
     size_is = rw (r.figures.units, count-is)
 
-    pub too_short : (before : List ℕ) (a : Answer) → length before < 64 + 32 * (c.units + n) →
-        a ≡ Refused 15 (64 + 32 * (c.units + n)) →
+    pub too_short : (before : List ℕ) (a : Answer ℕ) → length before < 64 + 32 * (c.units + n) →
+        a ≡ refused 15 (64 + 32 * (c.units + n)) →
         sealed_into a before ≡ answer_to o fed_capture fed_luma (seal before)
     unfolding seal_answer sealed_buffer no_room
     too_short before a h e =
         let f : seal_fault o fed_capture fed_luma (length before) ≡ fault 15 (64 + 32 * (c.units + n)) =
         r.free (length before) ∙ rw (sym size_is, lt-ltb (length before) (64 + 32 * (c.units + n)) h) in
-        rw f (ap (λ (x : Answer). sealed_into x before) e)
+        rw f (ap (λ (x : Answer ℕ). sealed_into x before) e)
 
     -- ---- the header
 
@@ -134,9 +133,9 @@ module _ (table luma : List ℕ) (o : Opening) (fed_capture fed_luma : List ℕ)
         (sym units-are)
         ∙ ap (λ (xs : List SceneRow). over (record_bytes hd (units o fed_capture) xs) before) (sym scenes-are)
 
-    pub written-post : (before after : List ℕ) (h : Header) (i : Index) (a : Answer) → IndexIn c l i →
+    pub written-post : (before after : List ℕ) (h : Header) (i : Index) (a : Answer ℕ) → IndexIn c l i →
         h ≡ header_by o c pictures n (index_bits i) → RecordWritten table luma h before after →
-        64 + 32 * (c.units + n) ≤ length before → a ≡ Done (64 + 32 * (c.units + n)) →
+        64 + 32 * (c.units + n) ≤ length before → a ≡ Ok (64 + 32 * (c.units + n)) →
         sealed_into a after ≡ answer_to o fed_capture fed_luma (seal before)
     unfolding seal_answer sealed_buffer no_room sealed
     written-post before after h i a e g w room d =
@@ -145,4 +144,4 @@ module _ (table luma : List ℕ) (o : Opening) (fed_capture fed_luma : List ℕ)
         let x = header_is h i e g in
         let w' : RecordWritten table luma (header o fed_capture fed_luma) before after = rw x at w in
         let b = record_is before after w' in
-        rw f (both (d ∙ ap Done size_is) b)
+        rw f (both (d ∙ ap Ok size_is) b)

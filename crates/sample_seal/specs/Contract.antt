@@ -1,7 +1,7 @@
 -- What `seal` promises, in terms of the rules and of what the lent arrays stand for.
 use Rattle.std.specs.Prelude.{ℕ, ◌≤◌, ◌≡◌, List}
 use Rattle.rules.specs.declared.Opening.{Opening}
-use Rattle.rules.specs.declared.Answer.{Answer}
+use Rattle.rules.specs.Refusals.{Answer}
 use Rattle.rules.specs.declared.Header.{Header}
 use Rattle.rules.specs.Seal.{sealed_length, no_room, seal_fault}
 use Rattle.rules.specs.Calls.{seal, sealed_into, answer_to}
@@ -13,7 +13,7 @@ use Rattle.sample_questions.specs.State.{Words}
 use Rattle.sample_questions.specs.Contract.{Leaves, Asked}
 
 -- `seal`: the words, the buffer before, the answer, the buffer after
-abbrev pub SealPost : Words → List ℕ → Answer → List ℕ → Type 0
+abbrev pub SealPost : Words → List ℕ → Answer ℕ → List ℕ → Type 0
 SealPost w before a after = Asked w (seal before) (sealed_into a after)
 
 -- ---- of the functions within
@@ -46,7 +46,7 @@ pub record Ready (table luma : List ℕ) (o : Opening) (fed_capture fed_luma : L
   pub free : (n : ℕ) → seal_fault o fed_capture fed_luma n ≡ no_room n (sealed_length o fed_capture fed_luma)
 
 pub record WritePost (table luma : List ℕ) (o : Opening) (c : Summary) (l : of-luma.Summary)
-    (before : List ℕ) (a : Answer)
+    (before : List ℕ) (a : Answer ℕ)
     (after : List ℕ) : Type 0 where
   pub rule : (fed_capture fed_luma : List ℕ) → Ready table luma o fed_capture fed_luma c l →
       sealed_into a after ≡ answer_to o fed_capture fed_luma (seal before)

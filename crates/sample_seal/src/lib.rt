@@ -11,8 +11,8 @@ ghost use Rattle.sample_seal.specs.Contract.{SealPost, header_by, WritePost};
 use capture::{Numbers, Summary};
 use capture_units::Table;
 use capture_walk::{Collected, WalkWords};
-use rules::{Answer, Header, Index, Opening};
-use sample_questions::{index_in, refused};
+use rules::{Header, Index, Opening, Refusal};
+use sample_questions::{index_in, standing};
 
 // The header's figures, with so many pictures and scenes, and with the index's bits.
 fn header_of(o: Opening, c: Summary, pictures: u32, scenes: u32, i: Index) -> Header
@@ -22,12 +22,12 @@ fn header_of(o: Opening, c: Summary, pictures: u32, scenes: u32, i: Index) -> He
     Header {
         edition: o.edition,
         units: c.units,
-        scenes: scenes,
+        scenes,
         width: o.width,
         height: o.height,
         time: o.time,
         pid: o.pid,
-        pictures: pictures,
+        pictures,
         frames: c.frames,
         skipped: c.skipped,
         bad: c.bad,
@@ -44,29 +44,29 @@ fn write(
     o: Opening,
     c: Summary,
     l: luma::Summary,
-) -> Answer
+) -> Result<u64, Refusal>
     ensures { WritePost table.now luma.now o c l buffer.old result
         buffer.new }
 {
     if 750 < c.units {
-        return refused(12, 0);
+        return Err(Refusal::NO_PACKET);
     }
     if 750 < l.pictures {
-        return refused(14, 0);
+        return Err(Refusal::NO_PICTURE);
     }
     let n = l.pictures as usize;
     let scenes = luma_scenes::count(luma, n, o.time as u64);
     let size = 64 + 32 * (c.units as usize + scenes);
     if buffer.len() < size {
-        return refused(15, size as u64);
+        return Err(Refusal::no_room(size as u64));
     }
     let i = index_in(l.fresh, l.pictures, c.packets, c.lost);
     let h = header_of(o, c, n as u32, scenes as u32, i);
     sealing::write_record(buffer, table, luma, h);
-    Answer::Done(size as u64)
+    Ok(size as u64)
 }
 
-// Seals what was fed: the record goes into the buffer, and the answer is its length; or the buffer stands as it was,
+// Seals what was fed: the record goes into the buffer, and the answer is its length; or the buffer stays as it was,
 // and the answer is the refusal.
 pub fn seal(
     walk: &WalkWords,
@@ -75,7 +75,7 @@ pub fn seal(
     table: &Table,
     luma: &luma::Words,
     buffer: &mut [u8],
-) -> Answer
+) -> Result<u64, Refusal>
     ensures { SealPost
         (words_in (arrays_of walk.now kept.now numbers.now table.now)
         luma.now)
@@ -83,24 +83,19 @@ pub fn seal(
 {
     let c = capture::sum_up(walk, numbers);
     let l = luma::summarise(luma);
-    if c.number != 0 {
-        return refused(c.number, c.place);
-    }
-    if l.status != 0 {
-        return refused(l.status, l.place);
-    }
+    standing(c.number, c.place)?;
+    standing(l.status, l.place)?;
     if c.inside {
-        return refused(11, c.fed);
+        return Err(Refusal::capture_unfinished(c.fed));
     }
     if c.units == 0 {
-        return refused(12, 0);
+        return Err(Refusal::NO_PACKET);
     }
     if l.inside {
-        return refused(13, l.fed);
+        return Err(Refusal::luma_unfinished(l.fed));
     }
     if l.pictures == 0 {
-        return refused(14, 0);
+        return Err(Refusal::NO_PICTURE);
     }
-    let o = luma::opening_in(luma);
-    write(buffer, table, luma, o, c, l)
+    write(buffer, table, luma, luma::opening_in(luma), c, l)
 }

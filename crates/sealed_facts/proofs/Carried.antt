@@ -1,6 +1,5 @@
 -- What a capture holds: a frame carries at most 348 packets, since its U is a 16-bit number, and every frame and
--- every
--- packet of it has its bytes.
+-- every packet of it has its bytes.
 use Prim.Native.Nat.{ℕ, zero, suc, ◌+◌, ◌-◌, ◌*◌, ◌/◌, ◌%◌, ◌≤◌, ◌<◌}
 use native.Mathlib.Omega.{arith}
 use mathlib.Core.Path.{◌≡◌, refl, sym, ap, ◌∙◌}

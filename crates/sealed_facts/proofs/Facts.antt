@@ -24,7 +24,7 @@ use Rattle.capture_laws.proofs.UnitsMore.{all_packets, all_lost, all_damaged}
 use Rattle.luma_laws.proofs.Most.{none-has-more}
 use Rattle.record_laws.proofs.Record.{each_at, Figures, header_read, unit-read, scene-read}
 use Rattle.record_laws.proofs.Ranges.{Sealable, figures-fit, between, capture-most, unit-zeros}
-use Rattle.record_verify.specs.declared.Finding.TheVariants.{Holds}
+use Rattle.std.specs.Prelude.{Ok}
 use Rattle.record_verify.specs.Totals.{repeated_total, packets_total, lost_total, damaged_total, unrepeated_total}
 use Rattle.record_verify.specs.Totals.{index_of_rows}
 use Rattle.record_verify.specs.Marks.{Check, counted_in, header_checks, unit_checks, repeat_checks, sum_checks}
@@ -57,7 +57,7 @@ no_scene = record { first = 0; pictures = 0; repeated = 0; longest = 0; score = 
 abbrev Held : List Check → Type 0
 Held cs = All (λ (c : Check). c.holds ≡ true) cs
 
-all_hold : {cs : List Check} → Held cs → first_failing cs ≡ Holds
+all_hold : {cs : List Check} → Held cs → first_failing cs ≡ Ok tt
 unfolding first_failing
 all_hold empty = refl
 all_hold (and h hs) = rw (h, all_hold hs)

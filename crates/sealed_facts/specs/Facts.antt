@@ -1,6 +1,6 @@
 -- What every record that a seal leaves has, after every list of calls, under every edition, though no reader asks for
 -- it: the marks of `record_verify`, one by one, and that `verify` finds them all. The subject is the record's bytes r.
-use Rattle.std.specs.Prelude.{ℕ, ◌+◌, ◌-◌, ◌*◌, ◌≤◌, ◌<◌, ◌≡◌, false, List}
+use Rattle.std.specs.Prelude.{ℕ, ◌+◌, ◌-◌, ◌*◌, ◌≤◌, ◌<◌, ◌≡◌, false, List, Ok}
 use Rattle.rules.specs.declared.Opening.{Opening}
 use Rattle.rules.specs.declared.UnitRow.{UnitRow}
 use Rattle.rules.specs.declared.SceneRow.{SceneRow}
@@ -105,4 +105,5 @@ EverySealLongScenes =
 -- so `verify` says of every sealed record that it could have been sealed, with what its rows reach
 abbrev pub EverySealCouldBe : Type 0
 EverySealCouldBe =
-    (o : Opening) (capture luma r : List ℕ) → SealedBy o capture luma r → verdict_of r ≡ CouldBeSealed (reached_of r)
+    (o : Opening) (capture luma r : List ℕ) → SealedBy o capture luma r →
+    verdict_of r ≡ Ok (CouldBeSealed (reached_of r))

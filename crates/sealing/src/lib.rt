@@ -8,21 +8,19 @@ ghost use Rattle.sealing.specs.Contract.{UnitsWritten, ScenesWritten, RecordWrit
 use capture_units::Table;
 use rules::Header;
 
-// The rows of n units, behind the header.
+// The rows of n units, after the header.
 fn write_units(buffer: &mut [u8], table: &Table, n: usize)
     requires { scene_offset n ≤ length buffer.old }
     ensures { UnitsWritten table.now n buffer.old buffer.new }
 {
-    let mut j: usize = 0;
-    while j < n {
+    for j in 0..n {
         let at = 64 + 32 * j;
         let row = capture_units::row(table, j);
         record_writer::write_unit(buffer, at, row);
-        j += 1;
     }
 }
 
-// The rows of the first n scenes of the pictures, behind those of the units: each scene goes up to the next start.
+// The rows of the first n scenes of the pictures, after those of the units: each scene goes up to the next start.
 fn write_scenes(
     buffer: &mut [u8],
     luma: &luma_state::Words,
@@ -35,15 +33,13 @@ fn write_scenes(
     ensures { ScenesWritten luma.now pictures time units n buffer.old
         buffer.new }
 {
-    let mut start: usize = 0;
-    let mut j: usize = 0;
-    while j < n {
+    let mut start = 0;
+    for j in 0..n {
         let at = 64 + 32 * (units + j);
         let next = luma_scenes::next_start(luma, pictures, time, start);
         let row = luma_scenes::scene_row(luma, start, next);
         record_writer::write_scene(buffer, at, row);
         start = next;
-        j += 1;
     }
 }
 

@@ -2,19 +2,15 @@
 // standard input cannot be read, only standard error says so. No sheet has more than 17 pages.
 #![tactic(auto)]
 
-use rules::Answer;
 use std::io;
 
 fn print_sheet<P: Print>(rt: &P, bytes: &[u8]) -> io::Result<()> {
     let mut pages = [0u8; 103020];
     let mut text = [0u8; 200];
     match record_sheet::sheet(bytes, &mut pages) {
-        Answer::Done(n) => {
-            let end = n as usize;
-            rt.write_all(&pages[..end])
-        }
-        Answer::Refused { number, place: _ } => {
-            let n = record_text::refused_line(&mut text, number);
+        Ok(n) => rt.write_all(&pages[..n as usize]),
+        Err(refusal) => {
+            let n = record_text::refused_line(&mut text, refusal.number);
             rt.write_all(&text[..n])
         }
     }

@@ -10,6 +10,8 @@ use lib.ListN.{length, take, drop, get_or, length-append, length-drop, take-appe
 use lib.Seq.{take-suc, drop-cons, drop-drop, take_at, drop_at, length-take-le}
 use lib.Dec.{leb, eqb}
 use borrow.Author.Tests.{leb-true, eqb-true}
+use Rattle.std.specs.List.{sum}
+use Rattle.std.proofs.lemmas.List.Sums.{sum_by-cons}
 use Rattle.rules.specs.Bytes.{total, end_to_end, All, empty, and}
 use Rattle.rules.specs.Refusals.{Fault, none, fault, ◌or_else◌}
 use Rattle.rules.specs.Reading.{reading_fault}
@@ -19,6 +21,13 @@ use Rattle.shelf.proofs.Written.{joined_length, few_bytes, head-length}
 use Rattle.shelf_writer.specs.Writing.{cut_up, good_lengths, shelf_length}
 
 -- ---- lengths
+
+-- in one chain
+pub sum_of_lengths : (ls : List ℕ) → sum (map (λ l. l) ls) ≡ total ls
+unfolding total
+sum_of_lengths [] = refl
+sum_of_lengths (l ∷ ls) =
+    sum_by-cons (λ (x : ℕ). x) l (map (λ x. x) ls) ∙ ap (λ (x : ℕ). l + x) (sum_of_lengths ls)
 
 -- 32 bits each: 64 bits hold the sum of few
 pub total-most : (ls : List ℕ) → ((k : ℕ) → get_or ls k 0 < 2 ^ 32) → total ls ≤ length ls * 4294967295

@@ -4,16 +4,19 @@ use native.Mathlib.Omega.{arith}
 use native.Mathlib.Nat.{zero-add}
 use native.Mathlib.Numerals.{add-one}
 use mathlib.Core.Path.{◌≡◌, refl, sym, ap, ◌∙◌}
-use mathlib.Core.Bool.{true, false}
+use mathlib.Core.Bool.{Bool, true, false}
 use mathlib.Core.List.{List, [], ◌∷◌, ◌++◌, map, map-append, append-nil}
 use lib.ListN.{length, take, drop, get_or, length-append, drop_of_length-le}
 use lib.Seq.{take-suc, take_all, length-take-le}
 use lib.Dec.{eqb}
 use borrow.Author.Tests.{lt-ltb, le-ltb, lt-leb, le-leb}
-use Rattle.rules.specs.declared.Answer.{Answer}
-use Rattle.rules.specs.declared.Answer.TheVariants.{Done, Refused}
+use Rattle.std.specs.Prelude.{Ok, Err}
+use Rattle.std.specs.Result.{is_err}
+use Rattle.rules.specs.declared.refusals.Refusal.{Refusal}
+use Rattle.rules.proofs.Laws.Answers.{given-none, refused-fault}
+use Rattle.record_reader.specs.declared.RowCounts.{RowCounts}
+use Rattle.rules.specs.Refusals.{Answer, refused, Fault, none, fault, ◌or_else◌, answer}
 use Rattle.rules.specs.Bytes.{bytes_of, total, end_to_end}
-use Rattle.rules.specs.Refusals.{Fault, none, fault, ◌or_else◌, answer}
 use Rattle.rules.specs.Reading.{reading_fault}
 use Rattle.rules.specs.Seal.{no_room, over}
 use Rattle.rules.specs.Shelf.{head_length, refused_at, first_refused, offsets_from, head_bytes, shelf_of}
@@ -22,13 +25,10 @@ use Rattle.words.specs.Written.{written}
 use Rattle.words.proofs.Laws.{length-bytes_of}
 use Rattle.words.proofs.Behind.{next, over-written}
 use Rattle.record_text.proofs.Texts.{none_yet}
-use Rattle.record_reader.specs.declared.Opened.{Opened}
-use Rattle.record_reader.specs.declared.Opened.TheVariants as of-opened
 use Rattle.record_reader.specs.Opened.{opened_as}
-use Rattle.record_reader.proofs.Answers.{accepted, refused}
 use Rattle.shelf.proofs.Written.{offset-is, offsets-count, words-length}
-use Rattle.shelf_writer.specs.Writing.{cut_up, good_lengths, shelf_length, offset_bytes, writing_answer, writing_fault}
-use Rattle.shelf_writer.specs.Writing.{written_buffer}
+use Rattle.shelf_writer.specs.Writing.{cut_up, good_lengths, shelf_length, offset_bytes, writing_answer}
+use Rattle.shelf_writer.specs.Writing.{writing_fault, written_buffer}
 use Rattle.shelf_writer.proofs.Laws.{total-more, total-part, cut-next, cut-lengths, cut-joined}
 
 -- ---- lengths, one by one
@@ -36,9 +36,6 @@ use Rattle.shelf_writer.proofs.Laws.{total-more, total-part, cut-next, cut-lengt
 pub no-sum : (ls : List ℕ) → 0 ≡ total (take 0 ls)
 unfolding total
 no-sum ls = refl
-
-pub whole_sum : (ls : List ℕ) (j : ℕ) → length ls ≤ j → total (take j ls) ≡ total ls
-whole_sum ls j h = ap total (take_all j ls h)
 
 pub too_many : (ls : List ℕ) (n : ℕ) → 4096 < length ls → false ≡ good_lengths ls n
 unfolding good_lengths
@@ -58,25 +55,35 @@ module _ (s ls : List ℕ) (fits : total ls ≡ length s) (start j : ℕ) (h : j
   pub cut_inside : start ≡ total (take j ls) → start + get_or ls j 0 ≤ length s
   cut_inside e = omega (arith, total-more ls j h, total-part ls (j + 1))
 
+reads : {X : Type 0} (f : Fault) (x : X) → is_err (answer f x) ≡ false → f ≡ none
+reads none x e = refl
+reads (fault k p) x e = absurd (let z : ◌≡◌ {A = ℕ} 0 1 = cc in omega arith)
+
+refuses : {X : Type 0} (f : Fault) (x : X) (j : ℕ) → is_err (answer f x) ≡ true → refused_at f j ≡ fault 28 j
+refuses none x j e = absurd (let z : ◌≡◌ {A = ℕ} 0 1 = cc in omega arith)
+refuses (fault k p) x j e = refl
+
 module _ (s ls : List ℕ) (start j : ℕ) (h : j < length ls) (f : Fault)
-    (rest : f ≡ first_refused j (cut_up (drop start s) (drop j ls))) (l : ℕ) (is-l : l ≡ get_or ls j 0) (o : Opened)
-    (e : o ≡ opened_as (take (start + l - start) (drop start s))) where
+    (rest : f ≡ first_refused j (cut_up (drop start s) (drop j ls))) (l : ℕ) (is-l : l ≡ get_or ls j 0)
+    (o : Answer RowCounts) (e : o ≡ opened_as (take (start + l - start) (drop start s))) (b : Bool)
+    (b-is : b ≡ is_err o) where
   record-next : f ≡ (refused_at (reading_fault (take l (drop start s))) j or_else
       first_refused (j + 1) (cut_up (drop (start + l) s) (drop (j + 1) ls)))
   unfolding first_refused
   record-next = rest ∙ (ap (first_refused j) (cut-next s ls start j h) ∙ rw is-l)
 
-  opened : o ≡ opened_as (take l (drop start s))
+  opened : is_err (opened_as (take l (drop start s))) ≡ b
   opened =
       let size : start + l - start ≡ l = omega arith in
-      e ∙ ap (λ (k : ℕ). opened_as (take k (drop start s))) size
+      sym (b-is ∙ ap is_err e ∙ ap (λ (k : ℕ). is_err (opened_as (take k (drop start s)))) size)
 
-  pub cut-more : (u n : ℕ) → o ≡ of-opened.Accepted u n →
-      f ≡ first_refused (j + 1) (cut_up (drop (start + l) s) (drop (j + 1) ls))
-  cut-more u n d = record-next ∙ rw (accepted (take l (drop start s)) o opened u n d).fault
+  pub cut-more : b ≡ false → f ≡ first_refused (j + 1) (cut_up (drop (start + l) s) (drop (j + 1) ls))
+  unfolding opened_as
+  cut-more d = record-next ∙ rw (reads (reading_fault (take l (drop start s))) _ (opened ∙ d))
 
-  pub cut-stop : (k p : ℕ) → o ≡ of-opened.Refused k p → f ≡ fault 28 j
-  cut-stop k p d = record-next ∙ rw (refused (take l (drop start s)) o opened k p d)
+  pub cut-stop : b ≡ true → f ≡ fault 28 j
+  unfolding opened_as
+  cut-stop d = record-next ∙ rw (refuses (reading_fault (take l (drop start s))) _ j (opened ∙ d))
 
 pub cut-end : (s ls : List ℕ) (start j : ℕ) (f : Fault) → length ls ≤ j →
     f ≡ first_refused j (cut_up (drop start s) (drop j ls)) → f ≡ none
@@ -172,47 +179,36 @@ unfolding shelf_length
 size_is s ls e = omega arith
 
 module _ (s ls : List ℕ) (m : ℕ) where
-  pub not_good : good_lengths ls (length s) ≡ false → Refused 27 0 ≡ writing_answer s ls m
+  pub not_good : good_lengths ls (length s) ≡ false → refused 27 0 ≡ writing_answer s ls m
   unfolding writing_answer writing_fault
   not_good e = rw e
 
 -- of an answer a of reading the records
-module _ (s ls : List ℕ) (a : Answer) (e : a ≡ answer (first_refused 0 (cut_up s ls)) 0) where
-  pub all_read : (k : ℕ) → a ≡ Done k → first_refused 0 (cut_up s ls) ≡ none
-  all_read k d = go (first_refused 0 (cut_up s ls)) (sym e ∙ d)
-    where
-      go : (f : Fault) → answer f 0 ≡ Done k → f ≡ none
-      go none g = refl
-      go (fault i p) g = absurd (let z : ◌≡◌ {A = ℕ} 0 1 = cc in omega arith)
-
-  one-refused : (k p : ℕ) → a ≡ Refused k p → first_refused 0 (cut_up s ls) ≡ fault k p
-  one-refused k p d = go (first_refused 0 (cut_up s ls)) (sym e ∙ d)
-    where
-      go : (f : Fault) → answer f 0 ≡ Refused k p → f ≡ fault k p
-      go none g = absurd (let z : ◌≡◌ {A = ℕ} 0 1 = cc in omega arith)
-      go (fault i q) g = cc
+module _ (s ls : List ℕ) (a : Answer (Unit {0})) (e : a ≡ answer (first_refused 0 (cut_up s ls)) tt) where
+  pub all_read : a ≡ Ok tt → first_refused 0 (cut_up s ls) ≡ none
+  all_read d = given-none (first_refused 0 (cut_up s ls)) _ _ (sym e ∙ d)
 
   module _ (good : good_lengths ls (length s) ≡ true) (m : ℕ) where
-    pub record-refused : (k p : ℕ) → a ≡ Refused k p → Refused k p ≡ writing_answer s ls m
+    pub record-refused : (d : Refusal) → a ≡ Err d → Err d ≡ writing_answer s ls m
     unfolding writing_answer writing_fault
-    record-refused k p d = rw (good, one-refused k p d)
+    record-refused d h = rw (good, refused-fault (first_refused 0 (cut_up s ls)) _ d (sym e ∙ h))
 
-    module _ (k : ℕ) (d : a ≡ Done k) (size : ℕ) (is : size ≡ shelf_length ls) where
-      pub no_room_lem : m < size → Refused 15 size ≡ writing_answer s ls m
+    module _ (d : a ≡ Ok tt) (size : ℕ) (is : size ≡ shelf_length ls) where
+      pub no_room_lem : m < size → refused 15 size ≡ writing_answer s ls m
       unfolding writing_answer writing_fault no_room
-      no_room_lem h = rw (good, all_read k d, ← is, lt-ltb m size h)
+      no_room_lem h = rw (good, all_read d, ← is, lt-ltb m size h)
 
-      pub wrote : size ≤ m → Done size ≡ writing_answer s ls m
+      pub wrote : size ≤ m → Ok size ≡ writing_answer s ls m
       unfolding writing_answer writing_fault no_room
-      wrote h = rw (good, all_read k d, ← is, le-ltb m size h)
+      wrote h = rw (good, all_read d, ← is, le-ltb m size h)
 
 -- and the buffer
 module _ (s ls b : List ℕ) where
-  pub stands : (k p : ℕ) → Refused k p ≡ writing_answer s ls (length b) → b ≡ written_buffer s ls b
+  pub stands : (d : Refusal) → Err d ≡ writing_answer s ls (length b) → b ≡ written_buffer s ls b
   unfolding written_buffer
-  stands k p e = rw (← e)
+  stands d e = rw (← e)
 
-  pub stored : (n : ℕ) {t : List ℕ} → Done n ≡ writing_answer s ls (length b) → t ≡ over (shelf_of (cut_up s ls)) b →
+  pub stored : (n : ℕ) {t : List ℕ} → Ok n ≡ writing_answer s ls (length b) → t ≡ over (shelf_of (cut_up s ls)) b →
       t ≡ written_buffer s ls b
   unfolding written_buffer
   stored n e d = rw (← e) d

@@ -8,7 +8,7 @@ use mathlib.Core.List.{List, [], ◌∷◌, map}
 use lib.ListN.{length, take, drop, length-map}
 use lib.Seq.{take_at, drop_at}
 use borrow.Author.Tests.{le-leb, le-ltb, eq-eqb}
-use Rattle.rules.specs.declared.Answer.TheVariants.{Done}
+use Rattle.std.specs.Prelude.{Ok}
 use Rattle.rules.specs.Bytes.{total, end_to_end}
 use Rattle.rules.specs.Refusals.{Fault, none, fault, unless, ◌or_else◌, answer}
 use Rattle.rules.specs.Seal.{no_room, over}
@@ -18,8 +18,7 @@ use Rattle.rules.proofs.Laws.Listed.{Numbered, of_either, of-unless, room}
 use Rattle.shelf.proofs.Written.{joined_length, none-refused, every-shelf}
 use Rattle.shelf_writer.specs.Writing.{cut_up, good_lengths, shelf_length, writing_fault, writing_answer}
 use Rattle.shelf_writer.specs.Writing.{written_buffer, EveryWriting, EveryRecords, OneWriting}
-use Rattle.shelf_writer.proofs.Laws.{good, cut-count, cut-lengths, cut-joined, cut-back, each-taken}
-use Rattle.shelf_writer.proofs.Laws.{shelf-length}
+use Rattle.shelf_writer.proofs.Laws.{good, cut-count, cut-lengths, cut-joined, cut-back, each-taken, shelf-length}
 
 either-none : (f g : Fault) → (f or_else g) ≡ none → (f ≡ none) × (g ≡ none)
 either-none none g e = (refl, e)
@@ -29,13 +28,13 @@ unless-none : (b : Bool) (k : ℕ) → unless b k ≡ none → b ≡ true
 unless-none true k e = refl
 unless-none false k e = absurd (let z : ◌≡◌ {A = ℕ} 0 1 = cc in omega arith)
 
-answer-done : (f : Fault) (m n : ℕ) → answer f m ≡ Done n → (f ≡ none) × (m ≡ n)
+answer-done : (f : Fault) (m n : ℕ) → answer f m ≡ Ok n → (f ≡ none) × (m ≡ n)
 answer-done none m n e = (refl, (cc))
 answer-done (fault k p) m n e = absurd (let z : ◌≡◌ {A = ℕ} 0 1 = cc in omega arith)
 
 -- ---- a call that was not refused
 
-module _ (s ls b : List ℕ) (n : ℕ) (e : writing_answer s ls (length b) ≡ Done n) where
+module _ (s ls b : List ℕ) (n : ℕ) (e : writing_answer s ls (length b) ≡ Ok n) where
   done : (writing_fault s ls (length b) ≡ none) × (shelf_length ls ≡ n)
   unfolding writing_answer
   done = answer-done (writing_fault s ls (length b)) (shelf_length ls) n e
@@ -93,7 +92,7 @@ module _ (rs : List (List ℕ)) (h : Shelved rs) (b : List ℕ) (fit : length (s
         eq-eqb (total (map length rs)) (length (end_to_end rs)) (sym (joined_length rs)),
       )
 
-  answered : writing_answer (end_to_end rs) (map length rs) (length b) ≡ Done (length (shelf_of rs))
+  answered : writing_answer (end_to_end rs) (map length rs) (length b) ≡ Ok (length (shelf_of rs))
   unfolding writing_answer writing_fault no_room
   answered =
       rw (

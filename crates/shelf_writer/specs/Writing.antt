@@ -1,11 +1,9 @@
 -- Writing a shelf. Document 02, R-13, says what a shelf is and how it is read; that one is written, and
 -- what is refused then, is the archive's wish (docs/DECISIONS.md). The records lie end to end in one
 -- string; a list has their lengths.
-use Rattle.std.specs.Prelude.{ℕ, ◌+◌, ◌≤◌, ◌≡◌, List, [], ◌∷◌, map, Bool, ◌&&◌, length, take, drop, leb, eqb}
-use Rattle.rules.specs.declared.Answer.{Answer}
-use Rattle.rules.specs.declared.Answer.TheVariants.{Done}
+use Rattle.std.specs.Prelude.{ℕ, ◌+◌, ◌≤◌, ◌≡◌, List, [], ◌∷◌, map, Bool, ◌&&◌, length, take, drop, leb, eqb, Ok}
+use Rattle.rules.specs.Refusals.{Answer, Fault, none, unless, ◌or_else◌, answer}
 use Rattle.rules.specs.Bytes.{total, end_to_end}
-use Rattle.rules.specs.Refusals.{Fault, none, unless, ◌or_else◌, answer}
 use Rattle.rules.specs.Record.{le32}
 use Rattle.rules.specs.Seal.{no_room, over, if_done}
 use Rattle.rules.specs.Shelf.{head_length, records, first_refused, shelf_fault, offsets_from, shelf_of, Shelved}
@@ -40,7 +38,7 @@ writing_fault s lengths room =
     or_else no_room room (shelf_length lengths)
 
 -- the shelf's length, or the refusal
-unfoldable pub writing_answer : List ℕ → List ℕ → ℕ → Answer
+unfoldable pub writing_answer : List ℕ → List ℕ → ℕ → Answer ℕ
 writing_answer s lengths room = answer (writing_fault s lengths room) (shelf_length lengths)
 
 -- the shelf at the front and behind it the bytes as they were; after a refusal all bytes as they were
@@ -61,12 +59,12 @@ pub record OnTheShelf (s lengths before : List ℕ) (n : ℕ) (after : List ℕ)
 
 abbrev pub EveryWriting : Type 0
 EveryWriting =
-    (s lengths buffer : List ℕ) (n : ℕ) → writing_answer s lengths (length buffer) ≡ Done n →
+    (s lengths buffer : List ℕ) (n : ℕ) → writing_answer s lengths (length buffer) ≡ Ok n →
     OnTheShelf s lengths buffer n (written_buffer s lengths buffer)
 
 -- records that may stand on a shelf, lent to the call with their lengths and with room: their shelf is written
 pub record AllWritten (rs : List (List ℕ)) (buffer : List ℕ) : Type 0 where
-  pub answered : writing_answer (end_to_end rs) (map length rs) (length buffer) ≡ Done (length (shelf_of rs))
+  pub answered : writing_answer (end_to_end rs) (map length rs) (length buffer) ≡ Ok (length (shelf_of rs))
   pub written : written_buffer (end_to_end rs) (map length rs) buffer ≡ over (shelf_of rs) buffer
 
 abbrev pub EveryRecords : Type 0
@@ -76,6 +74,6 @@ EveryRecords =
 -- calls that write one shelf were lent the same records with the same lengths
 abbrev pub OneWriting : Type 0
 OneWriting =
-    (s t ls ms b c : List ℕ) (n m : ℕ) → writing_answer s ls (length b) ≡ Done n →
-    writing_answer t ms (length c) ≡ Done m → take n (written_buffer s ls b) ≡ take m (written_buffer t ms c) →
+    (s t ls ms b c : List ℕ) (n m : ℕ) → writing_answer s ls (length b) ≡ Ok n →
+    writing_answer t ms (length c) ≡ Ok m → take n (written_buffer s ls b) ≡ take m (written_buffer t ms c) →
     (s ≡ t) × (ls ≡ ms)

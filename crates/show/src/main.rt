@@ -5,33 +5,30 @@
 ghost use Rattle.std.specs.Prelude.{◌≡◌, ◌+◌, ◌*◌, ◌≤◌, length};
 ghost use Rattle.rules.specs.Bytes.{word32};
 
-use record_reader::Opened;
+use record_reader::RowCounts;
 use std::io;
 
 fn show_units<P: Print>(rt: &P, bytes: &[u8], units: usize) -> io::Result<()>
     requires { 64 + 32 * units ≤ length bytes.now }
 {
     let mut text = [0u8; 200];
-    let mut j = 0;
-    while j < units {
+    for j in 0..units {
         let row = record_reader::unit_row(bytes, j);
         let n = record_text::unit_line(&mut text, j as u64, row);
         rt.write_all(&text[..n])?;
-        j += 1;
     }
     Ok(())
 }
 
+// Not one function with `show_units`: it would need a trait for rows, longer than both loops.
 fn show_scenes<P: Print>(rt: &P, bytes: &[u8], units: usize, scenes: usize) -> io::Result<()>
     requires { (units ≡ word32 bytes.now 8) × (64 + 32 * (units + scenes) ≤ length bytes.now) }
 {
     let mut text = [0u8; 200];
-    let mut j = 0;
-    while j < scenes {
+    for j in 0..scenes {
         let row = record_reader::scene_row(bytes, units, j);
         let n = record_text::scene_line(&mut text, j as u64, row);
         rt.write_all(&text[..n])?;
-        j += 1;
     }
     Ok(())
 }
@@ -39,14 +36,14 @@ fn show_scenes<P: Print>(rt: &P, bytes: &[u8], units: usize, scenes: usize) -> i
 fn show<P: Print>(rt: &P, bytes: &[u8]) -> io::Result<()> {
     let mut text = [0u8; 200];
     match record_reader::open(bytes) {
-        Opened::Accepted { units, scenes } => {
+        Ok(RowCounts { units, scenes }) => {
             let n = record_text::sample_line(&mut text, record_reader::header_figures(bytes));
             rt.write_all(&text[..n])?;
             show_units(rt, bytes, units)?;
             show_scenes(rt, bytes, units, scenes)
         }
-        Opened::Refused { number, place: _ } => {
-            let n = record_text::refused_line(&mut text, number);
+        Err(refusal) => {
+            let n = record_text::refused_line(&mut text, refusal.number);
             rt.write_all(&text[..n])
         }
     }

@@ -8,14 +8,11 @@ use lib.ListN.{length, get_or, take, drop, length-append}
 use lib.Seq.{take-add, take_all}
 use borrow.Author.Tests.{ne_eqb}
 use Rattle.rules.specs.Bytes.{count}
-use Rattle.rules.specs.Refusals.{Fault, fault, listed}
+use Rattle.rules.specs.Refusals.{Fault, fault, listed, Answer, refused}
 use Rattle.rules.specs.Seal.{capture_unfinished}
 use Rattle.rules.specs.Survey.{good_packets, identifiers, with_most, HasMost, survey_feed_answer, no_good}
-use Rattle.rules.specs.Survey.{survey_fault}
-use Rattle.rules.specs.Survey.{survey_answer}
-use Rattle.rules.specs.declared.Answer.{Answer}
-use Rattle.rules.specs.declared.Answer.TheVariants.{Done, Refused as RefusedAnswer}
-use Rattle.rules.specs.declared.SurveyAnswer.TheVariants.{Most, Refused}
+use Rattle.rules.specs.Survey.{survey_fault, survey_answer}
+use Rattle.std.specs.Prelude.{Ok}
 use Rattle.rules.proofs.Laws.Listed.{Numbered, listed_in, format}
 use Rattle.capture_laws.proofs.Survey.{with-most-is, most-alike}
 use Rattle.capture_steps.specs.declared.types.Walk.{Walk}
@@ -97,16 +94,16 @@ stands-listed {s = s} {joined = joined} h st =
     let e = says-fault h st in rw (numbered e (format joined)) e
 
 pub reply-stopped : {s : Walk} {k : ℕ} (n : ℕ) → (s.status ≡ 0 → ⊥) → k ≡ listed s.status →
-    Replies s n (RefusedAnswer k s.place)
+    Replies s n (refused k s.place)
 unfolding survey_feed_answer
 reply-stopped {s} n h e =
     record { rule = λ kept joined st. rw (stands-listed h st, e); listed = rw e (listed_in s.status) }
 
-pub reply-done : {s : Walk} (n : ℕ) → s.status ≡ 0 → Replies s n (Done n)
+pub reply-done : {s : Walk} (n : ℕ) → s.status ≡ 0 → Replies s n (Ok n)
 unfolding survey_feed_answer
 reply-done n h = record { rule = λ kept joined st. rw (says-clear h st); listed = tt }
 
-pub feed-post : (words kept t piece : List ℕ) (a : Answer) (words' kept' t' : List ℕ) (s r : Walk) →
+pub feed-post : (words kept t piece : List ℕ) (a : Answer ℕ) (words' kept' t' : List ℕ) (s r : Walk) →
     s ≡ walk.loaded words → Goes kept t s piece kept' t' r → Stored words r words' → Replies r (length piece) a →
     FeedPost (state_of words kept t) piece a
     (state_of words' kept' t')
@@ -124,12 +121,12 @@ module _ (words t : List ℕ) (s : Walk) (l : s ≡ walk.loaded words) where
       walk.Stands kept s joined
   stands m = rw l m.surveys.walk
 
-  pub ask-stopped : {k : ℕ} → (s.status ≡ 0 → ⊥) → k ≡ listed s.status → AskPost words t (Refused k s.place)
+  pub ask-stopped : {k : ℕ} → (s.status ≡ 0 → ⊥) → k ≡ listed s.status → AskPost words t (refused k s.place)
   unfolding survey_answer survey_fault
   ask-stopped h e =
       record { rule = λ kept joined m. rw (stands-listed h (stands m), e); sensible = rw e (listed_in s.status) }
 
-  pub ask-inside : {b : Bool} → s.status ≡ 0 → Asks s b → b ≡ true → AskPost words t (Refused 11 s.fed)
+  pub ask-inside : {b : Bool} → s.status ≡ 0 → Asks s b → b ≡ true → AskPost words t (refused 11 s.fed)
   unfolding survey_answer survey_fault capture_unfinished
   ask-inside h a e =
       record {
@@ -153,7 +150,7 @@ module _ (words t : List ℕ) (s : Walk) (l : s ≡ walk.loaded words) where
         count_in t best ≡ good_packets joined (with_most (good_packets joined) identifiers)
     most-is {joined = joined} m = counts m best be.below ∙ ap (good_packets joined) (best-is m)
 
-    pub ask-none : count_in t best ≡ 0 → AskPost words t (Refused 21 0)
+    pub ask-none : count_in t best ≡ 0 → AskPost words t (refused 21 0)
     unfolding survey_answer survey_fault capture_unfinished no_good
     ask-none z =
         record {
@@ -162,7 +159,7 @@ module _ (words t : List ℕ) (s : Walk) (l : s ≡ walk.loaded words) where
           sensible = (omega arith, omega arith);
         }
 
-    pub ask-most : {x : ℕ} → x ≡ count_in t best → (x ≡ 0 → ⊥) → AskPost words t (Most best x)
+    pub ask-most : {x : ℕ} → x ≡ count_in t best → (x ≡ 0 → ⊥) → AskPost words t (Ok (record { identifier = best; count = x }))
     unfolding survey_answer survey_fault capture_unfinished no_good
     ask-most xe z =
         record {

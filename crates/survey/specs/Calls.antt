@@ -2,8 +2,8 @@
 -- ones among them, comes to what the rules give for the joined bytes alone, each call getting the state that the
 -- call before it left.
 use Rattle.std.specs.Prelude.{ℕ, ◌≡◌, List, [], ◌∷◌, ◌++◌}
-use Rattle.rules.specs.declared.Answer.{Answer}
-use Rattle.rules.specs.declared.SurveyAnswer.{SurveyAnswer}
+use Rattle.rules.specs.declared.Most.{Most}
+use Rattle.rules.specs.Refusals.{Answer}
 use Rattle.rules.specs.Survey.{SurveyCall, feed_survey, ask_survey, SurveyOutcome, fed_survey, found, survey_expected}
 use Rattle.rules.specs.Survey.{survey_fed}
 use Rattle.survey.specs.State.{State}
@@ -12,9 +12,9 @@ use Rattle.survey.specs.Contract.{Opened, FeedPost, AskPost}
 -- one call on a state, which leaves another: no more and no less than the function's own contract. A question leaves
 -- the state that it found
 pub data Ran : State → SurveyCall → SurveyOutcome → State → Type 0 where
-  feeds : {st st' : State} {piece : List ℕ} {a : Answer} → FeedPost st piece a st' →
+  feeds : {st st' : State} {piece : List ℕ} {a : Answer ℕ} → FeedPost st piece a st' →
       Ran st (feed_survey piece) (fed_survey a) st'
-  asks : {st : State} {a : SurveyAnswer} → AskPost st.walk st.counts a → Ran st ask_survey (found a) st
+  asks : {st : State} {a : Answer Most} → AskPost st.walk st.counts a → Ran st ask_survey (found a) st
 
 -- calls that are made one after the other, the first on the state st; what they come to; and the state that the last
 -- leaves

@@ -1,10 +1,7 @@
 -- What each call promises, in terms of the rules and of what the lent arrays stand for.
-use Rattle.std.specs.Prelude.{ℕ, ◌<◌, ◌≡◌, List, [], ◌++◌, length}
-use Rattle.rules.specs.declared.Answer.{Answer}
-use Rattle.rules.specs.declared.Answer.TheVariants as of-feed
-use Rattle.rules.specs.declared.SurveyAnswer.{SurveyAnswer}
-use Rattle.rules.specs.declared.SurveyAnswer.TheVariants.{Most, Refused}
-use Rattle.rules.specs.Refusals.{InTable}
+use Rattle.std.specs.Prelude.{ℕ, ◌<◌, ◌≡◌, List, [], ◌++◌, length, Ok, Err}
+use Rattle.rules.specs.declared.Most.{Most}
+use Rattle.rules.specs.Refusals.{Answer, InTable}
 use Rattle.rules.specs.Survey.{identifiers, survey_feed_answer, survey_answer}
 use Rattle.capture_steps.specs.declared.types.Walk.{Walk}
 use Rattle.capture_steps.specs.State.{Stands}
@@ -15,23 +12,23 @@ abbrev pub Opened : State → Type 0
 Opened after = Means after []
 
 -- a refusal's number is one of the table's; of any state, one that somebody else wrote on too
-abbrev pub ListedFeed : Answer → Type 0
-ListedFeed (of-feed.Done n) = Unit {0}
-ListedFeed (of-feed.Refused k p) = InTable k
+abbrev pub ListedFeed : Answer ℕ → Type 0
+ListedFeed (Ok n) = Unit {0}
+ListedFeed (Err e) = InTable e.number
 
 -- `feed`: the state before, the piece, the answer, the state after
-pub record FeedPost (before : State) (piece : List ℕ) (a : Answer) (after : State) : Type 0 where
+pub record FeedPost (before : State) (piece : List ℕ) (a : Answer ℕ) (after : State) : Type 0 where
   pub means : (joined : List ℕ) → Means before joined → Means after (joined ++ piece)
   pub answer : (joined : List ℕ) → Means before joined → a ≡ survey_feed_answer (joined ++ piece) (length piece)
   pub listed : ListedFeed a
 
 -- of any state: what is answered is an identifier with some packets, or a number of the table
-abbrev pub Sensible : SurveyAnswer → Type 0
-Sensible (Most id n) = (id < identifiers) × (0 < n)
-Sensible (Refused k p) = InTable k
+abbrev pub Sensible : Answer Most → Type 0
+Sensible (Ok x) = (x.identifier < identifiers) × (0 < x.count)
+Sensible (Err e) = InTable e.number
 
 -- `ask`: the walk's words, the counts, the answer. It changes nothing
-pub record AskPost (walk counts : List ℕ) (a : SurveyAnswer) : Type 0 where
+pub record AskPost (walk counts : List ℕ) (a : Answer Most) : Type 0 where
   pub rule : (kept joined : List ℕ) → Means (state_of walk kept counts) joined → a ≡ survey_answer joined
   pub sensible : Sensible a
 
@@ -42,6 +39,6 @@ abbrev pub Goes : List ℕ → List ℕ → Walk → List ℕ → List ℕ → L
 Goes kept t s chunk kept' t' r = (joined : List ℕ) → Surveys kept t s joined → Surveys kept' t' r (joined ++ chunk)
 
 -- what a feed of n bytes answers, from the walk behind it
-pub record Replies (s : Walk) (n : ℕ) (a : Answer) : Type 0 where
+pub record Replies (s : Walk) (n : ℕ) (a : Answer ℕ) : Type 0 where
   pub rule : (kept joined : List ℕ) → Stands kept s joined → a ≡ survey_feed_answer joined n
   pub listed : ListedFeed a

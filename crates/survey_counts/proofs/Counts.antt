@@ -1,9 +1,11 @@
 -- The table of counts: a cell more, a run of cells, and the rules' counts.
-use Rattle.std.proofs.Common.{◌≡◌, ℕ, zero, suc, ◌+◌, ◌*◌, ◌%◌, ◌^◌, ◌<◌, ◌≤◌, Bool, true, false, ◌&&◌, eqb}
+use Rattle.std.proofs.Common.{◌≡◌, ℕ, zero, suc, ◌+◌, ◌*◌, ◌%◌, ◌^◌, ◌<◌, ◌≤◌, false, ◌&&◌, eqb}
 use Rattle.std.proofs.Common.{List, [], ◌∷◌, ◌++◌, map, length, get_or, drop, set, replicate, sym, refl, ap}
 use Rattle.std.proofs.Common.{◌∙◌, append_assoc, append-nil, arith, length-append, length-set, get_or-set_other}
-use Rattle.std.proofs.Common.{get_or-set_same, drop-drop, eq-eqb, ne_eqb}
+use Rattle.std.proofs.Common.{get_or-set_same, eq-eqb, ne_eqb}
 use native.Mathlib.Decide.{dec_le}
+use Rattle.rules.specs.declared.Condition.{Condition}
+use Rattle.rules.specs.declared.Condition.TheVariants.{Good, Damaged, Bad}
 use Rattle.rules.specs.Bytes.{pick, count}
 use Rattle.rules.specs.Packets.{Packet, packets, whole, is_good}
 use Rattle.rules.specs.Capture.{all_frames}
@@ -53,31 +55,34 @@ tallied-on {t} {t'} {t''} {cs} {ds} a b =
     }
 
 -- a cell that is not good
-pub tallied-other : (t : List ℕ) (c : Cell) {b : Bool} → b ≡ is_good c.condition → b ≡ false →
-    Tallied t (c ∷ []) t
-tallied-other t c e f =
+not-good : (k : Condition) → (k ≡ Good → ⊥) → is_good k ≡ false
+not-good Good h = absurd (h refl)
+not-good Damaged h = refl
+not-good Bad h = refl
+
+pub tallied-other : (t : List ℕ) (c : Cell) → (c.condition ≡ Good → ⊥) → Tallied t (c ∷ []) t
+tallied-other t c f =
     record {
       size = refl;
       counts = λ xs l h d.
           record {
             at = λ id k.
-                let z : one id c ≡ 0 = rw (← e, f) in
+                let z : one id c ≡ 0 = rw (not-good c.condition f) in
                 d.at id k ∙ sym (tally-more xs c id ∙ omega arith);
           };
     }
 
 -- a good one
-pub tallied-good : (t t' : List ℕ) (c : Cell) {b : Bool} {x : ℕ} → b ≡ is_good c.condition → b ≡ true →
-    c.identifier < 8192 → x ≡ (get_or t c.identifier 0 + 1) % 2 ^ 32 →
-    t' ≡ set t c.identifier x → Tallied t (c ∷ []) t'
-tallied-good t t' c {b} {x} e f small xe put =
+pub tallied-good : (t t' : List ℕ) (c : Cell) → c.condition ≡ Good → c.identifier < 8192 →
+    t' ≡ set t c.identifier ((get_or t c.identifier 0 + 1) % 2 ^ 32) → Tallied t (c ∷ []) t'
+tallied-good t t' c good small put =
     record {
       size = ap length put ∙ length-set t c.identifier x;
       counts = λ xs l h d. record { at = λ id k. go xs l h d id k (same c.identifier id) };
     }
   where
-    good : is_good c.condition ≡ true
-    good = sym e ∙ f
+    x : ℕ
+    x = (get_or t c.identifier 0 + 1) % 2 ^ 32
 
     go : (xs : List Cell) → length t ≡ 8192 → length xs + 1 < 4294967296 → Table t xs → (id : ℕ) → id < 8192 →
         Dec (c.identifier ≡ id) → get_or t' id 0 ≡ tally (xs ++ c ∷ []) id
@@ -86,7 +91,7 @@ tallied-good t t' c {b} {x} e f small xe put =
         let a = d.at c.identifier small in
         let w = tally-few xs c.identifier in
         let g : get_or t' c.identifier 0 ≡ x = rw put (get_or-set_same t c.identifier x 0 (omega arith)) in
-        let y : get_or t' c.identifier 0 ≡ tally xs c.identifier + 1 = g ∙ xe ∙ omega arith in
+        let y : get_or t' c.identifier 0 ≡ tally xs c.identifier + 1 = g ∙ omega arith in
         let m = tally-more xs c id in
         ap (count_in t') (sym q) ∙ y ∙ ap (λ (n : ℕ). tally xs n + 1) q ∙ omega arith
     go xs l h d id k (no q) =
@@ -111,14 +116,10 @@ pub run_none : (t : List ℕ) (time place : ℕ) (s : List ℕ) → Tallied t (c
 unfolding cells_from
 run_none t time place s = tallied-none t
 
-pub run_more : {t t' t'' : List ℕ} {c : Cell} (k time place₀ at₀ : ℕ) (piece : List ℕ) (at place : ℕ) →
-    Tallied t (cells_from k time place₀ (drop at₀ piece)) t' →
-    at ≡ at₀ + 188 * k → place ≡ place₀ + 188 * k → c ≡ cell_in time place (drop at piece) → Tallied t' (c ∷ []) t'' →
-    Tallied t (cells_from (k + 1) time place₀ (drop at₀ piece)) t''
-run_more {t} {t'} {t''} {c} k time place₀ at₀ piece at place a ae pe ce b =
-    let d : drop at piece ≡ drop (188 * k) (drop at₀ piece) = rw ae (sym (drop-drop (188 * k) at₀ piece)) in
-    let e : c ≡ cell_in time (place₀ + 188 * k) (drop (188 * k) (drop at₀ piece)) = ce ∙ rw (pe, d) in
-    rw (cells-more k time place₀ (drop at₀ piece), ← e) (tallied-on a b)
+pub run_more : {t t' t'' : List ℕ} {c : Cell} (k time place : ℕ) (s : List ℕ) →
+    Tallied t (cells_from k time place s) t' → c ≡ cell_in time (place + 188 * k) (drop (188 * k) s) →
+    Tallied t' (c ∷ []) t'' → Tallied t (cells_from (k + 1) time place s) t''
+run_more k time place s a e b = rw (cells-more k time place s, ← e) (tallied-on a b)
 
 pub run-all : {t t' : List ℕ} (k n time place : ℕ) (s : List ℕ) → k ≡ n → Tallied t (cells_from k time place s) t' →
     Tallied t (cells_from n time place s) t'

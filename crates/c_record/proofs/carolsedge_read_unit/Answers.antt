@@ -1,10 +1,9 @@
 -- `carolsedge_read_unit` meets its contract, by the two cases of an answer. Assumes nothing.
-use mathlib.Core.Path.{refl}
 use Rattle.c_record.proofs.Answers.{unit-done, unit-refused}
 use Rattle.c_record.proofs.carolsedge_read_unit.Goals as goal
 
-pub returns-in-Given : goal.returns-in-Given
-returns-in-Given c = unit-done _ _ _ _ c.in-Given.ensures _ _ refl c.put_unit.ensures
+pub returns-in-Ok : goal.returns-in-Ok
+returns-in-Ok c = unit-done _ _ _ _ c.unit.ensures _ _ c.in-Ok.is c.unit_figures.ensures
 
-pub returns-in-Refused : goal.returns-in-Refused
-returns-in-Refused c = unit-refused _ _ _ _ c.in-Refused.ensures _ _ _ refl c.listed_number.ensures
+pub returns-in-Err : goal.returns-in-Err
+returns-in-Err c = unit-refused _ _ _ _ c.unit.ensures _ _ c.in-Err.is c.listed_number.ensures

@@ -7,7 +7,7 @@ pub returns : goal.returns
 returns c =
     let promised = c.sheet-a.ensures in
     record {
-      numbered = c.number_of.ensures ∙ ap number_of promised.value;
-      valued = c.value_of.ensures ∙ ap value_of promised.value;
-      printed = promised.buffer_after;
+      numbered = c.number_of.ensures ∙ ap number_of promised.answered;
+      valued = c.value_of.ensures ∙ ap value_of promised.answered;
+      printed = promised.printed;
     }

@@ -1,10 +1,9 @@
 -- By the two cases of an answer.
-use Rattle.std.proofs.Common.{refl}
 use Rattle.c_sample.proofs.Answers.{index-given, index-refused}
 use Rattle.c_sample.proofs.carolsedge_index.Goals as goal
 
-pub returns-in-Given : goal.returns-in-Given
-returns-in-Given c = index-given _ _ _ _ c.in-Given.ensures _ _ refl c.put_three.ensures
+pub returns-in-Ok : goal.returns-in-Ok
+returns-in-Ok c = index-given _ _ _ _ c.index.ensures _ _ c.in-Ok.is c.put_three.ensures
 
-pub returns-in-Refused : goal.returns-in-Refused
-returns-in-Refused c = index-refused _ _ _ _ c.in-Refused.ensures _ _ _ refl c.listed_number.ensures
+pub returns-in-Err : goal.returns-in-Err
+returns-in-Err c = index-refused _ _ _ _ c.index.ensures _ _ c.in-Err.is c.listed_number.ensures

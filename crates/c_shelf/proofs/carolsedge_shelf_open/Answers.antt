@@ -1,10 +1,9 @@
 -- By the two cases of an answer.
-use Rattle.std.proofs.Common.{refl}
 use Rattle.c_shelf.proofs.Answers.{shelf-done, shelf-refused}
 use Rattle.c_shelf.proofs.carolsedge_shelf_open.Goals as goal
 
-pub returns-in-Given : goal.returns-in-Given
-returns-in-Given c = shelf-done _ _ _ c.in-Given.ensures _ _ refl
+pub returns-in-Ok : goal.returns-in-Ok
+returns-in-Ok c = shelf-done _ _ _ c.«open».ensures _ c.in-Ok.is
 
-pub returns-in-Refused : goal.returns-in-Refused
-returns-in-Refused c = shelf-refused _ _ _ c.in-Refused.ensures _ _ _ refl c.listed_number.ensures
+pub returns-in-Err : goal.returns-in-Err
+returns-in-Err c = shelf-refused _ _ _ c.«open».ensures _ _ c.in-Err.is c.listed_number.ensures

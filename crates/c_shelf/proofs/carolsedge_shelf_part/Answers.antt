@@ -1,10 +1,9 @@
 -- By the two cases of an answer.
-use Rattle.std.proofs.Common.{refl}
 use Rattle.c_shelf.proofs.Answers.{part-done, part-refused}
 use Rattle.c_shelf.proofs.carolsedge_shelf_part.Goals as goal
 
-pub returns-in-Given : goal.returns-in-Given
-returns-in-Given c = part-done _ _ _ _ c.in-Given.ensures _ _ refl
+pub returns-in-Ok : goal.returns-in-Ok
+returns-in-Ok c = part-done _ _ _ _ c.part.ensures _ c.in-Ok.is
 
-pub returns-in-Refused : goal.returns-in-Refused
-returns-in-Refused c = part-refused _ _ _ _ c.in-Refused.ensures _ _ _ refl c.listed_number.ensures
+pub returns-in-Err : goal.returns-in-Err
+returns-in-Err c = part-refused _ _ _ _ c.part.ensures _ _ c.in-Err.is c.listed_number.ensures

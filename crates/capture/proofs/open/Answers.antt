@@ -1,12 +1,13 @@
--- `open` meets its contract: a fresh walk, and the opening's number and PID among zeros.
+-- `open` meets its contract: a fresh walk, and a fresh tally in the words.
 use Prim.Native.Nat.{ℕ}
-use mathlib.Core.Path.{refl}
-use lib.ListN.{length-set, length-replicate}
-use Rattle.capture.proofs.Pieces.{opens}
+use mathlib.Core.Path.{◌∙◌}
+use lib.ListN.{length-replicate}
+use Rattle.capture.proofs.Pieces.{opens, fresh-is}
 use Rattle.capture.proofs.open.Goals as goal
 
 pub returns : goal.returns
 returns c =
     let a = c.args in
-    opens _ a.number a.pid a.edition c.«open».ensures (simp length-set refl)
-    (length-replicate {A = ℕ} 3750 0) refl
+    let l = length-replicate {A = ℕ} 16 0 in
+    opens _ a.number a.pid a.edition c.«open».ensures (c.store.ensures.size ∙ l)
+    (length-replicate {A = ℕ} 3750 0) (rw c.store.ensures.loads (fresh-is c.default.ensures))

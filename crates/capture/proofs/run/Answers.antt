@@ -6,9 +6,6 @@ use Rattle.capture.proofs.run.Goals as goal
 pub loop-i-init : goal.loop-i-init
 loop-i-init c = (omega arith, goes_none _ _ _ _)
 
-pub returns-then-t-ne0 : goal.returns-then-t-ne0
-returns-then-t-ne0 c = search (rules, goes-stopped)
-
 pub overflow_add-i : goal.overflow_add-i
 overflow_add-i c =
     let m = c.next-r.ensures.most in
@@ -17,9 +14,12 @@ overflow_add-i c =
 pub loop-i-preserved : goal.loop-i-preserved
 loop-i-preserved c = (
   c.next-r.ensures.most,
-  goes_step _ _ c.loop-i.invariant.1 c.if-t-ne0.false c.next-r.ensures
-      c.take-t.ensures,
+  goes_step _ _ c.loop-i.invariant.1 c.if-m-eq0.true c.next-r.ensures
+      c.take.ensures,
 )
 
-pub returns : goal.returns
-returns c = search (rules, goes-all)
+pub returns-else-m-eq0 : goal.returns-else-m-eq0
+returns-else-m-eq0 c = search (rules, goes-stopped)
+
+pub returns-after-loop-i : goal.returns-after-loop-i
+returns-after-loop-i c = search (rules, goes-all)

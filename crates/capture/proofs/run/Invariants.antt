@@ -6,9 +6,7 @@ use Rattle.capture.proofs.run.Given as goal
 
 abbrev pub invariant-loop-i : goal.invariant-loop-i
 invariant-loop-i l =
-    (l.i ≤ length l.piece)
-    × Goes l.initial.kept l.initial.table (record { walk = l.initial.w; tally = l.initial.t }) (take l.i l.piece) l.kept
-    l.table (record { walk = l.w; tally = l.t })
+    (l.i ≤ length l.piece) × Goes l.initial.kept l.initial.table l.initial.m (take l.i l.piece) l.kept l.table l.m
 
 abbrev pub decreases-loop-i : goal.decreases-loop-i
 decreases-loop-i l = length l.piece - l.i

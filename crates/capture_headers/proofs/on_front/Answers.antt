@@ -1,34 +1,25 @@
 use Prim.{tt}
-use mathlib.Core.Path.{◌≡◌, refl}
-use lib.ListN.{length, take, drop}
+use mathlib.Core.Path.{refl}
 use Rattle.capture_steps.proofs.Front.{placed, front-plain, front-last}
-use Rattle.capture_steps.proofs.Pieces.{at-live, many-taken}
+use Rattle.capture_steps.proofs.Pieces.{at-live}
 use Rattle.capture_headers.proofs.on_front.Goals as goal
-
-pub returns-then-end-eq58 : goal.returns-then-end-eq58
-returns-then-end-eq58 c =
-    record {
-      taken = refl;
-      fits = tt;
-      goes = λ joined st. let k = c.requires in let a = c.args in
-          let t = take a.n (drop a.i a.piece.now) in
-          let e : length t ≡ a.n = many-taken a.piece.now a.i a.n k.5 in
-          let z = at-live k.0 k.1 st in
-          front-last z.0 z.1 _ _ t (placed z.1.room k.5 c.carry.ensures) (rw e k.4)
-          (rw e k.2) _ _ _ c.settle-t.ensures refl (rw e refl) (rw e refl) refl refl k.3 refl
-          (rw e c.if-end-eq58.true) c.count_of.ensures.0 refl;
-    }
+use Rattle.capture_headers.proofs.on_front.Goals.{then-walk-eq58, else-walk-eq58}
 
 pub returns : goal.returns
 returns c =
-    record {
+    rw c.step.ensures (record {
       taken = refl;
-      fits = tt;
-      goes = λ joined st. let k = c.requires in let a = c.args in
-          let t = take a.n (drop a.i a.piece.now) in
-          let e : length t ≡ a.n = many-taken a.piece.now a.i a.n k.5 in
-          let z = at-live k.0 k.1 st in
-          front-plain z.0 z.1 _ _ t (placed z.1.room k.5
-          c.carry.ensures) (rw e k.4) (rw e k.2) _ _ _ c.settle-t-2.ensures
-          refl (rw e refl) (rw e refl) refl refl k.3 refl (rw e c.if-end-eq58.false);
-    }
+      fits = λ piece. tt;
+      goes = λ piece joined st. let k = c.requires in let t = c.args.part.now in
+          let z = at-live k.going.clear k.going.file st in
+          elim c.if-walk-eq58.branch [
+            | then-walk-eq58 w ↦
+                front-last z.0 z.1 _ _ t (placed z.1.room c.carry.ensures) k.front
+                k.going.limit _ _ _ (rw w.walk-is at c.settle.ensures) refl refl refl refl refl k.body refl
+                w.if-walk-eq58.true w.count_of.ensures.0 refl
+            | else-walk-eq58 w ↦
+                front-plain z.0 z.1 _ _ t (placed z.1.room c.carry.ensures) k.front
+                k.going.limit _ _ _ (rw w.walk-is at c.settle.ensures) refl refl refl refl refl k.body refl
+                w.if-walk-eq58.false
+          ];
+    })

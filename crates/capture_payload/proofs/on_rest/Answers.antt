@@ -1,23 +1,21 @@
 use Prim.{tt}
-use Rattle.std.proofs.Common.{◌≡◌, length, take, drop, refl, arith}
-use Rattle.capture_steps.proofs.Pieces.{at-live, many-taken}
+use Rattle.std.proofs.Common.{refl, arith}
+use Rattle.capture_steps.proofs.Pieces.{at-live}
 use Rattle.capture_steps.proofs.Cells.{known, got-part, got-fed, gathered, cell-on, cell-whole, at-is}
 use Rattle.capture_payload.proofs.on_rest.Goals as goal
 
-pub returns-then-r-lt188 : goal.returns-then-r-lt188
-returns-then-r-lt188 c =
+pub returns-then-walk-lt188 : goal.returns-then-walk-lt188
+returns-then-walk-lt188 c =
     record {
       taken = refl;
-      fits = tt;
-      goes = λ joined st. let k = c.requires in let a = c.args in
-          let t = take a.n (drop a.i a.piece.now) in
-          let e : length t ≡ a.n = many-taken a.piece.now a.i a.n k.7 in
-          let z = at-live k.0 k.1 st in let m = z.1.many in let v = z.1.under (omega arith) in
-          let kn = known z.0 z.1 k.3 v in let gp = got-part z.0 z.1 k.3 v k.4 in
-          let bo = k.6 gp in
-          cell-on z.0 z.1 k.3 v _ _ t (gathered z.1.room k.7 c.collect.ensures)
-          (rw e k.2) k.4 (omega arith) k.5 _ _ (omega arith) refl (rw e refl)
-          (at-is kn.1 kn.2 (omega arith) e c.wrapping_add_u64.ensures.value) refl
+      fits = λ piece. tt;
+      goes = λ piece joined st. let k = c.requires in let t = c.args.part.now in
+          let z = at-live k.going.clear k.going.file st in let m = z.1.many in let v = z.1.under (omega arith) in
+          let kn = known z.0 z.1 k.front v in let gp = got-part z.0 z.1 k.front v k.cells in
+          let bo = k.cell gp in
+          cell-on z.0 z.1 k.front v _ _ t (gathered z.1.room c.collect.ensures)
+          k.going.limit k.cells (omega arith) k.shown _ _ (omega arith) refl refl
+          (at-is kn.1 kn.2 (omega arith) refl refl) refl
           (omega arith) refl refl refl;
     }
 
@@ -25,16 +23,13 @@ pub returns : goal.returns
 returns c =
     record {
       taken = refl;
-      fits = c.cell_at-c.ensures.1;
-      goes = λ joined st. let k = c.requires in let a = c.args in
-          let t = take a.n (drop a.i a.piece.now) in
-          let e : length t ≡ a.n = many-taken a.piece.now a.i a.n k.7 in
-          let z = at-live k.0 k.1 st in let m = z.1.many in let v = z.1.under (omega arith) in
-          let kn = known z.0 z.1 k.3 v in let gp = got-part z.0 z.1 k.3 v k.4 in
-          let bo = k.6 gp in
-          cell-whole z.0 z.1 k.3 v _ _ t (gathered z.1.room k.7
-          c.collect.ensures) (rw e k.2) k.4 (omega arith) k.5 (omega arith) _ _
-          _ _ _ _ c.settle-t.ensures c.cell_at-c.ensures.0 c.time_of-time.ensures
-          (omega (arith, got-fed z.0 z.1 k.3 v k.4)) refl (rw e refl)
-          (at-is kn.1 kn.2 (omega arith) e c.wrapping_add_u64.ensures.value) refl refl refl refl refl;
+      fits = λ piece. c.cell_at-cell.ensures.1;
+      goes = λ piece joined st. let k = c.requires in let t = c.args.part.now in
+          let z = at-live k.going.clear k.going.file st in let m = z.1.many in let v = z.1.under (omega arith) in
+          let kn = known z.0 z.1 k.front v in let gp = got-part z.0 z.1 k.front v k.cells in
+          let bo = k.cell gp in
+          cell-whole z.0 z.1 k.front v _ _ t (gathered z.1.room c.collect.ensures) k.going.limit k.cells
+          (omega arith) k.shown (omega arith) _ _ _ _ _ _ c.settle.ensures c.cell_at-cell.ensures.0
+          c.time_of-time.ensures (omega (arith, got-fed z.0 z.1 k.front v k.cells)) refl refl
+          (at-is kn.1 kn.2 (omega arith) refl refl) refl refl refl refl refl;
     }

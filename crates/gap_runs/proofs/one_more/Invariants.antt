@@ -9,9 +9,6 @@ use Rattle.gap_runs.proofs.one_more.Given as goal
 
 abbrev pub invariant-loop-g : goal.invariant-loop-g
 invariant-loop-g l =
-    (l.g ≤ 16) × (l.sum ≤ 2 ^ 56 * l.g)
-    × (l.sum + total (table (16 - l.g) l.g (λ h. entry_at l.table l.l (gap_lost h)))
-    ≡ total (table 16 0 (λ h. entry_at l.table l.l (gap_lost h))))
-
-abbrev pub decreases-loop-g : goal.decreases-loop-g
-decreases-loop-g l = 16 - l.g
+    (l.sum ≤ 2 ^ 56 * l.g)
+    × (l.sum + total (table (16 - l.g) l.g (λ h. entry_at l.entries l.l (gap_lost h)))
+    ≡ total (table 16 0 (λ h. entry_at l.entries l.l (gap_lost h))))

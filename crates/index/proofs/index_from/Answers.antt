@@ -1,24 +1,11 @@
 -- `index_from` meets its contract, by its three tests. Assumes nothing.
 use native.Mathlib.Omega.{arith}
-use Rattle.index.proofs.Taken.{no-picture, too_many, no-packet, taken}
-use borrow.Author.Rules.{rules}
+use Rattle.index.proofs.Taken.{none, taken}
 use Rattle.index.proofs.index_from.Goals as goal
 
-pub returns-then-pictures-lt1 : goal.returns-then-pictures-lt1
-returns-then-pictures-lt1 c = no-picture _ _ _ _ _ c.if-pictures-lt1.true c.no_index.ensures
-
-pub returns-then-pictures-unrepeated : goal.returns-then-pictures-unrepeated
-returns-then-pictures-unrepeated c =
-    too_many _ _ _ _ _ c.if-pictures-lt1.false c.if-pictures-unrepeated.true c.no_index-then-pictures-unrepeated.ensures
-
-pub returns-then-packets-lt1 : goal.returns-then-packets-lt1
-returns-then-packets-lt1 c =
-    no-packet _ _ _ _ _ c.if-pictures-lt1.false c.if-pictures-unrepeated.false c.if-packets-lt1.true
-    c.no_index-then-packets-lt1.ensures
-
-pub returns : goal.returns
-returns c =
-    taken _ _ _ _ _ c.if-pictures-lt1.false c.if-pictures-unrepeated.false
+pub returns-then-packets-ge1 : goal.returns-then-packets-ge1
+returns-then-packets-ge1 c =
+    taken _ _ _ _ _
     (record {
       some_pictures = omega arith;
       of_them = omega arith;
@@ -27,4 +14,7 @@ returns c =
       few_packets = omega arith;
       few_lost = omega arith;
     })
-    c.index_of.ensures
+    c.index_of_totals.ensures
+
+pub returns-else-pictures-ge1 : goal.returns-else-pictures-ge1
+returns-else-pictures-ge1 c = none _ _ _ _ _ c.else-pictures-ge1.either c.no_index.ensures

@@ -1,6 +1,5 @@
 -- `index_of_totals` meets its contract. Each count is below 2 ^ 52, so each cast loses nothing; what is returned is
--- the
--- rule, operation by operation.
+-- the rule, operation by operation.
 use native.Mathlib.Omega.{arith}
 use mathlib.Core.Path.{◌≡◌, refl}
 use lib.Ieee.{binary64, of_bits, of_int}

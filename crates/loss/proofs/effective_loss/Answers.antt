@@ -3,7 +3,7 @@ use native.Mathlib.Omega.{arith}
 use mathlib.Core.Path.{sym, ◌∙◌}
 use lib.ListN.{length}
 use Rattle.rules.specs.EffectiveLoss.{both, loss_answer, loss_fault, filled}
-use Rattle.loss.proofs.Steps.{lengths-are, done-answer, done-lists}
+use Rattle.loss.proofs.Steps.{zero_is, lengths-are, done-answer, done-lists}
 use Rattle.loss.proofs.effective_loss.Goals as goal
 
 pub returns-then-not-good_lengths : goal.returns-then-not-good_lengths
@@ -27,8 +27,8 @@ spread-requires c =
     (length a.plain.now) good in
     record {
       probable = omega arith;
-      key_frames = omega (arith, c.clear.auto.list);
-      plains = omega (arith, c.clear-2.auto.list);
+      key_frames = omega (arith, c.fill.ensures.len);
+      plains = omega (arith, c.fill-2.ensures.len);
     }
 
 pub returns : goal.returns
@@ -41,5 +41,6 @@ returns c =
     record {
       answer = done-answer a.n a.losses.now a.probabilities.now before good probable;
       lists = done-lists a.n a.losses.now a.probabilities.now before good probable _ _ _
-          c.spread.ensures c.clear.ensures c.clear-2.ensures;
+          c.spread.ensures (rw (← zero_is) (c.fill.ensures.after (λ y h. h)))
+          (rw (← zero_is) (c.fill-2.ensures.after (λ y h. h)));
     }

@@ -1,14 +1,9 @@
--- The loop's invariant: x is added at i up to j.
-use Prim.Native.Nat.{◌-◌, ◌≤◌}
-use mathlib.Core.Path.{◌≡◌}
-use lib.ListN.{length}
-use Rattle.rules.specs.EffectiveLoss.{added_at}
+-- The loop's invariant: x is added to the first of the elements.
+use Rattle.std.proofs.Common.{◌≡◌, ◌++◌, map, take, drop}
+use Rattle.std.specs.Float.{binary64}
+use Rattle.std.specs.Float.Ieee.{add}
 use Rattle.loss_spread.proofs.add.Given as goal
 
-abbrev pub invariant-loop-j : goal.invariant-loop-j
-invariant-loop-j l =
-    (l.i ≤ l.j) × (l.j ≤ l.k) × (length l.list ≡ length l.initial.list)
-    × (l.list ≡ added_at l.i l.j l.x l.initial.list)
-
-abbrev pub decreases-loop-j : goal.decreases-loop-j
-decreases-loop-j l = l.k - l.j
+abbrev pub invariant-loop-y : goal.invariant-loop-y
+invariant-loop-y l =
+    l.y-items ≡ map (λ y. add binary64 y l.x) (take l.y-index l.initial.y-items) ++ drop l.y-index l.initial.y-items

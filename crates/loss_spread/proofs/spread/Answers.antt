@@ -18,21 +18,17 @@ loop-k-preserved c =
     let p = c.probability_at-probability.ensures in
     elim c.if-probability.branch [
       | then-probability+else-rest w ↦ (
-        omega arith,
-        omega arith,
         omega (arith, c.if-probability.auto.keys),
         omega (arith, c.if-probability.auto.plain),
         sym (taken n at.k ps _ long inside p unit.i _ _ at.rest (both at.keys at.plain) w.if-probability.true
             w.if-rest.false w.loss_of.ensures (both-eq w.keys-is w.plain-is ∙ w.put.ensures) w.rest-is)
-            ∙ at.invariant.4,
+            ∙ at.invariant.2,
       )
       | else-probability w ↦ (
-        omega arith,
-        omega arith,
         omega (arith, c.if-probability.auto.keys),
         omega (arith, c.if-probability.auto.plain),
         rw (w.keys-is, w.plain-is, w.rest-is) (sym (passed n at.k ps _ long inside p unit.i _ _ at.rest
-            (both at.keys at.plain) w.if-probability.false) ∙ at.invariant.4),
+            (both at.keys at.plain) w.if-probability.false) ∙ at.invariant.2),
       )
     ]
 
@@ -46,31 +42,28 @@ loop-i-preserved c =
     let before = both unit.keys unit.plain in
     elim c.if-loss-gt0.branch [
       | then-loss-gt0+else-loop-k-test w ↦ (
-        omega arith,
         omega (arith, c.if-loss-gt0.auto.keys),
         omega (arith, c.if-loss-gt0.auto.plain),
         unit-spread ns ps unit.i before here long _ w.if-loss-gt0.true
             (both-eq w.keys-is w.plain-is ∙ sym (ended (length ns) w.loop-k.k ps unit.i _ _ w.loop-k.rest _
-            w.loop-k-test.false) ∙ w.loop-k.invariant.4) ∙ unit.invariant.3,
+            (omega (arith, w.loop-k-test.false))) ∙ w.loop-k.invariant.2) ∙ unit.invariant.2,
       )
       | then-loss-gt0+then-loop-k-test+then-probability+then-rest w ↦ (
-        omega arith,
         omega (arith, c.if-loss-gt0.auto.keys),
         omega (arith, c.if-loss-gt0.auto.plain),
         unit-spread ns ps unit.i before here long _ w.if-loss-gt0.true
-            (both-eq w.keys-is w.plain-is ∙ sym (stopped (length ns) w.loop-k.k ps _ long w.loop-k-test.true
+            (both-eq w.keys-is w.plain-is ∙ sym (stopped (length ns) w.loop-k.k ps _ long (omega (arith, w.loop-k-test.true))
             w.probability_at-probability.ensures unit.i _ _ w.loop-k.rest _ w.if-probability.true w.if-rest.true)
-            ∙ w.loop-k.invariant.4) ∙ unit.invariant.3,
+            ∙ w.loop-k.invariant.2) ∙ unit.invariant.2,
       )
       | else-loss-gt0 w ↦ (
-        omega arith,
         omega (arith, c.if-loss-gt0.auto.keys),
         omega (arith, c.if-loss-gt0.auto.plain),
         ap (unit_losses (unit.i + 1) (drop (unit.i + 1) ns) (drop (unit.i + 1) ps)) (both-eq w.keys-is w.plain-is)
-            ∙ unit-none ns ps unit.i before here long w.if-loss-gt0.false ∙ unit.invariant.3,
+            ∙ unit-none ns ps unit.i before here long w.if-loss-gt0.false ∙ unit.invariant.2,
       )
     ]
 
 pub returns : goal.returns
 returns c =
-    sym (units-done c.args.losses.now c.args.probabilities.now c.loop-i.i _ (omega arith)) ∙ c.loop-i.invariant.3
+    sym (units-done c.args.losses.now c.args.probabilities.now c.loop-i.i _ (omega arith)) ∙ c.loop-i.invariant.2

@@ -5,9 +5,6 @@ use Rattle.luma_blocks.proofs.feed_rows.Goals as goal
 pub loop-p-init : goal.loop-p-init
 loop-p-init c = going-none _ _ _ _ _ _ _ (omega arith) (omega arith)
 
-pub returns-then-p-n : goal.returns-then-p-n
-returns-then-p-n c = record { going = c.loop-p.invariant; all = λ h. c.if-p-n.true }
-
 pub take_some-p-requires : goal.take_some-p-requires
 take_some-p-requires c =
     let p = c.requires in
@@ -17,7 +14,7 @@ take_some-p-requires c =
         few = p.few;
         room = p.room;
         wide = p.wide;
-        above = omega (arith, l.invariant.below, c.if-p-n.false);
+        above = omega (arith, l.invariant.below);
         left = l.invariant.left;
       },
       omega arith,
@@ -29,5 +26,8 @@ loop-p-smaller c = omega (arith, c.take_some-p.ensures.some)
 pub loop-p-preserved : goal.loop-p-preserved
 loop-p-preserved c = c.take_some-p.ensures.goes _ _ _ c.loop-p.invariant
 
-pub returns : goal.returns
-returns c = record { going = c.loop-p.invariant; all = λ h. omega arith }
+pub returns-else-p-shape : goal.returns-else-p-shape
+returns-else-p-shape c = record { going = c.loop-p.invariant; all = λ h. omega arith }
+
+pub returns-after-loop-p : goal.returns-after-loop-p
+returns-after-loop-p c = record { going = c.loop-p.invariant; all = λ h. omega arith }

@@ -8,40 +8,41 @@ use mathlib.Core.List.{List}
 use lib.ListN.{length, take, drop, length-take}
 use lib.Dec.{leb, eqb}
 use borrow.Author.Tests.{le-leb, lt-leb, leb-true, eq-eqb, ne_eqb}
-use Rattle.rules.specs.declared.Answer.{Answer}
-use Rattle.rules.specs.declared.Answer.TheVariants.{Done, Refused}
+use Rattle.std.specs.Prelude.{Ok, Err}
+use Rattle.rules.specs.declared.refusals.Refusal.{Refusal}
+use Rattle.rules.specs.Refusals.{Answer, refused, Fault, none, fault, unless, ◌or_else◌, answer}
 use Rattle.rules.specs.Bytes.{pick, within}
-use Rattle.rules.specs.Refusals.{Fault, none, fault, unless, ◌or_else◌, answer}
 use Rattle.rules.specs.Opening.{good_size, good_time}
 use Rattle.rules.specs.Seal.{no_picture, over}
 use Rattle.rules.proofs.Laws.Lists.{both, inside}
-use Rattle.rules.specs.Busiest.{least_between, most_scenes, most_fault, most_answer}
-use Rattle.rules.specs.Busiest.{busiest_luma, busiest_fault, busiest_part, busiest_answer, busiest_piece}
+use Rattle.rules.specs.Busiest.{least_between, most_scenes, most_fault, most_answer, busiest_luma, busiest_fault}
+use Rattle.rules.specs.Busiest.{busiest_part, busiest_answer, busiest_piece}
+use Rattle.rules.proofs.Laws.Answers.{given-none, given-same, refused-fault}
 use Rattle.luma_laws.proofs.Most.{most-one, most-more}
 
 module _ (d n : ℕ) where
-  pub wrong-time : good_time d ≡ false → Refused 2 0 ≡ most_answer d n
+  pub wrong-time : good_time d ≡ false → refused 2 0 ≡ most_answer d n
   unfolding most_answer most_fault
   wrong-time e = simp e
 
   module _ (time : good_time d ≡ true) where
-    pub no-picture : n ≡ 0 → Refused 14 0 ≡ most_answer d n
+    pub no-picture : n ≡ 0 → refused 14 0 ≡ most_answer d n
     unfolding most_answer most_fault no_picture
     no-picture e = simp (time, eq-eqb n 0 e)
 
-    pub many-pictures : 750 < n → Refused 10 0 ≡ most_answer d n
+    pub many-pictures : 750 < n → refused 10 0 ≡ most_answer d n
     unfolding most_answer most_fault no_picture
     many-pictures h = simp (time, ne_eqb n 0 (λ e. omega arith), lt-leb n 750 h)
 
-    allowed : (n ≡ 0 → ⊥) → n ≤ 750 → Done (most_scenes d n) ≡ most_answer d n
+    allowed : (n ≡ 0 → ⊥) → n ≤ 750 → Ok (most_scenes d n) ≡ most_answer d n
     unfolding most_answer most_fault no_picture
     allowed some few = simp (time, ne_eqb n 0 some, le-leb n 750 few)
 
-    pub few_pictures : n < 3 → (n ≡ 0 → ⊥) → Done 1 ≡ most_answer d n
-    few_pictures h some = ap Done (sym (most-one d n h)) ∙ allowed some (omega arith)
+    pub few_pictures : n < 3 → (n ≡ 0 → ⊥) → Ok 1 ≡ most_answer d n
+    few_pictures h some = ap Ok (sym (most-one d n h)) ∙ allowed some (omega arith)
 
-    pub more-pictures : 3 ≤ n → n ≤ 750 → Done (1 + (n - 3) / least_between d) ≡ most_answer d n
-    more-pictures h few = ap Done (sym (most-more d n h)) ∙ allowed (λ e. omega arith) few
+    pub more-pictures : 3 ≤ n → n ≤ 750 → Ok (1 + (n - 3) / least_between d) ≡ most_answer d n
+    more-pictures h few = ap Ok (sym (most-more d n h)) ∙ allowed (λ e. omega arith) few
 
 -- ---- what 1, 2, 14 and 10 let pass
 
@@ -76,18 +77,9 @@ most-passed d n e = go (good_time d) (eqb n 0) (leb n 750) refl refl e
     go true true c x y f = let z : ◌≡◌ {A = ℕ} 0 1 = cc in absurd (omega arith)
     go false b c x y f = let z : ◌≡◌ {A = ℕ} 0 1 = cc in absurd (omega arith)
 
--- the refusal of an answer
-passed : (f : Fault) (n k : ℕ) → answer f n ≡ Done k → f ≡ none
-passed none n k e = refl
-passed (fault a b) n k e = let z : ◌≡◌ {A = ℕ} 0 1 = cc in absurd (omega arith)
-
-turned : (f : Fault) (n k p : ℕ) → answer f n ≡ Refused k p → f ≡ fault k p
-turned none n k p e = let z : ◌≡◌ {A = ℕ} 0 1 = cc in absurd (omega arith)
-turned (fault a b) n k p e = cc
-
-pub answered : (d n k : ℕ) → most_answer d n ≡ Done k → (good_time d ≡ true) × (n ≤ 750)
+pub answered : (d n k : ℕ) → most_answer d n ≡ Ok k → (good_time d ≡ true) × (n ≤ 750)
 unfolding most_answer
-answered d n k e = most-passed d n (passed (most_fault d n) (most_scenes d n) k e)
+answered d n k e = most-passed d n (given-none (most_fault d n) (most_scenes d n) k e)
 
 pub all-passed : (w h d n : ℕ) → busiest_fault w h d n ≡ none → (good_size w h ≡ true) × (n ≤ 750)
 unfolding busiest_fault
@@ -102,34 +94,33 @@ all-passed w h d n e = go (good_size w h) refl e
 
 module _ (w h d n at : ℕ) (piece : List ℕ) where
   -- the answer a, and this piece
-  abbrev pub Left : Answer → List ℕ → Type 0
+  abbrev pub Left : Answer ℕ → List ℕ → Type 0
   Left a after = (a ≡ busiest_answer w h d n at (length piece)) × (after ≡ busiest_piece w h d n at piece)
 
-  pub wrong_size : good_size w h ≡ false → Left (Refused 1 0) piece
+  pub wrong_size : good_size w h ≡ false → Left (refused 1 0) piece
   unfolding busiest_answer busiest_piece busiest_fault
   wrong_size g = (simp g, simp g)
 
   module _ (size : good_size w h ≡ true) where
-    pub refused : (k p : ℕ) → most_answer d n ≡ Refused k p → Left (Refused k p) piece
+    pub refused-as : (r : Refusal) → most_answer d n ≡ Err r → Left (Err r) piece
     unfolding busiest_answer busiest_piece busiest_fault most_answer
-    refused k p e = let f = turned (most_fault d n) (most_scenes d n) k p e in (simp (size, f), simp (size, f))
+    refused-as r e = let f = refused-fault (most_fault d n) (most_scenes d n) r e in (simp (size, f), simp (size, f))
 
-    pub filled : (k : ℕ) (r : ℕ) (after : List ℕ) → most_answer d n ≡ Done k →
+    pub filled : (k : ℕ) (r : ℕ) (after : List ℕ) → most_answer d n ≡ Ok k →
         r ≡ length (busiest_part w h d n at (length piece)) →
-        after ≡ over (busiest_part w h d n at (length piece)) piece → Left (Done r) after
+        after ≡ over (busiest_part w h d n at (length piece)) piece → Left (Ok r) after
     unfolding busiest_answer busiest_piece busiest_fault most_answer
     filled k r after e long made =
-        let f = passed (most_fault d n) (most_scenes d n) k e in
-        (ap Done long ∙ simp (size, f), made ∙ simp (size, f))
+        let f = given-none (most_fault d n) (most_scenes d n) k e in
+        (ap Ok long ∙ simp (size, f), made ∙ simp (size, f))
 
 -- an answer counts bytes of the piece
-pub done-fits : (w h d n at size k : ℕ) → busiest_answer w h d n at size ≡ Done k → k ≤ size
+pub done-fits : (w h d n at size k : ℕ) → busiest_answer w h d n at size ≡ Ok k → k ≤ size
 unfolding busiest_answer busiest_part
 done-fits w h d n at size k e = go (busiest_fault w h d n) e
   where
     rest : List ℕ
     rest = drop at (busiest_luma w h d n)
 
-    go : (f : Fault) → answer f (length (take size rest)) ≡ Done k → k ≤ size
-    go none g = let z : length (take size rest) ≡ k = cc in omega (arith, length-take size rest)
-    go (fault a b) g = let z : ◌≡◌ {A = ℕ} 0 1 = cc in absurd (omega arith)
+    go : (f : Fault) → answer f (length (take size rest)) ≡ Ok k → k ≤ size
+    go f g = let e = given-same f _ _ g in omega (arith, e, length-take size rest)

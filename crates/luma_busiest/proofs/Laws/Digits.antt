@@ -9,7 +9,6 @@ use mathlib.Core.Bool.{true, false, and-false}
 use mathlib.Core.List.{List, [], ◌∷◌}
 use lib.ListN.{length, get_or, drop, drop_of_length-le}
 use lib.Seq.{drop-cons}
-use lib.Dec.{leb}
 use borrow.Author.Tests.{le-leb, lt-leb}
 use Rattle.rules.specs.Bytes.{within}
 use Rattle.rules.specs.Busiest.{all_digits, with_digits, argument_of}
@@ -40,17 +39,11 @@ module _ (word : List ℕ) (n i : ℕ) (r : Read word n i) (more : i < length wo
   rest : drop i word ≡ get_or word i 0 ∷ drop (i + 1) word
   rest = rw (add-one i) (drop-cons word i 0 more)
 
-  read-wrong : within 48 57 (get_or word i 0) ≡ false → 0 ≡ argument_of word
+  pub read-wrong : within 48 57 (get_or word i 0) ≡ false → 0 ≡ argument_of word
   unfolding argument_of all_digits
   read-wrong e =
       let none : all_digits word ≡ false = r.digits ∙ rw (rest, e) in
       rw (none, and-false (within 1 9 (length word)))
-
-  pub read_below : get_or word i 0 < 48 → 0 ≡ argument_of word
-  read_below h = read-wrong (rw (lt-leb 48 (get_or word i 0) h))
-
-  pub read_above : 57 < get_or word i 0 → 0 ≡ argument_of word
-  read_above h = read-wrong (rw (lt-leb (get_or word i 0) 57 h) (and-false (leb 48 (get_or word i 0))))
 
   pub read-digit : 48 ≤ get_or word i 0 → get_or word i 0 ≤ 57 → Read word (10 * n + (get_or word i 0 - 48)) (i + 1)
   unfolding all_digits with_digits

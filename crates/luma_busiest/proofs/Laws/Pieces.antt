@@ -1,13 +1,13 @@
 -- The busiest luma in pieces: a lent piece is filled picture by picture, and pieces laid end to end are the luma.
-use Prim.Native.Nat.{ℕ, zero, suc, ◌+◌, ◌-◌, ◌*◌, ◌/◌, ◌%◌, ◌≤◌, ◌<◌}
+use Prim.Native.Nat.{ℕ, zero, suc, ◌+◌, ◌-◌, ◌*◌, ◌/◌, ◌%◌, ◌≤◌, ◌<◌, min}
 use native.Mathlib.Omega.{arith}
-use native.Mathlib.Nat.{add-zero, suc-mul, zero-mul, div-add-mod', div-lt_iff_lt-mul}
-use native.Mathlib.Nat.{lt-div-mul-add, div-mul-le_self}
+use native.Mathlib.Nat.{suc-mul, zero-mul, div-add-mod', div-lt_iff_lt-mul}
+use native.Mathlib.Nat.{lt-div-mul-add, div-mul-le_self, mul-le-mul_right}
+use Rattle.std.proofs.lemmas.Grind.{div_ceil_times}
 use native.Mathlib.Decide.{dec_le}
 use mathlib.Core.Path.{◌≡◌, refl, sym, ap, ◌∙◌}
-use mathlib.Core.List.{List, [], ◌∷◌, ◌++◌, append-nil}
-use lib.ListN.{length, take, drop, set, replicate, length-drop, drop_of_length-le, take-append-drop}
-use lib.ListN.{length-replicate, replicate-append-replicate}
+use mathlib.Core.List.{List, [], ◌++◌}
+use lib.ListN.{length, take, drop, replicate, length-drop, drop_of_length-le}
 use lib.Seq.{take_all, take-nil, take-add, drop-drop, length-take-le}
 use borrow.Author.Tests.{le-leb, lt-leb}
 use Rattle.rules.specs.Bytes.{smaller, table, end_to_end}
@@ -15,34 +15,9 @@ use Rattle.rules.specs.Seal.{over}
 use Rattle.rules.proofs.Laws.Lists.{smaller-min}
 use Rattle.rules.specs.Busiest.{shade, busiest_luma, busiest_part, InPieces}
 use Rattle.words.specs.Written.{written}
-use Rattle.words.proofs.Laws.{written-sets, length-written, written-append}
 use Rattle.words.proofs.Behind.{behind}
 use Rattle.luma_busiest.proofs.Laws.Luma.{luma-length, within}
 use Rattle.luma_busiest.proofs.Laws.Answers.{all-passed, luma-most}
-
--- ---- bytes of one value
-
--- one more of them, at place i
-pub value-more : (s : List ℕ) (from i v : ℕ) → from ≤ i → i < length s →
-    set (written from (replicate (i - from) v) s) i v ≡ written from (replicate (i + 1 - from) v) s
-value-more s from i v low high =
-    let k = i - from in
-    let bs = replicate k v in
-    let long : length bs ≡ k = length-replicate k v in
-    let size = length-written from bs s (omega arith) in
-    let place : i ≡ from + length bs = omega arith in
-    let more : i + 1 - from ≡ k + 1 = omega arith in
-    written-sets i (v ∷ []) (written from bs s) (omega arith)
-    ∙ ap (λ (j : ℕ). written j (v ∷ []) (written from bs s)) place
-    ∙ written-append from bs s (omega arith) (v ∷ [])
-    ∙ ap (λ (x : List ℕ). written from x s) (replicate-append-replicate k 1 v ∙ rw more)
-
--- none of them yet
-pub value_none : (s : List ℕ) (from v : ℕ) → s ≡ written from (replicate (from - from) v) s
-unfolding written
-value_none s from v =
-    let none : from - from ≡ 0 = omega arith in
-    rw (none, append-nil (take from s), add-zero from) (sym (take-append-drop from s))
 
 -- ---- a lent piece, from byte `at` on
 
@@ -55,6 +30,15 @@ picture-end size place some =
     let last : place < i * size + size = lt-div-mul-add {a = place} {b = size} some in
     let first : i * size ≤ place = div-mul-le_self place size in
     (omega arith, omega arith)
+
+-- picture i begins before the byte `last` and ends after the byte `at`
+pub touched : (size at last i : ℕ) → 0 < size → at / size ≤ i → i < last / size + min 1 (last % size) →
+    (i * size < last) × (at < (i + 1) * size)
+touched size at last i some low high =
+    let next : (i + 1) * size ≡ size + i * size = omega (arith, suc-mul i size) in
+    let most : (i + 1) * size ≤ (last / size + min 1 (last % size)) * size = mul-le-mul_right size (omega arith) in
+    let first : (at / size + 1) * size ≤ (i + 1) * size = mul-le-mul_right size (omega arith) in
+    (omega (arith, (div_ceil_times last size some).1), omega (arith, (picture-end size at some).0))
 
 module _ (w h d n at : ℕ) (before : List ℕ) where
   -- all of the luma from there on

@@ -1,11 +1,6 @@
--- `argument` meets its contract. The loop's invariant: the digits before place i are n, and the rest decides.
-use Prim.Native.Nat.{◌-◌}
-use lib.ListN.{length}
+-- `argument` meets its contract. The loop's invariant: the digits so far are n, and the rest decides.
 use Rattle.luma_busiest.proofs.Laws.Digits.{Read}
 use Rattle.luma_busiest.proofs.argument.Given as goal
 
-abbrev pub invariant-loop-i : goal.invariant-loop-i
-invariant-loop-i l = Read l.word l.n l.i
-
-abbrev pub decreases-loop-i : goal.decreases-loop-i
-decreases-loop-i l = length l.word - l.i
+abbrev pub invariant-loop-digit : goal.invariant-loop-digit
+invariant-loop-digit l = Read l.word l.n l.digit-index

@@ -1,130 +1,115 @@
-use Prim.Native.Nat.{ℕ, ◌+◌, ◌-◌, ◌*◌, ◌/◌}
+use Prim.Native.Nat.{◌+◌, ◌-◌, ◌*◌, ◌/◌, ◌%◌, ◌≤◌, min}
 use native.Mathlib.Omega.{arith}
-use native.Mathlib.Nat.{div-le_self}
-use mathlib.Core.Path.{◌≡◌, refl, ap, ◌∙◌}
-use mathlib.Core.List.{List}
-use lib.ListN.{length, replicate}
+use native.Mathlib.Nat.{suc-mul, mul-le-mul_right, div-mul-le_self, div-eq_of_lt-le}
+use mathlib.Core.Path.{◌≡◌, sym, ◌∙◌}
+use lib.ListN.{length, take, drop, replicate, length-replicate, length-drop}
+use lib.Seq.{length-take-le}
+use Rattle.std.proofs.lemmas.Grind.{div_ceil_times}
+use Rattle.rules.specs.Bytes.{smaller}
 use Rattle.rules.specs.Seal.{over}
+use Rattle.rules.specs.Busiest.{shade}
 use Rattle.rules.proofs.Laws.Lists.{smaller-min}
-use Rattle.words.specs.Written.{written}
+use Rattle.words.proofs.Laws.{part-written}
 use Rattle.luma_busiest.proofs.Laws.Answers.{picture-bytes, luma-most}
-use Rattle.luma_busiest.proofs.Laws.Pieces.{filled_none, filled_more, filled-all, end-length}
-use Rattle.luma_busiest.proofs.Laws.Pieces.{none_left, picture-end}
+use Rattle.luma_busiest.proofs.Laws.Pieces.{none_left, filled_none, filled_more, filled-all, end-length, touched}
 use Rattle.luma_busiest.proofs.fill_pictures.Goals as goal
 
 pub overflow_mul-size : goal.overflow_mul-size
-overflow_mul-size c = omega (arith, (picture-bytes _ _ c.requires.height_value).1)
+overflow_mul-size c = omega (arith, (picture-bytes _ _ c.requires.good_size).1)
 
 pub overflow_mul-all : goal.overflow_mul-all
-overflow_mul-all c = omega (arith, luma-most _ _ _ c.requires.height_value c.requires.pictures_bound)
+overflow_mul-all c = omega (arith, luma-most _ _ _ c.requires.good_size c.requires.few_pictures)
 
 pub returns-then-all-at : goal.returns-then-all-at
 unfolding over
 returns-then-all-at c =
     let a = c.args in
     let none = none_left a.width a.height a.time a.pictures a.at a.piece.now c.if-all-at.true in
-    record { value = rw none; piece_after = rw none }
+    record { length = rw none; bytes = rw none }
 
-pub loop-done-init : goal.loop-done-init
-loop-done-init c = (omega arith, refl, filled_none _ _ _ _ _ _)
+pub overflow_add-at : goal.overflow_add-at
+overflow_add-at c = omega (arith, luma-most _ _ _ c.requires.good_size c.requires.few_pictures)
 
-pub overflow_add-i : goal.overflow_add-i
-overflow_add-i c =
+pub loop-i-init : goal.loop-i-init
+loop-i-init c =
     let a = c.args in
-    let left = a.pictures * (a.width * a.height) - a.at in
+    let size = a.width * a.height in
+    let none : min (a.at / size * size - a.at) c.min-end.result ≡ 0 = omega (arith, div-mul-le_self a.at size) in
+    rw none (filled_none _ _ _ _ _ _)
+
+pub overflow_mul-i : goal.overflow_mul-i
+overflow_mul-i c =
+    let a = c.args in
+    let l = c.loop-i in
+    let some = (picture-bytes _ _ c.requires.good_size).0 in
     omega (
       arith,
-      luma-most a.width a.height a.pictures c.requires.height_value c.requires.pictures_bound,
-      smaller-min left (length a.piece.now),
+      luma-most _ _ _ c.requires.good_size c.requires.few_pictures,
+      (touched (a.width * a.height) a.at (a.at + c.min-end.result) l.i some (omega arith) (omega arith)).0,
     )
 
-pub nonzero_div-i : goal.nonzero_div-i
-nonzero_div-i c = omega (arith, (picture-bytes _ _ c.requires.height_value).0)
-
-pub overflow_add-next : goal.overflow_add-next
-overflow_add-next c =
+pub overflow_mul-i-in-loop-i : goal.overflow_mul-i-in-loop-i
+overflow_mul-i-in-loop-i c =
     let a = c.args in
-    let left = a.pictures * (a.width * a.height) - a.at in
+    let l = c.loop-i in
+    let size = picture-bytes _ _ c.requires.good_size in
     omega (
       arith,
-      luma-most a.width a.height a.pictures c.requires.height_value c.requires.pictures_bound,
-      smaller-min left (length a.piece.now),
-      div-le_self (a.at + c.loop-done.done) (a.width * a.height),
+      size.1,
+      suc-mul l.i (a.width * a.height),
+      luma-most _ _ _ c.requires.good_size c.requires.few_pictures,
+      (touched (a.width * a.height) a.at (a.at + c.min-end.result) l.i size.0 (omega arith) (omega arith)).0,
     )
 
-pub overflow_mul-next : goal.overflow_mul-next
-overflow_mul-next c =
+pub overflow_sub-i : goal.overflow_sub-i
+overflow_sub-i c =
     let a = c.args in
-    let size = picture-bytes a.width a.height c.requires.height_value in
-    let left = a.pictures * (a.width * a.height) - a.at in
+    let l = c.loop-i in
+    let some = (picture-bytes _ _ c.requires.good_size).0 in
     omega (
       arith,
-      luma-most a.width a.height a.pictures c.requires.height_value c.requires.pictures_bound,
-      smaller-min left (length a.piece.now),
-      (picture-end (a.width * a.height) (a.at + c.loop-done.done) size.0).1,
+      (touched (a.width * a.height) a.at (a.at + c.min-end.result) l.i some (omega arith) (omega arith)).1,
     )
 
-pub overflow_sub-next : goal.overflow_sub-next
-overflow_sub-next c =
+pub loop-i-preserved : goal.loop-i-preserved
+loop-i-preserved c =
     let a = c.args in
-    let size = picture-bytes a.width a.height c.requires.height_value in
-    omega (arith, (picture-end (a.width * a.height) (a.at + c.loop-done.done) size.0).0)
-
-pub fill-requires : goal.fill-requires
-fill-requires c =
-    let l = c.loop-done in
-    let a = c.args in
-    let size = picture-bytes a.width a.height c.requires.height_value in
-    let end = c.smaller-end in
-    let left = a.pictures * (a.width * a.height) - a.at in
-    let place = a.at + l.done in
-    let next = (place / (a.width * a.height) + 1) * (a.width * a.height) - a.at in
-    let far = (picture-end (a.width * a.height) place size.0).0 in
-    let to = smaller-min next end.result in
-    let most = smaller-min left (length a.piece.now) in
-    record { from_le_to = omega arith; to_in_bounds = omega arith }
-
-pub loop-done-smaller : goal.loop-done-smaller
-loop-done-smaller c =
-    let l = c.loop-done in let a = c.args in
-    let size = picture-bytes a.width a.height c.requires.height_value in
-    let end = c.smaller-end in
-    let place = a.at + l.done in
-    let next = (place / (a.width * a.height) + 1) * (a.width * a.height) - a.at in
-    let far = (picture-end (a.width * a.height) place size.0).0 in
-    let to = smaller-min next end.result in
-    omega arith
-
-pub loop-done-preserved : goal.loop-done-preserved
-loop-done-preserved c =
-    let l = c.loop-done in let a = c.args in
-    let size = picture-bytes a.width a.height c.requires.height_value in
-    let end = c.smaller-end in let made = c.fill in
-    let left = a.pictures * (a.width * a.height) - a.at in
-    let place = a.at + l.done in
-    let i = place / (a.width * a.height) in
-    let next = (i + 1) * (a.width * a.height) - a.at in
-    let far = (picture-end (a.width * a.height) place size.0).0 in
-    let to = smaller-min next end.result in
-    let most = smaller-min left (length a.piece.now) in
-    let end-of-run = c.smaller-to.result in
-    let put : ℕ → List ℕ = λ v. written l.done (replicate (end-of-run - l.done) v) l.piece in
-    let own = ap put c.shade_of.ensures in
-    let more = filled_more a.width a.height a.time a.pictures a.at a.piece.now l.done end-of-run
-    i _ _ size.0 refl (omega arith) (omega arith) (omega arith) (omega arith) l.invariant.2 (made.ensures ∙ own) in
-    (omega arith, made.auto.piece ∙ l.invariant.1, more)
-
-pub shape_of-piece : goal.shape_of-piece
-shape_of-piece c = c.loop-done.invariant.1
+    let l = c.loop-i in
+    let size = a.width * a.height in
+    let some = (picture-bytes _ _ c.requires.good_size).0 in
+    let here = touched size a.at (a.at + c.min-end.result) l.i some (omega arith) (omega arith) in
+    let from = c.saturating_sub-from.result in
+    let to = c.min-to.result in
+    let begins : min (l.i * size - a.at) c.min-end.result ≡ from = omega arith in
+    let next : min ((l.i + 1) * size - a.at) c.min-end.result ≡ to = omega arith in
+    let later = suc-mul l.i size in
+    let up : from ≤ to = omega arith in
+    let room : to ≤ length l.piece = omega arith in
+    let i-is : l.i ≡ (a.at + from) / size = sym (div-eq_of_lt-le size (omega arith) (omega arith)) in
+    let long : length (take (to - from) (drop from l.piece)) ≡ to - from =
+    length-take-le (to - from) (drop from l.piece) (omega (arith, length-drop from l.piece)) in
+    let bytes = replicate (to - from) (shade a.time l.i) in
+    let many : length bytes ≡ to - from = length-replicate (to - from) (shade a.time l.i) in
+    let value : c.fill.new.self ≡ bytes =
+    c.fill.ensures.after (λ y e. e) ∙ rw (long, c.shade_of.ensures) in
+    rw next (filled_more a.width a.height a.time a.pictures a.at a.piece.now from to l.i l.piece _ some i-is up
+    (omega arith) (omega arith) (omega arith) (rw begins at l.invariant)
+    (part-written from bytes l.piece (omega arith) (sym many) value))
 
 pub returns : goal.returns
 returns c =
     let a = c.args in
-    let l = c.loop-done in
-    let e = c.smaller-end.ensures in
-    let last : l.done ≡ c.smaller-end.result = omega arith in
-    let full = rw (last ∙ e) at l.invariant.2 in
+    let l = c.loop-i in
+    let size = a.width * a.height in
+    let last = a.at + c.min-end.result in
+    let some = (picture-bytes _ _ c.requires.good_size).0 in
+    let far : (last / size + min 1 (last % size)) * size ≤ l.i * size = mul-le-mul_right size (omega arith) in
+    let whole : min (l.i * size - a.at) c.min-end.result ≡ c.min-end.result =
+    omega (arith, (div_ceil_times last size some).0) in
+    let left = a.pictures * size - a.at in
+    let end : c.min-end.result ≡ smaller left (length a.piece.now) =
+    c.min-end.ensures ∙ sym (smaller-min left (length a.piece.now)) in
     record {
-      value = e ∙ end-length a.width a.height a.time a.pictures a.at a.piece.now;
-      piece_after = filled-all a.width a.height a.time a.pictures a.at a.piece.now l.piece full;
+      length = end ∙ end-length a.width a.height a.time a.pictures a.at a.piece.now;
+      bytes = filled-all a.width a.height a.time a.pictures a.at a.piece.now l.piece (rw (whole ∙ end) at l.invariant);
     }

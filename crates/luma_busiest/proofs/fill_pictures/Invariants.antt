@@ -1,14 +1,10 @@
--- `fill_pictures` meets its contract. The loop's invariant: the piece's first bytes, up to `done`, are the luma's.
-use Prim.Native.Nat.{◌-◌, ◌≤◌}
-use mathlib.Core.Path.{◌≡◌}
-use lib.ListN.{length}
+-- `fill_pictures` meets its contract. The loop's invariant: the piece's first bytes, up to where picture i begins, are
+-- the luma's.
+use Prim.Native.Nat.{◌-◌, ◌*◌, min}
 use Rattle.luma_busiest.proofs.Laws.Pieces.{Filled}
 use Rattle.luma_busiest.proofs.fill_pictures.Given as goal
 
-abbrev pub invariant-loop-done : goal.invariant-loop-done
-invariant-loop-done l =
-    (l.done ≤ l.end) × (length l.piece ≡ length l.initial.piece)
-    × Filled l.width l.height l.time l.pictures l.at l.initial.piece l.done l.piece
-
-abbrev pub decreases-loop-done : goal.decreases-loop-done
-decreases-loop-done l = l.end - l.done
+abbrev pub invariant-loop-i : goal.invariant-loop-i
+invariant-loop-i l =
+    let begins = min (l.i * (l.width * l.height) - l.at) l.end in
+    Filled l.width l.height l.time l.pictures l.at l.initial.piece begins l.piece

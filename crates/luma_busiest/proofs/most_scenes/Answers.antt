@@ -3,7 +3,7 @@ use Prim.Native.Nat.{ℕ, ◌+◌, ◌-◌, ◌/◌}
 use native.Mathlib.Omega.{arith}
 use native.Mathlib.Nat.{div-le_self}
 use mathlib.Core.Path.{sym, ap, ◌∙◌}
-use Rattle.rules.specs.declared.Answer.TheVariants.{Done}
+use Rattle.std.specs.Prelude.{Ok}
 use Rattle.luma_laws.proofs.Least.{good-between}
 use Rattle.luma_busiest.proofs.Laws.Answers.{wrong-time, no-picture, many-pictures, few_pictures, more-pictures}
 use Rattle.luma_busiest.proofs.most_scenes.Goals as goal
@@ -43,5 +43,5 @@ pub returns : goal.returns
 returns c =
     let n = c.args.pictures in
     let good = sym c.good_time.ensures ∙ c.if-not-good_time.false in
-    ap (λ (m : ℕ). Done (1 + (n - 3) / m)) c.least_between-m.ensures ∙ more-pictures c.args.time
+    ap (λ (m : ℕ). Ok (1 + (n - 3) / m)) c.least_between-m.ensures ∙ more-pictures c.args.time
     n good (omega arith) (omega arith)

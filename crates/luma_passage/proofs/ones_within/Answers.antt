@@ -10,4 +10,4 @@ returns c =
     let a = c.args in
     let ones = masked a.word a.from a.n c.requires.1 in
     let few = part-few (a.word / 2 ^ a.from) a.n in
-    (omega arith, c.wide.ensures.0 ∙ ones)
+    (omega arith, c.from.ensures ∙ ones)

@@ -11,7 +11,7 @@ returns-then-i-lt4 c =
         ← c.slot_of-y.ensures.0,
         ← c.slot_of-z.ensures.0,
       ) c.least_of_two-next.ensures;
-      small = c.first.ensures;
+      small = λ k. omega (arith, c.fits-bins k);
     }
 
 pub returns : goal.returns
@@ -34,5 +34,5 @@ returns c =
         ← c.slot_of-y.ensures.0,
         ← c.slot_of-z.ensures.0,
       ) c.least_of_two-next.ensures;
-      small = c.first.ensures;
+      small = λ k. omega (arith, c.fits-bins k);
     }

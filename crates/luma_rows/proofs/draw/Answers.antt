@@ -3,24 +3,20 @@ use Rattle.luma_rows.proofs.Rows.{at-row-end, within-row, to-row-end}
 use Rattle.std.proofs.Common.{arith, rules}
 use Rattle.luma_rows.proofs.draw.Goals as goal
 
-pub plain_rows-j-requires : goal.plain_rows-j-requires
-plain_rows-j-requires c = c.requires
-
 pub overflow_mul-used : goal.overflow_mul-used
 overflow_mul-used c =
-    let at = c.plain_rows-j.ensures c.if-j-gt0.true in
+    let at = c.plain_rows.ensures _ c.in-Some.is in
     let a = c.args in
     omega (arith, rows-room a.g a.s a.rest.now _ at)
 
 pub take_plain-e-requires : goal.take_plain-e-requires
 take_plain-e-requires c =
-    c.plain_rows-j.ensures
-    c.if-j-gt0.true
+    c.plain_rows.ensures _ c.in-Some.is
 
-pub returns-then-j-gt0 : goal.returns-then-j-gt0
-returns-then-j-gt0 c =
+pub returns-in-Some : goal.returns-in-Some
+returns-in-Some c =
     let p = c.requires in
-    took-plain _ _ p.0 (c.plain_rows-j.ensures c.if-j-gt0.true)
+    took-plain _ _ p.0 (c.plain_rows.ensures _ c.in-Some.is)
     c.take_plain-e.ensures
 
 pub feed_rows-p-requires : goal.feed_rows-p-requires

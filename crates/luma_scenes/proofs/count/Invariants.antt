@@ -1,5 +1,5 @@
 -- `luma_scenes::count` meets its contract. The loop's invariant: the scenes counted and those from the start b on are
--- all. The measure is the pictures that are left. Assumes nothing.
+-- all. The measure is the pictures that are left.
 use Prim.Native.Nat.{◌-◌, ◌≤◌}
 use Rattle.luma_scenes.proofs.Loops.{Tallied}
 use Rattle.luma_scenes.proofs.count.Given as goal

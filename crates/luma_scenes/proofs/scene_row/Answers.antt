@@ -1,13 +1,10 @@
--- `luma_scenes::scene_row` meets its contract. Assumes nothing.
+-- `luma_scenes::scene_row` meets its contract.
 use native.Mathlib.Omega.{arith}
 use Rattle.luma_scenes.proofs.Loops.{row_is}
 use Rattle.luma_scenes.proofs.scene_row.Goals as goal
 
 pub returns-then-j-gt-PICTURES : goal.returns-then-j-gt-PICTURES
 returns-then-j-gt-PICTURES c = λ n ss rs qs h g f. absurd (omega arith)
-
-pub returns-then-j-i : goal.returns-then-j-i
-returns-then-j-i c = λ n ss rs qs h g f. absurd (omega arith)
 
 pub returns : goal.returns
 returns c =
@@ -24,5 +21,5 @@ returns c =
       c.low-4.ensures,
       c.low-5.ensures,
     ) (row_is a.luma.now a.i a.j repeats.result run.result scores.result peak.result
-    changes.result repeats.ensures run.ensures scores.ensures peak.ensures changes.ensures n ss rs
-    qs h g f)
+    changes.result repeats.ensures run.ensures c.told-luma c.if-j-gt-PICTURES.false
+    scores.ensures peak.ensures changes.ensures n ss rs qs h g f)

@@ -1,15 +1,12 @@
-use Rattle.std.proofs.Common.{◌≡◌, arith}
-use Rattle.luma_tiles.proofs.Laws.{zeros-none, zeros-more, zeros-all}
+use Rattle.std.proofs.Common.{◌≡◌, length, get_or, length-take, length-drop, ap, ◌∙◌, arith}
+use Rattle.std.proofs.lemmas.List.{get_or-replicate}
+use Rattle.luma_tiles.proofs.Laws.{zeros-all}
 use Rattle.luma_tiles.proofs.clear.Goals as goal
-
-pub loop-i-init : goal.loop-i-init
-loop-i-init c = (omega arith, zeros-none _ _)
-
-pub loop-i-preserved : goal.loop-i-preserved
-loop-i-preserved c = (omega arith, zeros-more c.loop-i.invariant.1 c.requires c.loop-i-test.true)
 
 pub returns : goal.returns
 returns c =
-    let l = c.loop-i in
-    let e : l.i ≡ 144 = omega arith in
-    zeros-all (rw e at l.invariant.1)
+    let f = c.fill.ensures in
+    let len = simp (length-take, length-drop) at f.len in
+    let size : length c.fill.new.self ≡ 144 = omega arith in
+    zeros-all c.args.base _ c.args.counts.now c.fill.new.self (omega arith) (omega arith) size
+    (λ i h. ap (λ xs. get_or xs i 0) (f.after (λ y e. e)) ∙ get_or-replicate _ i 0 0 (omega (arith, f.len)))

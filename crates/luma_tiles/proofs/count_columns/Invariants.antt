@@ -1,10 +1,8 @@
--- `count_columns` meets its contract. The loop's invariant: the first i pixels of each of the three runs are counted.
-use Rattle.std.proofs.Common.{◌-◌, ◌≤◌}
+-- The first i pixels of each of the three are counted.
+use Rattle.std.proofs.Common.{take}
 use Rattle.luma_tiles.specs.Bins.{Three}
 use Rattle.luma_tiles.proofs.count_columns.Given as goal
 
 abbrev pub invariant-loop-i : goal.invariant-loop-i
-invariant-loop-i l = (l.i ≤ l.m) × Three l.base l.t l.pixels l.x l.y l.z l.i l.initial.counts l.counts
-
-abbrev pub decreases-loop-i : goal.decreases-loop-i
-decreases-loop-i l = l.m - l.i
+invariant-loop-i l =
+    Three l.base l.t (take l.i l.first) (take l.i l.second) (take l.i l.third) l.initial.counts l.counts

@@ -1,83 +1,76 @@
-use Rattle.std.proofs.Common.{refl, arith, rules}
+use Rattle.std.proofs.Common.{◌≡◌, ◌+◌, ◌-◌, ◌*◌, take, drop, length-take, length-drop, ap, arith}
 use Rattle.rules.specs.Histograms.{third}
 use Rattle.luma_laws.proofs.Histograms.{third-small}
 use Rattle.luma_laws.proofs.Columns.{edges}
-use Rattle.luma_tiles.proofs.Laws.{row-counted}
+use Rattle.luma_tiles.proofs.Laws.{parts-counted}
 use Rattle.luma_tiles.proofs.count_row.Goals as goal
+
+pub split_at-requires : goal.split_at-requires
+split_at-requires c =
+    let e = edges c.requires.boundary c.requires.boundary_2 in
+    simp (length-take, length-drop) (omega arith)
+
+pub overflow_sub-tiles : goal.overflow_sub-tiles
+overflow_sub-tiles c =
+    let e = edges c.requires.boundary c.requires.boundary_2 in
+    omega arith
+
+pub split_at-requires-2 : goal.split_at-requires-2
+split_at-requires-2 c =
+    let e = edges c.requires.boundary c.requires.boundary_2 in
+    let l = simp (length-take, length-drop) at c.split_at.ensures.back_len in
+    omega arith
 
 pub overflow_mul-t-2 : goal.overflow_mul-t-2
 unfolding third
-overflow_mul-t-2 c = omega (arith, third-small c.args.h c.args.r c.requires.inside)
-
-pub overflow_sub-m : goal.overflow_sub-m
-overflow_sub-m c = let e = edges c.requires.boundary c.requires.boundary_2 in omega arith
-
-pub overflow_add-from : goal.overflow_add-from
-overflow_add-from c = let e = edges c.requires.boundary c.requires.boundary_2 in omega arith
-
-pub overflow_add-from-2 : goal.overflow_add-from-2
-overflow_add-from-2 c = let e = edges c.requires.boundary c.requires.boundary_2 in omega arith
+overflow_mul-t-2 c =
+    let t = third-small c.args.tiles.lines c.args.r c.requires.inside in
+    omega arith
 
 pub count_columns-requires : goal.count_columns-requires
 unfolding third
 count_columns-requires c =
     let e = edges c.requires.boundary c.requires.boundary_2 in
-    let t = third-small c.args.h c.args.r c.requires.inside in
-    record { slot = omega arith; tiles = omega arith; first = omega arith; second = omega arith; third = omega arith }
+    let t = third-small c.args.tiles.lines c.args.r c.requires.inside in
+    record {
+      slot = omega arith;
+      tiles = omega arith;
+      second = simp length-take (omega arith);
+      third = simp length-take (omega arith);
+    }
 
-pub overflow_add-from-3 : goal.overflow_add-from-3
-overflow_add-from-3 c = search (rules, edges)
+pub slice_bounds-count_columns-end-2 : goal.slice_bounds-count_columns-end-2
+slice_bounds-count_columns-end-2 c =
+    let e = edges c.requires.boundary c.requires.boundary_2 in
+    simp length-take (omega arith)
 
-pub overflow_sub-second : goal.overflow_sub-second
-overflow_sub-second c = search (rules, edges)
+pub slice_bounds-count_rest-count-2 : goal.slice_bounds-count_rest-count-2
+slice_bounds-count_rest-count-2 c =
+    let e = edges c.requires.boundary c.requires.boundary_2 in
+    omega arith
 
-pub count_last-requires : goal.count_last-requires
-unfolding third
-count_last-requires c =
-    let e =
-    edges c.requires.boundary c.requires.boundary_2 in
-    let t = third-small c.args.h c.args.r
-    c.requires.inside in
-    (omega arith, omega arith, omega arith, omega arith)
+pub slice_bounds-count_rest-start-2 : goal.slice_bounds-count_rest-start-2
+slice_bounds-count_rest-start-2 c =
+    let e = edges c.requires.boundary c.requires.boundary_2 in
+    omega arith
 
 pub overflow_add-t : goal.overflow_add-t
 unfolding third
 overflow_add-t c =
-    let t = third-small c.args.h c.args.r c.requires.inside in
+    let t = third-small c.args.tiles.lines c.args.r c.requires.inside in
     omega arith
-
-pub overflow_add-from-4 : goal.overflow_add-from-4
-overflow_add-from-4 c =
-    let e = edges c.requires.boundary c.requires.boundary_2 in
-    omega arith
-
-pub overflow_add-from-5 : goal.overflow_add-from-5
-overflow_add-from-5 c =
-    let e = edges c.requires.boundary c.requires.boundary_2 in
-    omega arith
-
-pub overflow_sub-third : goal.overflow_sub-third
-overflow_sub-third c =
-    let e = edges c.requires.boundary c.requires.boundary_2 in
-    omega arith
-
-pub overflow_sub-third-2 : goal.overflow_sub-third-2
-overflow_sub-third-2 c =
-    let e = edges c.requires.boundary c.requires.boundary_2 in
-    omega arith
-
-pub count_last-requires-2 : goal.count_last-requires-2
-unfolding third
-count_last-requires-2 c =
-    let e = edges c.requires.boundary c.requires.boundary_2 in
-    let t = third-small c.args.h c.args.r c.requires.inside in
-    (omega arith, omega arith, omega arith, omega arith)
 
 pub returns : goal.returns
 unfolding third
 returns c =
-    let a = c.args in let p = c.requires in
-    let e = edges p.boundary p.boundary_2 in
-    row-counted a.w a.h a.r a.base _ _ _ a.pixels.now e.second e.third refl p.wide p.there
-    c.count_columns.ensures c.count_last.ensures
-    c.count_last-2.ensures
+    let p = c.requires in
+    let a = c.args in
+    let e = edges c.requires.boundary c.requires.boundary_2 in
+    let w = a.tiles.columns in
+    let all : a.r * w + w - a.r * w ≡ w = omega arith in
+    let one = c.split_at.ensures in
+    let two = c.split_at-2.ensures in
+    let whole = simp (length-take, length-drop) at one.back_len in
+    parts-counted w a.tiles.lines a.r a.base _ _ _ a.pixels.now e.second e.third (omega arith) p.wide p.there
+    (ap (λ n. take n (drop (a.r * w) a.pixels.now)) all) one.front one.back two.front two.back
+    c.count_columns.ensures c.count_rest.ensures c.count_rest-2.ensures

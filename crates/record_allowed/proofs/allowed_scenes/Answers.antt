@@ -6,7 +6,7 @@ use borrow.Author.Rules.{rules}
 use Rattle.record_allowed.proofs.allowed_scenes.Goals as goal
 
 pub loop-j-init : goal.loop-j-init
-loop-j-init c = (omega arith, omega arith, rw (sub-zero, add-zero))
+loop-j-init c = (omega arith, rw (sub-zero, add-zero))
 
 pub allowed_scene-requires : goal.allowed_scene-requires
 allowed_scene-requires c = simp (length-take, length-drop) (omega arith)
@@ -18,13 +18,7 @@ pub word-from-requires : goal.word-from-requires
 word-from-requires c = simp (length-take, length-drop) (omega arith)
 
 pub loop-j-preserved : goal.loop-j-preserved
-loop-j-preserved c = (
-  omega arith,
-  omega arith,
-  scenes-more c.args.bytes.now c.args.place c.args.pictures c.args.n c.loop-j.j
-      c.loop-j.from c.loop-j-test.true c.allowed_scene.result _ c.loop-j.invariant.2
-      c.allowed_scene.ensures c.word-from.result c.word-from.ensures.0 c.if-not-allowed_scene.false,
-)
+loop-j-preserved c = search (rules, scenes-more)
 
 pub returns : goal.returns
 returns c = search (rules, scenes-end)

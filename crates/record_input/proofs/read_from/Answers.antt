@@ -1,39 +1,30 @@
--- Each read puts its bytes behind those that stand at the buffer's front, which stay.
-use Rattle.std.proofs.Common.{◌≡◌, ℕ, ◌+◌, ◌-◌, ◌≤◌, List, ◌++◌, rules, arith, length, take, slice_range, sym, ap}
-use Rattle.std.proofs.Common.{◌∙◌, subst, le_refl, drop_at, length-take-le}
-use Rattle.std.proofs.lemmas.Slice.{take-put_mid_below}
+-- Each read puts its bytes after those at the buffer's front, which stay.
+use Rattle.std.proofs.Common.{◌≡◌, ℕ, ◌+◌, ◌≤◌, List, ◌++◌, rules, length, take, subst, refl, sym}
+use Rattle.std.proofs.Common.{take_at, drop_at, length-take-le}
 use Rattle.std.specs.Io.KnownBytes.{Consumes}
 use Rattle.std.proofs.KnownBytes.{Consumes-trans}
 use borrow.Rule.Slice.PartMut.{put_mid, post_of}
 use lib.Seq.{take-add, take-append-le}
 use Rattle.record_input.proofs.read_from.Goals as goal
 
-take_split : (a b : ℕ) (old new : List ℕ) → a ≤ b → take a new ≡ take a old → take a old
-    ++ slice_range new a b ≡ take b new
-take_split a b old new h front =
-    let same : a + (b - a) ≡ b = omega arith in
-    ap (λ l. l ++ slice_range new a b) (sym front) ∙ sym (take-add a (b - a) new) ∙ ap (λ n. take n new) same
-
-slice_range-put_mid : (a k n : ℕ) (xs ys : List ℕ) → a ≤ length xs → n ≤ length ys →
-    slice_range (put_mid a k xs ys) a (a + n) ≡ take n ys
-slice_range-put_mid a k n xs ys within fits =
-    let same : (a + n) - a ≡ n = omega arith in
-    let after = post_of a k xs in
-    ap (take ((a + n) - a)) (drop_at (take a xs) (ys ++ after) a (length-take-le a xs within))
-    ∙ ap (λ m. take m (ys ++ after)) same ∙ take-append-le n ys after fits
+-- what was read before, and the n bytes that one read put after it
+joined : (a k n : ℕ) (xs ys : List ℕ) → a ≤ length xs → n ≤ length ys →
+    take a xs ++ take n ys ≡ take (a + n) (put_mid a k xs ys)
+joined a k n xs ys within fits =
+    let after = ys ++ post_of a k xs in
+    let front = length-take-le a xs within in
+    sym (rw (
+      take-add a n (take a xs ++ after),
+      take_at (take a xs) after a front,
+      drop_at (take a xs) after a front,
+      take-append-le n ys (post_of a k xs) fits,
+    ) refl)
 
 pub loop-end-preserved : goal.loop-end-preserved
 loop-end-preserved g c =
-    let from = c.loop-end.end in
-    let room = length c.loop-end.input - from in
-    let within = c.loop-end.invariant.in_range in
-    let part =
-    slice_range-put_mid from room c.in-Ok.n c.loop-end.input c.read.new.buf within c.in-Ok.ensures.bound.0 in
-    let joined = take_split from (from + c.in-Ok.n) c.loop-end.input
-    (put_mid from room c.loop-end.input c.read.new.buf) (omega arith)
-    (take-put_mid_below _ _ _ _ _ (le_refl _) within) in
+    let l = c.loop-end in
+    let all = joined l.end _ c.in_ok-n.n l.input c.read.new.buf l.invariant.in_range c.in_ok-n.ensures.bound.0 in
     record {
       in_range = search rules;
-      bytes = subst (Consumes _ _) (ap (λ l. take from c.loop-end.input ++ l) (sym part) ∙ joined)
-          (Consumes-trans _ _ _ _ _ c.loop-end.invariant.bytes c.in-Ok.ensures.bytes.0);
+      bytes = subst (Consumes _ _) all (Consumes-trans _ _ _ _ _ l.invariant.bytes c.in_ok-n.ensures.bytes.0);
     }

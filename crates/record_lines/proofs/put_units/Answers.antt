@@ -1,5 +1,4 @@
 use native.Mathlib.Omega.{arith}
-use mathlib.Core.Path.{◌≡◌, refl}
 use Prim.Native.Nat.{ℕ}
 use Rattle.rules.specs.Reading.{unit_place, unit_at}
 use Rattle.rules.specs.Sheet.{unit_line}
@@ -8,11 +7,8 @@ use Rattle.record_lines.proofs.put_units.Goals as goal
 
 pub loop-j-init : goal.loop-j-init
 loop-j-init c =
-    let a = c.args in (
-      omega arith,
-      refl,
-      no_lines (λ (i : ℕ). unit_line a.known i (unit_at a.bytes.now i)) a.at a.buffer.now,
-    )
+    let a = c.args in
+    no_lines (λ (i : ℕ). unit_line a.known i (unit_at a.bytes.now i)) a.at a.buffer.now
 
 pub unit_row-row-requires : goal.unit_row-row-requires
 unfolding unit_place
@@ -21,15 +17,6 @@ unit_row-row-requires c = omega arith
 pub loop-j-preserved : goal.loop-j-preserved
 loop-j-preserved c =
     let a = c.args in
-    let l = c.loop-j in (
-      omega arith,
-      omega arith,
-      line-more (λ (i : ℕ). unit_line a.known i (unit_at a.bytes.now i)) l.j (omega arith) l.invariant.2
-          (rw c.unit_row-row.ensures at c.unit_line-end.ensures),
-    )
-
-pub returns : goal.returns
-returns c =
     let l = c.loop-j in
-    let e : l.j ≡ c.args.units = omega arith in
-    rw e at l.invariant.2
+    line-more (λ (i : ℕ). unit_line a.known i (unit_at a.bytes.now i)) l.j (omega arith) l.invariant
+    (rw c.unit_row-row.ensures at c.unit_line-end.ensures)

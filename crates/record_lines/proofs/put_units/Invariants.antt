@@ -1,7 +1,5 @@
 -- `put_units` meets its contract. The invariant: the first j lines are put. Assumes nothing.
-use mathlib.Core.Path.{◌≡◌}
-use Prim.Native.Nat.{ℕ, ◌-◌, ◌*◌, ◌≤◌}
-use lib.ListN.{length}
+use Prim.Native.Nat.{ℕ, ◌*◌}
 use Rattle.record_lines.specs.Put.{Put, lines_to}
 use Rattle.rules.specs.Reading.{unit_at}
 use Rattle.rules.specs.Sheet.{unit_line}
@@ -9,9 +7,5 @@ use Rattle.record_lines.proofs.put_units.Given as goal
 
 abbrev pub invariant-loop-j : goal.invariant-loop-j
 invariant-loop-j l =
-    (l.j ≤ l.units) × (length l.buffer ≡ length l.initial.buffer)
-    × Put l.at (101 * l.j)
+    Put l.at (101 * l.j)
     (lines_to l.j (λ (i : ℕ). unit_line l.known i (unit_at l.bytes i))) l.initial.buffer l.end l.buffer
-
-abbrev pub decreases-loop-j : goal.decreases-loop-j
-decreases-loop-j l = l.units - l.j

@@ -12,8 +12,8 @@ put_numbers-end-requires c =
     let later = figure a.s.longest (search rules) (figure a.s.score (search rules) last) in
     let rest = figure a.s.pictures (search rules) (figure a.s.repeated (search rules) later) in
     record {
-      le_width = (search rules, figure a.j (search rules) (figure a.s.first (search rules) rest));
-      numbers_in_bounds = search rules;
+      each_fits = (search rules, figure a.j (search rules) (figure a.s.first (search rules) rest));
+      room = search rules;
     }
 
 pub returns : goal.returns

@@ -1,17 +1,15 @@
-use mathlib.Core.Path.{refl}
 use borrow.Author.Rules.{rules}
 use native.Mathlib.Omega.{arith}
-use Rattle.record_reader.proofs.Answers.{accepted, refused, header-given, header_refused}
+use Rattle.rules.specs.Reading.{header_answer}
+use Rattle.record_reader.proofs.Answers.{accepted, refused-as, header-given}
 use Rattle.record_reader.proofs.header.Goals as goal
 
+pub returns-in_err-open : goal.returns-in_err-open
+unfolding header_answer
+returns-in_err-open c = search (rules, refused-as)
+
 pub header_figures-requires : goal.header_figures-requires
-header_figures-requires c = omega (arith, (accepted c.args.bytes.now _ c.in-Accepted.ensures _ _ refl).size)
+header_figures-requires c = omega (arith, (accepted _ _ c.«open».ensures _ _ c.in_ok-open.was).size)
 
-pub returns-in-Accepted : goal.returns-in-Accepted
-returns-in-Accepted c =
-    header-given c.args.bytes.now _
-    (accepted c.args.bytes.now _ c.in-Accepted.ensures _ _ refl).fault
-    c.header_figures.ensures
-
-pub returns-in-Refused : goal.returns-in-Refused
-returns-in-Refused c = search (rules, header_refused, refused)
+pub returns : goal.returns
+returns c = header-given _ _ (accepted _ _ c.«open».ensures _ _ c.in_ok-open.was).fault c.header_figures.ensures

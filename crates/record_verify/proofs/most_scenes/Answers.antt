@@ -1,10 +1,12 @@
 -- `most_scenes` meets its contract: what the reader allows is not refused. Assumes nothing.
-use mathlib.Core.Path.{refl}
-use Rattle.record_verify.proofs.Answers.{most-done, most-refused}
+use Prim.Native.Nat.{ℕ}
+use mathlib.Core.Path.{ap, ◌∙◌}
+use Rattle.std.specs.Result.{result_unwrap_or}
+use Rattle.rules.specs.Refusals.{Answer}
+use Rattle.record_verify.proofs.Answers.{most-given}
 use Rattle.record_verify.proofs.most_scenes.Goals as goal
 
-pub returns-in-Done : goal.returns-in-Done
-returns-in-Done c = most-done _ _ c.requires _ c.in-Done.ensures _ refl
-
-pub returns-in-Refused : goal.returns-in-Refused
-returns-in-Refused c = absurd (most-refused _ _ c.requires _ c.in-Refused.ensures _ _ refl)
+pub returns : goal.returns
+returns c =
+    c.unwrap_or.ensures
+    ∙ ap (λ (a : Answer ℕ). result_unwrap_or a 0) (c.most_scenes.ensures ∙ most-given _ _ c.requires)

@@ -14,10 +14,9 @@ loop-j-init c =
       omega arith,
       omega arith,
       omega arith,
-      omega arith,
-      rw c.requires.0 (none_yet (λ (k : ℕ). (unit_at r k).packets) _),
-      rw c.requires.0 (none_yet (λ (k : ℕ). (unit_at r k).lost) _),
-      rw c.requires.0 (none_yet (λ (k : ℕ). (unit_at r k).damaged) _),
+      rw c.requires.counts.0 (none_yet (λ (k : ℕ). (unit_at r k).packets) _),
+      rw c.requires.counts.0 (none_yet (λ (k : ℕ). (unit_at r k).lost) _),
+      rw c.requires.counts.0 (none_yet (λ (k : ℕ). (unit_at r k).damaged) _),
     )
 
 pub unit_row-row-requires : goal.unit_row-row-requires
@@ -32,12 +31,11 @@ loop-j-preserved c =
       omega arith,
       omega arith,
       omega arith,
-      omega arith,
-      one_more (λ (k : ℕ). (unit_at r k).packets) _ c.loop-j.j _ _ _ c.loop-j.invariant.4 t
+      one_more (λ (k : ℕ). (unit_at r k).packets) _ c.loop-j.j _ _ _ c.loop-j.invariant.3 t
           (ap (λ (x : UnitRow). x.packets) e),
-      one_more (λ (k : ℕ). (unit_at r k).lost) _ c.loop-j.j _ _ _ c.loop-j.invariant.5 t
+      one_more (λ (k : ℕ). (unit_at r k).lost) _ c.loop-j.j _ _ _ c.loop-j.invariant.4 t
           (ap (λ (x : UnitRow). x.lost) e),
-      one_more (λ (k : ℕ). (unit_at r k).damaged) _ c.loop-j.j _ _ _ c.loop-j.invariant.6 t
+      one_more (λ (k : ℕ). (unit_at r k).damaged) _ c.loop-j.j _ _ _ c.loop-j.invariant.5 t
           (ap (λ (x : UnitRow). x.damaged) e),
     )
 
@@ -45,9 +43,9 @@ pub returns : goal.returns
 returns c =
     let r = c.args.bytes.now in
     record {
-      packets = all_done (λ (k : ℕ). (unit_at r k).packets) _ _ _ _ c.loop-j.invariant.4 c.loop-j-test.false;
-      lost = all_done (λ (k : ℕ). (unit_at r k).lost) _ _ _ _ c.loop-j.invariant.5 c.loop-j-test.false;
-      damaged = all_done (λ (k : ℕ). (unit_at r k).damaged) _ _ _ _ c.loop-j.invariant.6 c.loop-j-test.false;
+      packets = all_done (λ (k : ℕ). (unit_at r k).packets) _ _ _ _ c.loop-j.invariant.3 c.loop-j-test.false;
+      lost = all_done (λ (k : ℕ). (unit_at r k).lost) _ _ _ _ c.loop-j.invariant.4 c.loop-j-test.false;
+      damaged = all_done (λ (k : ℕ). (unit_at r k).damaged) _ _ _ _ c.loop-j.invariant.5 c.loop-j-test.false;
       few_packets = omega arith;
       few_lost = omega arith;
       few_damaged = omega arith;

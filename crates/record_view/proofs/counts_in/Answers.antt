@@ -1,12 +1,10 @@
-use mathlib.Core.Path.{refl, sym}
-use Rattle.record_reader.proofs.Answers.{refused}
+use mathlib.Core.Path.{sym, ◌∙◌}
+use Rattle.record_reader.proofs.Answers.{refused-as}
 use Rattle.record_view.proofs.Counted.{counts-opened, counts-refused}
 use Rattle.record_view.proofs.counts_in.Goals as goal
 
-pub returns-in-Accepted : goal.returns-in-Accepted
-returns-in-Accepted c = counts-opened c.args.bytes.now _ _ (sym c.in-Accepted.ensures)
+pub returns-in-Ok : goal.returns-in-Ok
+returns-in-Ok c = counts-opened _ _ _ (sym c.«open».ensures ∙ c.in-Ok.is)
 
-pub returns-in-Refused : goal.returns-in-Refused
-returns-in-Refused c =
-    counts-refused c.args.bytes.now _ _
-    (refused c.args.bytes.now _ c.in-Refused.ensures _ _ refl)
+pub returns-in-Err : goal.returns-in-Err
+returns-in-Err c = counts-refused _ _ _ (refused-as _ _ c.«open».ensures _ c.in-Err.is)

@@ -3,6 +3,7 @@
 use Prim.Native.Nat.{◌-◌, ◌≤◌}
 use mathlib.Core.Path.{◌≡◌}
 use lib.ListN.{length}
+use Rattle.sample.specs.Owned.{state_of}
 use Rattle.replay.proofs.Laws.{Sofar}
 use Rattle.replay.proofs.all.Given as goal
 
@@ -10,31 +11,7 @@ abbrev pub invariant-loop-at : goal.invariant-loop-at
 invariant-loop-at l =
     (l.to ≤ length l.out)
     × (length l.out ≡ length l.initial.out)
-    × Sofar
-    (record {
-      capture = record {
-        walk = l.initial.walk;
-        kept = l.initial.kept;
-        numbers = l.initial.numbers;
-        table = l.initial.table;
-      };
-      luma = l.initial.luma;
-      sums = l.initial.sums;
-      bins = l.initial.bins;
-      picture = l.initial.picture;
-    })
-    l.script
-    l.initial.out
-    l.at
-    l.to
-    (record {
-      capture = record { walk = l.walk; kept = l.kept; numbers = l.numbers; table = l.table };
-      luma = l.luma;
-      sums = l.sums;
-      bins = l.bins;
-      picture = l.picture;
-    })
-    l.out
+    × Sofar (state_of l.initial.sample) l.script l.initial.out l.at l.to (state_of l.sample) l.out
 
 abbrev pub decreases-loop-at : goal.decreases-loop-at
 decreases-loop-at l = length l.script - l.at

@@ -9,7 +9,7 @@ pub returns : goal.returns
 returns c =
     record {
       answer = _;
-      post = c.feed_capture-a.ensures;
+      post = c.feed_capture.ensures;
       wrote = c.put.ensures
           ∙ rw (drop_of_length-le c.args.out.now {i = 17} (omega arith), append-nil);
     }

@@ -3,12 +3,12 @@ use Rattle.rules.specs.Calls.{indexed}
 use Rattle.replay.proofs.call_index.Goals as goal
 
 pub put_index-requires : goal.put_index-requires
-put_index-requires c = (c.requires, c.index-a.ensures.given)
+put_index-requires c = (c.requires, c.index.ensures.given)
 
 pub returns : goal.returns
-returns c walk kept table =
+returns c =
     record {
-      reply = indexed c.index-a.result;
-      post = c.index-a.ensures.asked walk kept table;
+      reply = indexed c.index.result;
+      post = c.index.ensures.asked _ _ _;
       wrote = c.put_index.ensures;
     }

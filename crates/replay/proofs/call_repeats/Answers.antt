@@ -7,10 +7,10 @@ use Rattle.rules.specs.Calls.{counted}
 use Rattle.replay.proofs.call_repeats.Goals as goal
 
 pub returns : goal.returns
-returns c capture =
+returns c =
     record {
-      reply = counted c.repeats-r.result;
-      post = c.repeats-r.ensures.asked capture;
+      reply = counted c.repeats.result;
+      post = c.repeats.ensures.asked _;
       wrote = c.put.ensures
           ∙ rw (drop_of_length-le c.args.out.now {i = 17} (omega arith), append-nil);
     }

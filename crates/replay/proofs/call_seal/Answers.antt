@@ -11,9 +11,9 @@ use Rattle.replay.proofs.call_seal.Goals as goal
 pub returns : goal.returns
 returns c =
     let out : List ℕ = c.args.out.now in
-    let filled : List ℕ = c.fill.new.out in
+    let filled : List ℕ = c.fill.new.self in
     let kept : length (put_mid 17 (length out - 17) out filled) ≡ length out = same_len_mid 17 (length out - 17) out
-    filled c.fill.auto.out in
+    filled c.fill.ensures.len in
     sealed-law _ out filled _ _ _ (length (put_mid 17 (length out - 17) out filled) - 17) c.requires
-    c.fill.ensures (ap (λ (n : ℕ). n - 17) kept) c.seal-a.ensures c.put.ensures
+    (c.fill.ensures.after (λ y h. h)) (ap (λ (n : ℕ). n - 17) kept) c.seal-a.ensures c.put.ensures
     (rw kept c.requires) (omega arith)

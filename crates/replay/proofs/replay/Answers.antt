@@ -38,6 +38,6 @@ returns c =
     let asked = c.has_room.ensures in
     let there = c.if-not-has_room.false in
     let room = answer-fits script out _ asked there in
-    let opened = rw c.opening-o.ensures at c.open-a.ensures in
+    let opened = rw c.opening.ensures at c.open-a.ensures in
     kept-promise script out _ _ asked there (replays _ _ script out front _ (length front - 17) opened room
     c.put.ensures (omega arith) c.all.ensures)

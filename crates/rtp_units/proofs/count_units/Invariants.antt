@@ -1,4 +1,4 @@
-use Prim.Native.Nat.{◌+◌, ◌-◌, ◌≤◌}
+use Prim.Native.Nat.{◌+◌, ◌≤◌}
 use mathlib.Core.Path.{◌≡◌}
 use lib.ListN.{length}
 use Rattle.rtp_units.specs.Units.{no_unit}
@@ -8,9 +8,6 @@ use Rattle.rtp_units.proofs.count_units.Given as goal
 
 abbrev pub invariant-loop-i : goal.invariant-loop-i
 invariant-loop-i l =
-    (l.i ≤ length l.rows) × (l.units ≤ l.i)
+    (l.units ≤ l.i)
     × ((k : RtpLists) → k.marker ≡ l.marker →
     l.units + length (units_onto no_unit (from k l.rows l.i)) ≡ length (rtp_units_in k l.rows))
-
-abbrev pub decreases-loop-i : goal.decreases-loop-i
-decreases-loop-i l = length l.rows - l.i

@@ -7,13 +7,12 @@ use lib.Dec.{eqb}
 use borrow.Author.Tests.{eq-eqb, ne_eqb}
 use Rattle.rules.specs.declared.Opening.{Opening}
 use Rattle.rules.specs.declared.UnitRow.{UnitRow}
-use Rattle.rules.specs.declared.IndexAnswer.TheVariants.{Given}
+use Rattle.std.specs.Prelude.{Ok}
 use Rattle.rules.specs.Refusals.{Fault, none, fault, ◌or_else◌}
 use Rattle.rules.specs.Opening.{opening_fault}
 use Rattle.rules.specs.Capture.{units, capture_fault}
 use Rattle.rules.specs.Pictures.{picture_count, luma_fault}
-use Rattle.rules.specs.Seal.{index, capture_unfinished, no_packet, luma_unfinished, no_picture}
-use Rattle.rules.specs.Seal.{seal_fault}
+use Rattle.rules.specs.Seal.{index, capture_unfinished, no_packet, luma_unfinished, no_picture, seal_fault}
 use Rattle.rules.specs.WhileFeeding.{index_fault, index_answer}
 use Rattle.rules.proofs.Laws.Listed.{Numbered, of_either, of-pick, of-units, opening, capture, luma}
 
@@ -48,7 +47,7 @@ module _ (o : Opening) (c l : List ℕ) where
           fourteen-last e = rw (opened, clear, short, some, eq-eqb (picture_count o l) 0 e)
 
           -- and nothing else: 11 and 13 do not stop it
-          pub no_other : (picture_count o l ≡ 0 → ⊥) → index_answer o c l ≡ Given (index o c l)
+          pub no_other : (picture_count o l ≡ 0 → ⊥) → index_answer o c l ≡ Ok (index o c l)
           unfolding index_answer index_fault no_packet no_picture
           no_other e = rw (opened, clear, short, some, ne_eqb (picture_count o l) 0 e)
 
@@ -63,7 +62,7 @@ both-none (fault k p) g e = absurd (never e)
 
 -- an index call gives the index whose bits the record has (`Seal.header`)
 pub of-a-record : (o : Opening) (c l : List ℕ) (n : ℕ) → seal_fault o c l n ≡ none →
-    index_answer o c l ≡ Given (index o c l)
+    index_answer o c l ≡ Ok (index o c l)
 unfolding seal_fault index_answer index_fault
 of-a-record o c l n e =
     let a = both-none (opening_fault o) _ e in

@@ -1,4 +1,4 @@
--- Both sides stand for the opening and for no bytes. Assumes nothing.
+-- Both sides stand for the opening and for no bytes.
 use mathlib.Core.Path.{refl}
 use Rattle.sample.proofs.Opened.{number-none, number-some}
 use Rattle.sample.proofs.open.Goals as goal

@@ -1,8 +1,7 @@
--- `index_in` meets its contract: each count is handed on below 2 ^ 32. Assumes nothing.
+-- `index_in` meets its contract: each count is handed on below 2 ^ 32.
 use Rattle.sample_questions.proofs.Taken.{index-by}
 use Rattle.sample_questions.proofs.index_in.Goals as goal
 
 pub returns : goal.returns
 returns c =
-    index-by c.low-u.ensures c.low-n.ensures
-    c.low-p.ensures c.low-l.ensures c.index_from.ensures
+    index-by c.low.ensures c.low-2.ensures c.low-3.ensures c.low-4.ensures c.index_from.ensures

@@ -1,5 +1,5 @@
 -- `write` meets its contract: where nothing but a short buffer can refuse, the guards for other states never hold, and
--- the record is the rules'. Assumes nothing.
+-- the record is the rules'.
 use native.Mathlib.Omega.{arith}
 use mathlib.Core.Path.{refl, ap}
 use Rattle.rules.specs.declared.Header.{Header}
@@ -12,23 +12,24 @@ pub returns-then-c-gt750 : goal.returns-then-c-gt750
 returns-then-c-gt750 c =
     record {
       rule = λ fc fl r. absurd (omega (arith, few-units _ _ _ _ _ _ _ r));
-      refusals = refused-leaves _ _ 12 _ c.refused.ensures;
+      refusals = refused-leaves _ _ 12 0 refl;
     }
 
 pub returns-then-l-gt750 : goal.returns-then-l-gt750
 returns-then-l-gt750 c =
     record {
       rule = λ fc fl r. absurd (omega (arith, few_pictures _ _ _ _ _ _ _ r));
-      refusals = refused-leaves _ _ 14 _ c.refused-then-l-gt750.ensures;
+      refusals = refused-leaves _ _ 14 0 refl;
     }
 
 pub returns-then-buffer-size : goal.returns-then-buffer-size
 returns-then-buffer-size c =
-    record {
+    rw c.no_room.ensures
+    (record {
       rule = λ fc fl r. too_short _ _ _ fc fl _ _ r c.count-scenes.result
-          c.count-scenes.ensures _ _ c.if-buffer-size.true c.refused-then-buffer-size.ensures;
-      refusals = refused-leaves _ _ 15 _ c.refused-then-buffer-size.ensures;
-    }
+          c.count-scenes.ensures _ _ c.if-buffer-size.true refl;
+      refusals = refused-leaves _ _ 15 _ refl;
+    })
 
 pub header_of-h-requires : goal.header_of-h-requires
 header_of-h-requires c = c.index_in-i.ensures.numbers.value

@@ -1,4 +1,4 @@
--- `write_record` meets its contract: header, unit rows and scene rows stand one behind the other. Assumes nothing.
+-- `write_record` meets its contract: header, unit rows and scene rows stand one after the other.
 use native.Mathlib.Omega.{arith}
 use Rattle.rules.specs.Record.{record_length, scene_offset}
 use Rattle.sealing.proofs.Rows.{record-written}

@@ -1,6 +1,6 @@
 use Prim.Native.Nat.{ℕ, ◌+◌, ◌*◌}
 use native.Mathlib.Omega.{arith}
-use mathlib.Core.Path.{◌≡◌, refl, ap, ◌∙◌}
+use mathlib.Core.Path.{◌≡◌, ap, ◌∙◌}
 use Rattle.rules.specs.Record.{record_length, scene_offset, scene_bytes}
 use Rattle.words.specs.Written.{written}
 use Rattle.sealing.proofs.Rows.{scenes-none, scenes-more, scenes-all}
@@ -11,7 +11,7 @@ unfolding scene_offset
 place units j = omega arith
 
 pub loop-j-init : goal.loop-j-init
-loop-j-init c = (omega arith, refl, scenes-none _ _ _ _ _)
+loop-j-init c = (scenes-none _ _ _ _ _)
 
 pub overflow_add-at : goal.overflow_add-at
 unfolding record_length
@@ -36,17 +36,14 @@ loop-j-preserved c =
     let l = c.loop-j in
     let x = c.next_start-next in
     let r = c.scene_row-row in
-    let w = c.write_scene in (
-      omega arith,
-      w.auto.buffer ∙ l.invariant.1,
-      scenes-more a.luma.now a.pictures a.time a.units a.buffer.now l.buffer l.start l.j
-          l.invariant.2 x.result r.result x.ensures r.ensures (omega arith)
-          (w.ensures ∙ ap (λ (k : ℕ). written k (scene_bytes r.result) l.buffer) (place a.units l.j)),
-    )
+    let w = c.write_scene in
+    scenes-more a.luma.now a.pictures a.time a.units a.buffer.now l.buffer l.start l.j
+    l.invariant x.result r.result x.ensures r.ensures (omega arith)
+    (w.ensures ∙ ap (λ (k : ℕ). written k (scene_bytes r.result) l.buffer) (place a.units l.j))
 
 pub returns : goal.returns
 returns c =
     let a = c.args in
     let l = c.loop-j in
     scenes-all a.luma.now a.pictures a.time a.units a.buffer.now l.buffer l.start l.j
-    l.invariant.2 a.n (omega arith)
+    l.invariant a.n (omega arith)

@@ -1,51 +1,47 @@
-use mathlib.Core.List.{List}
-use Prim.Native.Nat.{ℕ, ◌+◌, ◌-◌, ◌<◌}
+-- `lost_in` meets its contract: a chain over the units, of which each adds a 32-bit word. Assumes nothing.
+use Prim.Native.Nat.{ℕ, ◌<◌, ◌^◌}
 use native.Mathlib.Omega.{arith}
-use mathlib.Core.Path.{◌≡◌, ap, ◌∙◌}
-use Rattle.rules.specs.declared.UnitRow.{UnitRow}
-use Rattle.rules.specs.Refusals.{none}
-use Rattle.rules.specs.Bytes.{total, table}
-use Rattle.rules.specs.Reading.{reading_fault, header_answer, unit_at, unit_answer}
-use Rattle.rules.specs.Shelf.{units_given, lost_given, record_lost}
-use Rattle.record_reader.proofs.Promise.{row_inside, lost-row}
+use mathlib.Core.Path.{refl, ◌∙◌}
+use mathlib.Core.List.{map}
+use borrow.Author.Rules.{rules}
+use Rattle.std.specs.List.{sum, range_with_len}
+use Rattle.std.proofs.iter.Serving.{serving}
+use Rattle.std.proofs.lemmas.Iterator.{YieldsList-from_range, YieldsList-from_map}
+use Rattle.std.proofs.lemmas.Iterator.Consumers.{YieldsList-at, sum_from_yields_List, fits_from_yields_list}
+use Rattle.rules.specs.Reading.{unit_at}
+use Rattle.record_reader.proofs.Promise.{row_inside}
+use Rattle.record_reader.proofs.Sums.{sum_of_rows}
 use Rattle.shelf.proofs.Laws.{record-fits}
-use Rattle.shelf.proofs.Steps.{lost-more, lost-end, lost-units}
+use Rattle.shelf.proofs.Steps.{lost-units}
 use Rattle.shelf.proofs.lost_in.Goals as goal
 
--- one unit more
-added : (r : List ℕ) (units i lost : ℕ) (row : UnitRow) → reading_fault r ≡ none →
-    units ≡ units_given (header_answer r) →
-    lost + total (table (units - i) i (λ (k : ℕ). lost_given (unit_answer r k))) ≡ record_lost r → i < units →
-    row ≡ unit_at r i →
-    lost + row.lost + total (table (units - (i + 1)) (i + 1) (λ (k : ℕ). lost_given (unit_answer r k)))
-    ≡ record_lost r
-added r units i lost row read given so h is =
-    lost-more (λ (k : ℕ). lost_given (unit_answer r k)) units i lost _ so _ h
-    (ap (λ u. u.lost) is ∙ lost-row r read _ (omega (arith, given)))
+pub sum-requires-clause-can : goal.sum-requires-clause-can
+sum-requires-clause-can c =
+    let inside = row_inside c.args.bytes.now c.requires.0 in
+    grind (serving, inside, c.requires.1)
 
-pub loop-i-init : goal.loop-i-init
-loop-i-init c = (omega arith, lost-units c.args.bytes.now _ c.requires.1)
-
-pub unit_row-row-requires : goal.unit_row-row-requires
-unit_row-row-requires c = row_inside c.args.bytes.now c.requires.0 _ (omega arith)
-
-pub overflow_add-lost : goal.overflow_add-lost
-overflow_add-lost c =
+pub sum-requires-clause-fits : goal.sum-requires-clause-fits
+sum-requires-clause-fits c =
     let r = c.args.bytes.now in
-    let more = added r c.args.units c.loop-i.i c.loop-i.lost _ c.requires.0 c.requires.1
-    c.loop-i.invariant.1 c.loop-i-test.true
-    c.unit_row-row.ensures in
-    let most = record-fits r (λ k. (c.type_inv.bytes k).fits) in
-    record { fits = omega arith }
-
-pub loop-i-preserved : goal.loop-i-preserved
-loop-i-preserved c = (
-  omega arith,
-  added c.args.bytes.now c.args.units c.loop-i.i c.loop-i.lost _ c.requires.0 c.requires.1 c.loop-i.invariant.1
-      c.loop-i-test.true c.unit_row-row.ensures,
-)
+    let n = c.args.units in
+    let lost : ℕ → ℕ = λ k. (unit_at r k).lost in
+    let few : sum (map lost (range_with_len 0 n)) < 2 ^ 64 =
+    omega (
+      arith,
+      sum_of_rows lost n 0,
+      lost-units r n c.requires.0 c.requires.1,
+      record-fits r (λ k. (c.type_inv.bytes k).fits),
+    )
+    in
+    let all = YieldsList-at c.map.ensures.source (YieldsList-from_range 0 n n refl (omega arith)) in
+    fits_from_yields_list _ _ (YieldsList-from_map _ lost all c.map.ensures.closure (λ x r q h. search rules)) few
 
 pub returns : goal.returns
 returns c =
     let r = c.args.bytes.now in
-    lost-end (λ (k : ℕ). lost_given (unit_answer r k)) _ _ _ _ c.loop-i.invariant.1 c.loop-i-test.false
+    let n = c.args.units in
+    let lost : ℕ → ℕ = λ k. (unit_at r k).lost in
+    let all = YieldsList-at c.map.ensures.source (YieldsList-from_range 0 n n refl (omega arith)) in
+    sum_from_yields_List _ _ c.sum.ensures.ran
+    (YieldsList-from_map _ lost all c.map.ensures.closure (λ x r q h. search rules))
+    ∙ sum_of_rows lost n 0 ∙ lost-units r n c.requires.0 c.requires.1

@@ -1,34 +1,22 @@
 -- `part` meets its contract: the refusals of `open`, then 19, or both edges. Assumes nothing.
-use native.Mathlib.Omega.{arith}
-use mathlib.Core.Path.{refl}
-use borrow.Author.Rules.{rules}
-use Rattle.shelf.proofs.Steps.{shelf-given, shelf-laid-out, part-missing, part-given, part-refused}
-use Rattle.shelf.proofs.Laws.{laid_out_lem}
+use Rattle.rules.proofs.Laws.Answers.{passed-on}
+use Rattle.shelf.proofs.Steps.{head-given, part-missing, part-given, part-refused}
 use Rattle.shelf.proofs.part.Goals as goal
 
-pub returns-then-records-j : goal.returns-then-records-j
-returns-then-records-j c = search (rules, part-missing)
+pub returns-in_err-shelf : goal.returns-in_err-shelf
+returns-in_err-shelf c =
+    let passed = passed-on c.from_residual.result _ c.from_residual.ensures.1 in
+    rw passed (part-refused _ _ c.«open».ensures _ c.in_err-shelf.was _)
+
+pub returns-then-shelf-j : goal.returns-then-shelf-j
+returns-then-shelf-j c = part-missing _ _ c.«open».ensures _ c.in_ok-shelf.was _ c.if-shelf-j.true
 
 pub edge-requires : goal.edge-requires
-edge-requires c =
-    let s = c.args.bytes.now in
-    let e = c.in-Given.ensures in (
-      (shelf-given s _ e _ _ refl).1,
-      omega
-          (arith, (laid_out_lem s (shelf-laid-out s _ e _ _ refl)).head, (shelf-given s _ e _ _ refl).1),
-    )
+edge-requires c = head-given _ _ c.«open».ensures _ c.in_ok-shelf.was
 
-pub edge-requires-in-Given : goal.edge-requires-in-Given
-edge-requires-in-Given c =
-    let s = c.args.bytes.now in
-    let e = c.in-Given.ensures in (
-      (shelf-given s _ e _ _ refl).1,
-      omega
-          (arith, (laid_out_lem s (shelf-laid-out s _ e _ _ refl)).head, (shelf-given s _ e _ _ refl).1),
-    )
+pub edge-requires-2 : goal.edge-requires-2
+edge-requires-2 c = head-given _ _ c.«open».ensures _ c.in_ok-shelf.was
 
-pub returns-else-records-j : goal.returns-else-records-j
-returns-else-records-j c = search (rules, part-given)
-
-pub returns-in-Refused : goal.returns-in-Refused
-returns-in-Refused c = search (rules, part-refused)
+pub returns : goal.returns
+returns c =
+    part-given _ _ c.«open».ensures _ c.in_ok-shelf.was _ _ _ c.if-shelf-j.false c.edge.ensures c.edge-2.ensures

@@ -1,22 +1,19 @@
-use native.Mathlib.Nat.{sub-zero}
+use Prim.Native.Nat.{ℕ, ◌+◌}
 use native.Mathlib.Omega.{arith}
+use mathlib.Core.Bool.{Bool}
+use mathlib.Core.Path.{refl, ◌∙◌}
+use lib.Dec.{ltb}
 use borrow.Author.Rules.{rules}
-use Rattle.shelf.proofs.Steps.{rising-more, rising-stop, rising-end}
+use Rattle.std.proofs.lemmas.Iterator.{YieldsList-from_range}
+use Rattle.std.proofs.lemmas.Iterator.Search.{all_from_yields_List}
+use Rattle.rules.specs.Shelf.{edge}
+use Rattle.shelf.proofs.Steps.{rising-all}
 use Rattle.shelf.proofs.rising.Goals as goal
 
-pub loop-j-init : goal.loop-j-init
-loop-j-init c = (omega arith, rw sub-zero)
-
-pub returns-then-end-start : goal.returns-then-end-start
-returns-then-end-start c = search (rules, rising-stop)
-
-pub loop-j-preserved : goal.loop-j-preserved
-loop-j-preserved c =
-    let a = c.args in (
-      omega arith,
-      rising-more a.bytes.now a.records c.loop-j.j c.loop-j-test.true _
-          c.loop-j.invariant.1 _ _ c.edge-start.ensures c.edge-end.ensures c.if-end-start.false,
-    )
-
 pub returns : goal.returns
-returns c = search (rules, rising-end)
+returns c =
+    let s = c.args.bytes.now in
+    let n = c.args.records in
+    let below : ℕ → Bool = λ k. ltb (edge s k) (edge s (k + 1)) in
+    let all = YieldsList-from_range 0 n n refl (omega arith) in
+    all_from_yields_List below _ _ _ c.all.ensures.ran all (λ x b q h. search rules) ∙ rising-all s n 0

@@ -10,7 +10,7 @@ use Rattle.shelf_writer.proofs.put_offsets.Goals as goal
 pub loop-j-init : goal.loop-j-init
 loop-j-init c =
     let a = c.args in
-    (omega arith, refl, omega (arith, no-sum a.lengths.now), no_words a.lengths.now a.buffer.now)
+    (refl, omega (arith, no-sum a.lengths.now), no_words a.lengths.now a.buffer.now)
 
 pub overflow_cast-start : goal.overflow_cast-start
 unfolding shelf_length
@@ -29,10 +29,9 @@ pub loop-j-preserved : goal.loop-j-preserved
 loop-j-preserved c =
     let ls = c.args.lengths.now in (
       omega arith,
-      omega arith,
       omega (arith, total-more ls c.loop-j.j c.loop-j-test.true),
-      word_more ls c.args.buffer.now c.loop-j.j c.requires.lengths_in_bounds c.loop-j.invariant.3 c.loop-j.start
-          c.loop-j.invariant.2 c.loop-j-test.true c.put32.ensures,
+      word_more ls c.args.buffer.now c.loop-j.j c.requires.room c.loop-j.invariant.2 c.loop-j.start
+          c.loop-j.invariant.1 c.loop-j-test.true c.put32.ensures,
     )
 
 pub returns : goal.returns

@@ -19,7 +19,7 @@ put32-requires-2 c = omega arith
 
 pub put_offsets-requires : goal.put_offsets-requires
 unfolding shelf_length
-put_offsets-requires c = record { lengths_bound = omega arith; lengths_in_bounds = omega arith }
+put_offsets-requires c = record { fits_32_bits = omega arith; room = omega arith }
 
 pub overflow_add-n : goal.overflow_add-n
 unfolding shelf_length

@@ -1,26 +1,18 @@
-use Prim.Native.Nat.{◌+◌}
-use native.Mathlib.Omega.{arith}
-use Rattle.shelf_writer.proofs.Laws.{total-most, total-more, total-part}
-use Rattle.shelf_writer.proofs.Steps.{no-sum, whole_sum}
+-- `sum` meets its contract: at most 4,096 lengths of 32 bits. Assumes nothing.
+use Prim.Native.Nat.{ℕ}
+use mathlib.Core.Path.{◌≡◌, ◌∙◌}
+use mathlib.Core.List.{map}
+use borrow.Author.Rules.{rules}
+use Rattle.std.specs.List.{sum}
+use Rattle.std.proofs.iter.runs.Sources.{sums}
+use Rattle.shelf_writer.proofs.Laws.{sum_of_lengths}
 use Rattle.shelf_writer.proofs.sum.Goals as goal
 
-pub loop-j-init : goal.loop-j-init
-loop-j-init c = (omega arith, no-sum c.args.lengths.now)
-
-pub overflow_add-sum : goal.overflow_add-sum
-overflow_add-sum c =
-    let ls = c.args.lengths.now in
-    omega (
-      arith,
-      total-more ls c.loop-j.j c.loop-j-test.true,
-      total-part ls (c.loop-j.j + 1),
-      total-most ls (λ k. (c.type_inv.lengths k).fits),
-    )
-
-pub loop-j-preserved : goal.loop-j-preserved
-loop-j-preserved c =
-    let ls = c.args.lengths.now in
-    (omega arith, omega (arith, total-more ls c.loop-j.j c.loop-j-test.true))
+pub sum-requires-clause-fits : goal.sum-requires-clause-fits
+sum-requires-clause-fits c = search (rules, sums)
 
 pub returns : goal.returns
-returns c = omega (arith, whole_sum c.args.lengths.now c.loop-j.j c.loop-j-test.false)
+returns c =
+    let ls = c.args.lengths.now in
+    let added : c.sum.result ≡ sum (map (λ (l : ℕ). l) ls) = search rules in
+    added ∙ sum_of_lengths ls

@@ -1,16 +1,8 @@
-use Rattle.std.proofs.Common.{refl, arith}
-use Rattle.capture_steps.proofs.Copy.{carry-none, carry-more, carry-all}
+use Rattle.std.proofs.Common.{arith}
+use Rattle.capture_steps.proofs.Copy.{carried}
 use Rattle.capture_steps.proofs.collected.carry.Goals as goal
-
-pub loop-j-init : goal.loop-j-init
-loop-j-init c = (omega arith, carry-none _ _ _ _)
-
-pub loop-j-preserved : goal.loop-j-preserved
-loop-j-preserved c =
-    let l = c.loop-j in
-    (omega arith, carry-more _ l.invariant.1 (omega arith) refl)
 
 pub returns : goal.returns
 returns c =
-    let l = c.loop-j in
-    carry-all c.args.n (omega arith) l.invariant.1
+    let a = c.args in
+    carried a.kept.now a.at a.part.now (omega arith) (omega arith) c.copy_from_slice.ensures.after

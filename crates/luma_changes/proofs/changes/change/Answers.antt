@@ -13,13 +13,13 @@ pub root-requires : goal.root-requires
 root-requires c =
     let a = c.args in
     let some : 1 ≤ a.n = omega arith in
-    rw (c.spread-v.ensures, c.wide.ensures.0)
+    rw (c.spread-v.ensures, c.from.ensures)
     (asked-four a.n a.up a.down a.squares some (omega arith) (omega arith))
 
 pub returns-then-rounds : goal.returns-then-rounds
 unfolding change_from nearest
 returns-then-rounds c =
-    let wide = c.wide.ensures.0 in let spread = c.spread-v.ensures in
+    let wide = c.from.ensures in let spread = c.spread-v.ensures in
     record
     { exact = λ a b h. rw (c.root.ensures.0, wide, spread, c.if-rounds.true); few = omega arith }
 
@@ -27,7 +27,7 @@ pub root-requires-2 : goal.root-requires-2
 root-requires-2 c =
     let a = c.args in
     let some : 1 ≤ a.n = omega arith in
-    rw (c.spread-v.ensures, c.wide-2.ensures.0)
+    rw (c.spread-v.ensures, c.from-2.ensures)
     (asked a.n a.up a.down a.squares some (omega arith) (omega arith))
 
 pub returns : goal.returns
@@ -35,7 +35,7 @@ unfolding change_from
 returns c =
     let a = c.args in
     let some : 1 ≤ a.n = omega arith in
-    let wide = c.wide-2.ensures.0 in
+    let wide = c.from-2.ensures in
     let spread = c.spread-v.ensures in
     record {
       exact = λ x y h. rw (c.root-2.ensures.0, wide, spread, c.if-rounds.false);

@@ -7,12 +7,10 @@ use Rattle.rtp_order.proofs.arrival.put_rows.Goals as goal
 pub loop-i-init : goal.loop-i-init
 loop-i-init c =
     let s = c.args.sequence.now in (
-      omega arith,
-      omega arith,
-      simp length-set c.requires.rows_len,
+      simp length-set c.requires.as_many,
       omega arith,
       omega (arith, c.type_inv.sequence 0),
-      rw c.wide-place.ensures (rows_start s c.args.rows.now c.requires.in_bounds.0 c.requires.rows_len),
+      rw c.from-place.ensures (rows_start s c.args.rows.now c.requires.row_count.0 c.requires.as_many),
     )
 
 -- A row's place is at most 32,768 from the one before.
@@ -26,12 +24,10 @@ loop-i-preserved c =
     omega (arith, c.moved-place.ensures, moved-low l.place d (l.place - 32768) (omega arith) (omega arith)) in
     let high : p ≤ 134283263 + 32768 * (l.i + 1) =
     omega (arith, c.moved-place.ensures, moved-high l.place d (l.place + 32767) (omega arith)) in (
-      omega arith,
-      omega arith,
-      simp length-set l.invariant.2,
+      simp length-set l.invariant.0,
       low,
       high,
-      rows_more s l.rows l.i l.place l.last (omega arith) l.invariant.2 _ l.invariant.5 p c.moved-place.ensures,
+      rows_more s l.rows l.i l.place l.last (omega arith) l.invariant.0 _ l.invariant.3 p c.moved-place.ensures,
     )
 
 pub returns : goal.returns

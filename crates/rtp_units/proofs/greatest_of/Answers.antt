@@ -1,8 +1,0 @@
-use borrow.Author.Tests.{le-leb, lt-leb}
-use Rattle.rtp_units.proofs.greatest_of.Goals as goal
-
-pub returns-then-a-b : goal.returns-then-a-b
-returns-then-a-b c = rw (le-leb _ _ c.if-a-b.true)
-
-pub returns : goal.returns
-returns c = rw (lt-leb _ _ c.if-a-b.false)

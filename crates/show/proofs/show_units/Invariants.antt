@@ -1,9 +1,0 @@
--- `show_units` is safe and ends: each turn prints one unit row of the record.
-use Rattle.std.proofs.Common.{length, ◌-◌, ◌≤◌, ◌≡◌}
-use Rattle.show.proofs.show_units.Given as goal
-
-abbrev pub invariant-loop-j : goal.invariant-loop-j
-invariant-loop-j g l = (l.j ≤ l.units) × (200 ≡ length l.text)
-
-abbrev pub decreases-loop-j : goal.decreases-loop-j
-decreases-loop-j g l = l.units - l.j
