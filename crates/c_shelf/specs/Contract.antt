@@ -2,12 +2,11 @@
 use Rattle.std.specs.Prelude.{ℕ, ◌≡◌, List, [], ◌∷◌, length, Ok, Err}
 use Rattle.rules.specs.declared.Part.{Part}
 use Rattle.rules.specs.declared.ShelfTotals.{ShelfTotals}
-use Rattle.rules.specs.Refusals.{Answer, listed}
+use Rattle.rules.specs.Refusals.{Answer}
 use Rattle.rules.specs.Shelf.{shelf_answer, part_answer}
 use Rattle.shelf_writer.specs.Writing.{writing_answer, written_buffer}
 use Rattle.c_numbers.specs.Numbers.{number_of, value_of, place_of}
 
--- the number, 0 where the shelf or the part is given; the place, 0 there too
 -- the lent figures: records and lost cells; start and end; after a refusal what stood there
 abbrev pub shelf_into : Answer ShelfTotals → List ℕ → List ℕ
 shelf_into (Ok x) old = x.records ∷ x.lost ∷ []
