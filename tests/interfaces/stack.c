@@ -10,7 +10,8 @@
 
 #include "carolsedge.h"
 
-enum { PAINT = 0xC5, STACK = 1 << 18, MOST = 1 << 20, ROWS = 4096, UNITS = 750 };
+enum { PAINT = 0xC5, STACK = 1 << 18, MOST = 1 << 20, ROWS = 4096, UNITS = 750,
+       STEPPED = 200, ORDERS = 300 };
 
 static struct carolsedge_sample sample;
 static struct carolsedge_survey survey;
@@ -259,11 +260,29 @@ static void measure_busiest(void)
     }
 }
 
+/* Puts the rows of RTP into one order of arrival: falling, rising, up and down, each odd step through them, shuffled.
+ * The library's sort calls itself on parts, which are what the order makes them. */
+static void order_rows(int order)
+{
+    static uint32_t random = 1;
+    for (int i = 0; i < ROWS; i++) {
+        int turned = i < ROWS / 2 ? 2 * i : 2 * (ROWS - i) - 1, stepped = i * (2 * order + 1) % ROWS;
+        sequence[i] = (uint16_t)(order == 0 ? ROWS - i : order == 1 ? i : order == 2 ? turned : stepped);
+    }
+    for (int i = ROWS - 1; order >= STEPPED && i > 0; i--) {
+        random = 1664525 * random + 1013904223;
+        int j = (int)((random >> 8) % (uint32_t)(i + 1));
+        uint16_t held = sequence[i];
+        sequence[i] = sequence[j], sequence[j] = held;
+    }
+}
+
 static void measure_lists(void)
 {
     for (int i = 0; i < ROWS; i++)
-        sequence[i] = (uint16_t)(ROWS - i), marker[i] = i % 3 == 0, times[i] = (uint64_t)i;
-    on_stack(rtp_units), done("RTP");
+        marker[i] = i % 3 == 0, times[i] = (uint64_t)i;
+    for (int order = 0; order < ORDERS; order++)
+        order_rows(order), on_stack(rtp_units), done("RTP");
     for (int i = 0; i < UNITS; i++)
         losses[i] = 1, probabilities[i] = i % 9 / 8.0;
     on_stack(effective_loss);
