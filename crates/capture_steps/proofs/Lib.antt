@@ -1,4 +1,3 @@
-pub mod Copy
 pub mod Lists
 pub mod Fits
 pub mod Pieces

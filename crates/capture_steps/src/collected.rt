@@ -10,7 +10,10 @@ pub fn carry(kept: &mut Collected, at: u64, part: &[u8])
     ensures { Carried kept.old at part.now kept.new }
 {
     let base = at as usize;
-    kept[base..base + part.len()].copy_from_slice(part);
+    // No `copy_from_slice`: for that the archive for C would need `memmove` from outside.
+    for (j, byte) in part.iter().enumerate() {
+        kept[base + j] = *byte;
+    }
 }
 
 // Of a part of a cell, its first byte being the cell's byte `got`: the bytes that are among the cell's first six.
