@@ -1,13 +1,12 @@
 -- Rows that are looked at one by one: what the rest of them still has to show.
-use Prim.Native.Nat.{ℕ, zero, suc, ◌+◌, ◌-◌, ◌*◌, ◌≤◌, ◌<◌}
+use Prim.Native.Nat.{ℕ, suc, ◌+◌, ◌-◌, ◌*◌, ◌≤◌, ◌<◌}
 use native.Mathlib.Omega.{arith}
-use mathlib.Core.Path.{◌≡◌, refl, sym, ap, ◌∙◌}
+use mathlib.Core.Path.{◌≡◌, sym, ap, ◌∙◌}
 use mathlib.Core.Bool.{Bool, true, false, ◌&&◌}
 use mathlib.Core.List.{List}
 use lib.ListN.{length, take, drop, length-drop}
 use lib.Seq.{take_all, drop-drop}
 use lib.Dec.{eqb}
-use Rattle.std.specs.List.{list_all, range_with_len}
 use Rattle.rules.specs.Bytes.{word32}
 use Rattle.rules.specs.Reading.{allowed_unit, allowed_units, allowed_scene, allowed_scenes}
 
@@ -23,13 +22,32 @@ next_row p j r =
 more_rows : (n j : ℕ) → j < n → n - j ≡ suc (n - (j + 1))
 more_rows n j h = omega arith
 
--- n unit rows from row j on
-pub units-all : (known : Bool) (r : List ℕ) (j n : ℕ) →
-    list_all (λ k. allowed_unit known (take (length r - (64 + 32 * k)) (drop (64 + 32 * k) r))) (range_with_len j n)
-    ≡ allowed_units known n (drop (64 + 32 * j) r)
+module _ (known : Bool) (r : List ℕ) (n j : ℕ) (h : j < n) where
+  -- units: row j, and the rows after it
+  units-step : allowed_units known (n - j) (drop (64 + 32 * j) r) ≡
+      (allowed_unit known (drop (64 + 32 * j) r) && allowed_units known (n - (j + 1)) (drop (64 + 32 * (j + 1)) r))
+  unfolding allowed_units
+  units-step = rw (more_rows n j h, next_row 64 j r)
+
+  module _ (b : Bool) (all : Bool) (rest : all ≡ allowed_units known (n - j) (drop (64 + 32 * j) r))
+      (e : b ≡ allowed_unit known (take (length r - (64 + 32 * j)) (drop (64 + 32 * j) r))) where
+    pub units-more : b ≡ true → all ≡ allowed_units known (n - (j + 1)) (drop (64 + 32 * (j + 1)) r)
+    units-more t =
+        let y : allowed_unit known (drop (64 + 32 * j) r) ≡ true =
+        sym (ap (allowed_unit known) (part (64 + 32 * j) r)) ∙ (sym e ∙ t) in
+        rest ∙ (units-step ∙ rw y)
+
+    pub units-stop : b ≡ false → false ≡ all
+    units-stop f =
+        let y : allowed_unit known (drop (64 + 32 * j) r) ≡ false =
+        sym (ap (allowed_unit known) (part (64 + 32 * j) r)) ∙ (sym e ∙ f) in
+        sym (rest ∙ (units-step ∙ rw y))
+
+-- nothing is left
+pub units-end : (known : Bool) (n j : ℕ) (all : Bool) (b : List ℕ) → n ≤ j → all ≡ allowed_units known (n - j) b →
+    true ≡ all
 unfolding allowed_units
-units-all known r j zero = refl
-units-all known r j (suc n) = rw (part (64 + 32 * j) r, next_row 64 j r, units-all known r (j + 1) n)
+units-end known n j all b h e = let z : n - j ≡ 0 = omega arith in sym (e ∙ rw z)
 
 module _ (r : List ℕ) (p pictures n j from : ℕ) (h : j < n) where
   scenes-step : allowed_scenes pictures (n - j) from (drop (p + 32 * j) r) ≡
