@@ -1,11 +1,11 @@
 -- Whole rows of blocks of one byte: their bytes are the pixels, and the sums stand for nothing before them and behind
 -- them. No code.
 use Rattle.std.proofs.Common.{◌≡◌, ℕ, ◌+◌, ◌-◌, ◌*◌, ◌/◌, ◌%◌, ◌^◌, ◌<◌, ◌≤◌, List, [], ◌++◌, length, get_or, take}
-use Rattle.std.proofs.Common.{drop, sym, refl, ap, ◌∙◌, append_assoc, append-nil, add-zero, mul-le-mul_right}
+use Rattle.std.proofs.Common.{drop, set, sym, refl, ap, ◌∙◌, append_assoc, append-nil, add-zero, mul-le-mul_right}
 use Rattle.std.proofs.Common.{add-mul, mul-pos, one-mul, lt_of_not-le, div-add-mod', zero-mul, mul-one, arith}
-use Rattle.std.proofs.Common.{length-append, length-drop, length-take, length-take-le, get_or-drop, drop-cons, min}
-use Rattle.std.proofs.Common.{get_or-take, drop-drop, get_or-append-add}
-use Rattle.std.proofs.Common.{ext_get_or, take-add, eq-eqb, ne_eqb}
+use Rattle.std.proofs.Common.{length-append, length-drop, length-set, length-take, length-take-le, get_or-drop}
+use Rattle.std.proofs.Common.{get_or-set_other, get_or-take, get_or-set_same, drop-cons, drop-drop, min}
+use Rattle.std.proofs.Common.{get_or-append-add, ext_get_or, take-add, below_more, eq-eqb, ne_eqb}
 use native.Mathlib.Decide.{dec_le, ℕ_discrete}
 use lib.ListN.{get_or-append}
 use Rattle.rules.specs.declared.Opening.{Opening}
@@ -28,6 +28,24 @@ use Rattle.luma_rows.specs.Contract.{moved_to, next_row, Puts, AtPlainRows, Coun
 use Rattle.luma_rows.proofs.Rows.{of_slices, at-drawing, bytes_of, elsewhere, apart, figures-in}
 
 -- ---- the loops
+
+pub puts_none : (base : ℕ) (rest a : List ℕ) → Puts base 0 rest a a
+puts_none base rest a =
+    record { size = refl; same = λ e j h. absurd (omega arith); low = λ q h. refl; high = λ q h. refl }
+
+pub puts-more : {base j v : ℕ} {rest a b : List ℕ} → Puts base j rest a b → base + j < 14104 → v ≡ get_or rest j 0 →
+    Puts base (j + 1) rest a (set b (base + j) v)
+puts-more {base} {j} {v} {rest} {a} {b} f h e =
+    record {
+      size = length-set b (base + j) v ∙ f.size;
+      same =
+          λ z.
+          below_more (λ (i : ℕ). get_or (set b (base + j) v) (base + i) 0 ≡ get_or rest i 0) j
+          (λ i l. get_or-set_other b (base + j) (base + i) v 0 (λ m. omega arith) ∙ f.same z i l)
+          (get_or-set_same b (base + j) v 0 (omega (arith, f.size)) ∙ e);
+      low = λ q l. get_or-set_other b (base + j) q v 0 (λ m. omega arith) ∙ f.low q l;
+      high = λ q l. get_or-set_other b (base + j) q v 0 (λ m. omega arith) ∙ f.high q (omega arith);
+    }
 
 -- t pixels more, after the first c
 pub compared-on : {kept rest : List ℕ} {c t : ℕ} {m n r : Moves} → Compared kept 0 rest 0 c m n →

@@ -111,7 +111,10 @@ fn put(picture: &mut Picture, base: usize, rest: &[u8], w: usize)
     requires { (w ≤ length rest.now) × (base + w ≤ 14104) }
     ensures { Puts base w rest.now picture.old picture.new }
 {
-    picture[base..base + w].copy_from_slice(&rest[..w]);
+    // No `copy_from_slice`: the archive for C would need `memmove` from outside.
+    for j in 0..w {
+        picture[base + j] = rest[j];
+    }
 }
 
 // How many whole rows of blocks of one byte come next in the picture, if any do.

@@ -7,7 +7,7 @@ use mathlib.Core.Path.{◌≡◌, refl, sym, ap, ◌∙◌}
 use mathlib.Core.Bool.{Bool, true, false}
 use mathlib.Core.List.{List, [], ◌∷◌, ◌++◌, map, map-append, append-nil, append_assoc}
 use lib.ListN.{length, length-set, take-append-drop, take, set, get_or, length-append}
-use lib.Seq.{take-suc, drop-drop}
+use lib.Seq.{take-suc, drop-drop, length-take-le}
 use lib.Dec.{ltb}
 use borrow.Author.Tests.{lt-ltb, le-ltb, ltb-true, ltb-false}
 use borrow.Rule.Slice.PartMut.{put_mid}
@@ -15,7 +15,7 @@ use Rattle.io.specs.Digits.{last_digits, hex_digit_ascii, IsDigitCount}
 use Rattle.rules.specs.Bytes.{pick, end_to_end}
 use Rattle.rules.proofs.Laws.Lists.{end_to_end-append, by-test}
 use Rattle.words.specs.Written.{written}
-use Rattle.words.proofs.Laws.{written-sets}
+use Rattle.words.proofs.Laws.{written-sets, length-written}
 use Rattle.rules.specs.Seal.{over}
 use Rattle.words.proofs.Behind.{next, over-written, behind}
 use Rattle.rules.specs.Digits.{decimal_in, decimal, hex_digit, hex_in}
@@ -27,6 +27,16 @@ use Rattle.std.specs.List.{take-map}
 pub copied : (at n : ℕ) (s text bs : List ℕ) → bs ≡ text → n ≡ length text → put_mid at n s bs ≡ written at text s
 unfolding written
 copied at n s text bs e size = rw (e, size, drop-drop (length text) at s) (sym (append_assoc (take at s) text _))
+
+-- one byte more of a text
+pub byte_more : (s text : List ℕ) (at i : ℕ) → at + length text ≤ length s → i < length text →
+    set (written at (take i text) s) (at + i) (get_or text i 0) ≡ written at (take (i + 1) text) s
+byte_more s text at i k h =
+    let n : length (take i text) ≡ i = length-take-le i text (omega arith) in
+    let w = written at (take i text) s in
+    let fits : at + i + 1 ≤ length w = omega (arith, length-written at (take i text) s (omega arith)) in
+    let joined-up = next at i (take i text) (get_or text i 0 ∷ []) s n (omega arith) refl refl in
+    written-sets (at + i) (get_or text i 0 ∷ []) w fits ∙ (joined-up ∙ rw (add-one i, take-suc text i 0 h))
 
 -- nothing yet
 pub none_yet : (s text : List ℕ) (at : ℕ) → s ≡ written at (take 0 text) s
