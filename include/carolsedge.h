@@ -1,9 +1,9 @@
 /* Carolsedge: measures a sample, one packet capture and up to 750 luma pictures of a stream, into a record of 64 bytes
  * and rows of 32.
  *
- * Link target/staticlib/libcarolsedge.a (make library writes it, for x86-64 Linux). It needs memcpy, memmove and
- * memset, allocates nothing, keeps no memory of its own and does no input or output. Each function is proved to give
- * the number and the value that documents 01 and 02 give; carolsedge_shelf_write, carolsedge_read_units,
+ * Link target/staticlib/libcarolsedge.a (make library writes it, for x86-64 Linux). It needs memcpy and memset,
+ * allocates nothing, keeps no memory of its own and does no input or output. Each function is proved to give the
+ * number and the value that documents 01 and 02 give; carolsedge_shelf_write, carolsedge_read_units,
  * carolsedge_read_scenes and carolsedge_verify, which are in neither, those that docs/RULE.md gives (25, clause 6; 15;
  * 30).
  *

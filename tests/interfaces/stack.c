@@ -260,8 +260,8 @@ static void measure_busiest(void)
     }
 }
 
-/* Puts the rows of RTP into one order of arrival: falling, rising, up and down, each odd step through them, shuffled.
- * The library's sort calls itself on parts, which are what the order makes them. */
+/* Puts the rows of RTP into one order of arrival: falling, rising, up and down, each odd step through them, and from
+ * STEPPED on shuffled. The library's sort calls itself on parts, which are what the order makes them. */
 static void order_rows(int order)
 {
     static uint32_t random = 1;
